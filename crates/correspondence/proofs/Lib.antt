@@ -1,0 +1,4 @@
+pub mod Corresponds
+pub mod Always
+pub mod OneEnd
+pub mod Continues

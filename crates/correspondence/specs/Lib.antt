@@ -1,0 +1,4 @@
+pub mod Outcome
+pub mod Bound
+pub mod Corresponds
+pub mod OneEnd
