@@ -1,0 +1,4 @@
+pub mod Memory
+pub mod Tags
+pub mod TypedHeap
+pub mod Heap

@@ -1,0 +1,2 @@
+//! Memory of bytes with tags, typed heaps, and what reads and writes mean on either.
+#![tactic(auto)]

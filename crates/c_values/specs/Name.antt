@@ -1,0 +1,17 @@
+-- Names, as lists of bytes.
+use Rattle.std.specs.Prelude.{ℕ, Bool, false, List, [], ◌∷◌, ◌||◌, if◌then◌else◌}
+use Rattle.std.specs.Str.{bytes_eq}
+
+abbrev pub Name : Type 0
+Name = List ℕ
+
+abbrev pub same_name : Name → Name → Bool
+same_name = bytes_eq
+
+-- a table from names with one entry changed
+abbrev pub with_name : {A : Type 0} → Name → A → (Name → A) → Name → A
+with_name x v table y = if same_name x y then v else table y
+
+abbrev pub is_among : Name → List Name → Bool
+is_among x [] = false
+is_among x (y ∷ ys) = same_name x y || is_among x ys

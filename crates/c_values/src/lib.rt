@@ -1,0 +1,2 @@
+//! Values, types and layouts of the C subset: what words, numbers, types, structs and their places in memory are.
+#![tactic(auto)]
