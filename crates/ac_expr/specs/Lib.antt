@@ -1,0 +1,6 @@
+pub mod Expression
+pub mod Sort
+pub mod Evaluation
+pub mod Fact
+pub mod Form
+pub mod View

@@ -1,0 +1,2 @@
+//! Expressions over words, numbers, truth values and either heap: sorts, values and facts.
+#![tactic(auto)]
