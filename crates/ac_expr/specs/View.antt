@@ -1,5 +1,7 @@
 -- The view of a value at a kind: a word as itself, or by its unsigned or its signed value.
 use Rattle.std.specs.Prelude.{◌≡◌, ℕ, ◌^◌, List, [], ◌∷◌, true, false}
+use Rattle.correspondence.specs.Outcome.{Ends, any, done, Then}
+use Rattle.c_values.specs.Choice.{Choice, Any, Fill, picked}
 use Rattle.c_values.specs.Word.{Word, IsWord, unsigned, signed}
 use Rattle.c_values.specs.Number.{is_between, least, greatest}
 use Rattle.c_values.specs.Value.{Value, Bits, Number, Truth, Parts, word_in}
@@ -28,3 +30,29 @@ AreOfKinds [] [] = Unit {0}
 AreOfKinds (k ∷ ks) (v ∷ vs) = IsOfKind k v × AreOfKinds ks vs
 AreOfKinds [] (v ∷ vs) = ⊥
 AreOfKinds (k ∷ ks) [] = ⊥
+
+abbrev pub IsTruth : Value → Type 0
+IsTruth (Truth b) = Unit {0}
+IsTruth _ = ⊥
+
+-- any value of a kind, or that of the fill number's word; of the truth values `#f`
+abbrev pub picked_at : {F : Type 0} → Choice → Kind → Ends Value F
+picked_at p (WordKind n) = Then (picked p n) (λ w. done (view_at (WordKind n) (Bits w)))
+picked_at p (NatKind n) = Then (picked p n) (λ w. done (view_at (NatKind n) (Bits w)))
+picked_at p (IntKind n) = Then (picked p n) (λ w. done (view_at (IntKind n) (Bits w)))
+picked_at Any BoolKind = any IsTruth
+picked_at (Fill n) BoolKind = done (Truth false)
+
+-- the same before words become numbers: the word itself, whatever the kind says of it
+abbrev pub picked_word_at : {F : Type 0} → Choice → Kind → Ends Value F
+picked_word_at p (WordKind n) = picked_at p (WordKind n)
+picked_word_at p (NatKind n) = picked_at p (WordKind n)
+picked_word_at p (IntKind n) = picked_at p (WordKind n)
+picked_word_at p BoolKind = picked_at p BoolKind
+
+-- the word or the truth value that is all zeros
+abbrev pub zero_word_at : Kind → Value
+zero_word_at (WordKind n) = Bits (record { width = n; bits = 0 })
+zero_word_at (NatKind n) = Bits (record { width = n; bits = 0 })
+zero_word_at (IntKind n) = Bits (record { width = n; bits = 0 })
+zero_word_at BoolKind = Truth false

@@ -3,6 +3,7 @@
 -- is rounded up to that.
 use Rattle.std.specs.Prelude.{◌≡◌, ℕ, ◌+◌, ◌-◌, ◌*◌, ◌/◌, ◌^◌, max, nat_lt, nat_le, Bool, true, false, not, ◌&&◌, List, [], ◌∷◌, Option, Some, None, if◌then◌else◌}
 use Rattle.c_values.specs.Name.{Name, same_name, with_name, is_among}
+use Rattle.c_values.specs.Value.{Value}
 use Rattle.c_values.specs.Types.{Target, CType, Integer, Void, Ptr, Struct, Array, width_of, address_width}
 
 pub record Member : Type 0 where
@@ -161,3 +162,14 @@ are_small t structs (d ∷ ds) =
 pub record IsLayout (l : Layout) : Type 0 where
   pub built : are_built l.target (λ x. Incomplete) [] l.structs ≡ true
   pub small : are_small l.target (λ x. Incomplete) l.structs ≡ true
+
+-- a global, with the value that it begins with
+pub record GlobalVar : Type 0 where
+  pub name : Name
+  pub type : CType
+  pub initial : Value
+
+-- the type of a global, where there is one of the name
+abbrev pub global_type : List GlobalVar → Name → Option CType
+global_type [] x = None
+global_type (v ∷ vs) x = if same_name v.name x then Some v.type else global_type vs x

@@ -1,0 +1,7 @@
+pub mod Program
+pub mod Run
+pub mod Reach
+pub mod Sorted
+pub mod Names
+pub mod Form
+pub mod Steady

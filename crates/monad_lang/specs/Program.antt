@@ -1,0 +1,70 @@
+-- Monadic programs as plain trees: the nondeterministic state monad with failure of AutoCorres, with values, memory and globals.
+use Rattle.std.specs.Prelude.{ℕ, List, [], ◌∷◌, Option, Some, None, if◌then◌else◌}
+use Rattle.c_values.specs.Name.{Name, same_name}
+use Rattle.c_values.specs.Types.{CType}
+use Rattle.c_values.specs.Layout.{Layout, GlobalVar}
+use Rattle.ac_expr.specs.Expression.{Exp, Path}
+use Rattle.ac_expr.specs.Sort.{Level, Kind}
+
+-- what is written: bytes, a typed heap, or a global
+pub data Place : Type 0 where
+  Stored : CType → Exp → Path → Place
+  Written : CType → Exp → Path → Place
+  Global : Name → Path → Place
+
+-- a name and the expression that it begins with
+pub record Start : Type 0 where
+  pub name : Name
+  pub exp : Exp
+
+pub data Mon : Type 0 where
+  -- gives the values
+  Ret : List Exp → Mon
+  -- the first, its values under these names, and then the second
+  Bind : Mon → List Name → Mon → Mon
+  -- fails where the expression is false
+  Guard : Exp → Mon
+  If : Exp → Mon → Mon → Mon
+  Write : Place → Exp → Mon
+  -- names with their start expressions, a guard and a test before each turn, and a body that gives the next values
+  Loop : List Start → Exp → Exp → Mon → Mon
+  Call : Name → List Exp → Mon
+  -- any value of the kind
+  Pick : Kind → Mon
+
+-- a name with its kind
+pub record Binder : Type 0 where
+  pub name : Name
+  pub kind : Kind
+
+-- what a function takes and gives
+pub record Signature : Type 0 where
+  pub name : Name
+  pub level : Level
+  pub params : List Binder
+  pub result : Option Kind
+
+pub record FinalFn : Type 0 where
+  pub name : Name
+  pub level : Level
+  pub params : List Binder
+  pub results : List Kind
+  pub body : Mon
+
+pub record FinalUnit : Type 0 where
+  pub layout : Layout
+  pub globals : List GlobalVar
+  pub functions : List FinalFn
+
+abbrev pub names_of : List Binder → List Name
+names_of [] = []
+names_of (b ∷ bs) = b.name ∷ names_of bs
+
+abbrev pub kinds_of : List Binder → List Kind
+kinds_of [] = []
+kinds_of (b ∷ bs) = b.kind ∷ kinds_of bs
+
+-- the first function of a name
+abbrev pub final_fn : List FinalFn → Name → Option FinalFn
+final_fn [] x = None
+final_fn (f ∷ fs) x = if same_name f.name x then Some f else final_fn fs x
