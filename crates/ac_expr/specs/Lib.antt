@@ -4,3 +4,5 @@ pub mod Evaluation
 pub mod Fact
 pub mod Form
 pub mod View
+pub mod Signature
+pub mod Sorted

@@ -5,6 +5,7 @@ use Rattle.c_values.specs.Types.{CType}
 use Rattle.c_values.specs.Layout.{Layout, GlobalVar}
 use Rattle.ac_expr.specs.Expression.{Exp, Path}
 use Rattle.ac_expr.specs.Sort.{Level, Kind}
+use Rattle.ac_expr.specs.Signature.{Binder}
 
 -- what is written: bytes, a typed heap, or a global
 pub data Place : Type 0 where
@@ -32,18 +33,6 @@ pub data Mon : Type 0 where
   -- any value of the kind
   Pick : Kind → Mon
 
--- a name with its kind
-pub record Binder : Type 0 where
-  pub name : Name
-  pub kind : Kind
-
--- what a function takes and gives
-pub record Signature : Type 0 where
-  pub name : Name
-  pub level : Level
-  pub params : List Binder
-  pub result : Option Kind
-
 pub record FinalFn : Type 0 where
   pub name : Name
   pub level : Level
@@ -55,14 +44,6 @@ pub record FinalUnit : Type 0 where
   pub layout : Layout
   pub globals : List GlobalVar
   pub functions : List FinalFn
-
-abbrev pub names_of : List Binder → List Name
-names_of [] = []
-names_of (b ∷ bs) = b.name ∷ names_of bs
-
-abbrev pub kinds_of : List Binder → List Kind
-kinds_of [] = []
-kinds_of (b ∷ bs) = b.kind ∷ kinds_of bs
 
 -- the first function of a name
 abbrev pub final_fn : List FinalFn → Name → Option FinalFn

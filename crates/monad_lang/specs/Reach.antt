@@ -6,7 +6,8 @@ use Rattle.c_values.specs.Choice.{Choice}
 use Rattle.ac_expr.specs.Expression.{Exp}
 use Rattle.ac_expr.specs.Evaluation.{Env, State, holds}
 use Rattle.monad_lang.specs.Program.{Mon, Ret, Bind, Guard, If, Write, Loop, Call, Pick}
-use Rattle.monad_lang.specs.Run.{Answer, Runs, runs, bound, start_names, start_values}
+use Rattle.ac_expr.specs.Signature.{bound}
+use Rattle.monad_lang.specs.Run.{Answer, Runs, runs, start_names, start_values}
 
 -- a turn is made from here: the loop's guard and test hold
 abbrev pub IsTurn : Layout → Exp → Exp → Env → State → Type 0

@@ -12,17 +12,12 @@ use Rattle.c_memory.specs.Heap.{write_heap}
 use Rattle.ac_expr.specs.Expression.{Exp}
 use Rattle.ac_expr.specs.Evaluation.{Env, State, value, steps, holds}
 use Rattle.ac_expr.specs.View.{picked_at}
-use Rattle.monad_lang.specs.Program.{Place, Stored, Written, Global, Start, Mon, Ret, Bind, Guard, If, Write, Loop, Call, Pick, FinalFn, FinalUnit, final_fn, names_of}
+use Rattle.ac_expr.specs.Signature.{Invocation, names_of, values_of, bound, no_env}
+use Rattle.monad_lang.specs.Program.{Place, Stored, Written, Global, Start, Mon, Ret, Bind, Guard, If, Write, Loop, Call, Pick, FinalFn, FinalUnit, final_fn}
 
 -- what a program gives: its values and the state after it
 pub record Answer : Type 0 where
   pub values : List Value
-  pub state : State
-
--- a call of a function of the unit
-pub record Invocation : Type 0 where
-  pub name : Name
-  pub arguments : List Value
   pub state : State
 
 -- a program fails or it doesn't
@@ -31,15 +26,6 @@ Failure = Unit {0}
 
 abbrev pub Runs : Type 1
 Runs = Functions Invocation Answer Failure
-
-abbrev pub values_of : Layout → Env → State → List Exp → List Value
-values_of l env s [] = []
-values_of l env s (e ∷ es) = value l env s e ∷ values_of l env s es
-
--- the values under the names
-abbrev pub bound : List Name → List Value → Env → Env
-bound (x ∷ xs) (v ∷ vs) env = bound xs vs (with_name x v env)
-bound _ _ env = env
 
 abbrev pub start_names : List Start → List Name
 start_names [] = []
@@ -73,10 +59,6 @@ runs l p (Loop starts guard test m) env depth fs s =
     fs (record { values = start_values l env s starts; state = s })
 runs l p (Call f es) env depth fs s = called fs depth (record { name = f; arguments = values_of l env s es; state = s })
 runs l p (Pick k) env depth fs s = Then (picked_at p k) (λ v. done (record { values = v ∷ []; state = s }))
-
--- no name has a value
-abbrev pub no_env : Env
-no_env x = nothing
 
 -- A function's body runs with its parameters alone. What isn't in the unit has no body: no well-formed unit calls it.
 abbrev pub function_runs : Layout → Choice → Option FinalFn → Option ℕ → List Runs → Invocation → Ends Answer Failure

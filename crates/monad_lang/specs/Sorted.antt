@@ -1,12 +1,12 @@
 -- Which programs are well-sorted, and which units are well-formed.
-use Rattle.std.specs.Prelude.{◌≡◌, ℕ, ◌==◌, length, Bool, true, false, not, ◌&&◌, ◌||◌, List, [], ◌∷◌, map, Option, Some, None, if◌then◌else◌}
-use Rattle.c_values.specs.Name.{Name, same_name, with_name, is_among}
-use Rattle.c_values.specs.Types.{CType, address_width}
-use Rattle.c_values.specs.Layout.{Layout, IsLayout, GlobalVar, Shape, global_type, is_object, shape_of}
-use Rattle.ac_expr.specs.Expression.{Exp, Path}
-use Rattle.ac_expr.specs.Sort.{Scalar, Sort, Of, PartsSort, Kind, Scope, sort_of, shape_along, sort_at, same_scalar, same_sort, is_truth, is_word_of, sort_of_kind}
-use Rattle.ac_expr.specs.Form.{has, path_has, is_part_of_value}
-use Rattle.monad_lang.specs.Program.{Place, Stored, Written, Global, Start, Mon, Ret, Bind, Guard, If, Write, Loop, Call, Pick, Binder, Signature, FinalFn, FinalUnit, names_of, kinds_of}
+use Rattle.std.specs.Prelude.{◌≡◌, ◌==◌, length, Bool, true, false, ◌&&◌, List, [], ◌∷◌, map, Option, Some, None}
+use Rattle.c_values.specs.Name.{Name}
+use Rattle.c_values.specs.Layout.{IsLayout, global_type}
+use Rattle.ac_expr.specs.Expression.{Exp}
+use Rattle.ac_expr.specs.Sort.{Scalar, Sort, Kind, Scope, is_truth, sort_of_kind}
+use Rattle.ac_expr.specs.Signature.{Signature, names_of, kinds_of, signature}
+use Rattle.ac_expr.specs.Sorted.{are_distinct, scope_with, program_sort, scalar_in, with_scalar, scalars_of, same_scalars, typed_place, global_place, fits_place, call_scalars}
+use Rattle.monad_lang.specs.Program.{Place, Stored, Written, Global, Start, Mon, Ret, Bind, Guard, If, Write, Loop, Call, Pick, FinalFn, FinalUnit}
 use Rattle.monad_lang.specs.Run.{start_names}
 
 -- what is in scope, the functions that may be called, and the sort that a kind's names have in the program's phase
@@ -15,77 +15,22 @@ pub record Setting : Type 0 where
   pub functions : List Signature
   pub sort_for : Kind → Scalar
 
-abbrev pub signature : List Signature → Name → Option Signature
-signature [] x = None
-signature (f ∷ fs) x = if same_name f.name x then Some f else signature fs x
-
-abbrev pub are_distinct : List Name → Bool
-are_distinct [] = true
-are_distinct (x ∷ xs) = not (is_among x xs) && are_distinct xs
-
-abbrev pub names_with : List Name → List Scalar → (Name → Option Scalar) → Name → Option Scalar
-names_with (x ∷ xs) (s ∷ ss) names = names_with xs ss (with_name x (Some s) names)
-names_with _ _ names = names
-
-abbrev pub scope_with : List Name → List Scalar → Scope → Scope
-scope_with xs ss g = record { layout = g.layout; names = names_with xs ss g.names; globals = g.globals }
-
 abbrev pub setting_with : List Name → List Scalar → Setting → Setting
 setting_with xs ss t = record { scope = scope_with xs ss t.scope; functions = t.functions; sort_for = t.sort_for }
-
--- an expression of a program: no `sel` and no `upd`
-abbrev pub program_sort : Scope → Exp → Option Sort
-program_sort g e = if has is_part_of_value e then None else sort_of g e
-
-abbrev pub scalar_in : Option Sort → Option Scalar
-scalar_in (Some (Of s)) = Some s
-scalar_in (Some (PartsSort t)) = None
-scalar_in None = None
-
-abbrev pub with_scalar : Option Scalar → Option (List Scalar) → Option (List Scalar)
-with_scalar (Some s) (Some ss) = Some (s ∷ ss)
-with_scalar _ _ = None
-
--- the scalars of expressions
-abbrev pub scalars_of : Scope → List Exp → Option (List Scalar)
-scalars_of g [] = Some []
-scalars_of g (e ∷ es) = with_scalar (scalar_in (program_sort g e)) (scalars_of g es)
 
 abbrev pub start_scalars : Scope → List Start → Option (List Scalar)
 start_scalars g [] = Some []
 start_scalars g (x ∷ xs) = with_scalar (scalar_in (program_sort g x.exp)) (start_scalars g xs)
 
-abbrev pub same_scalars : List Scalar → List Scalar → Bool
-same_scalars [] [] = true
-same_scalars (a ∷ as') (b ∷ bs) = same_scalar a b && same_scalars as' bs
-same_scalars _ _ = false
-
 abbrev pub are_scalars : List Scalar → Option (List Scalar) → Bool
 are_scalars ss (Some ts) = same_scalars ss ts
 are_scalars ss None = false
-
-abbrev pub sort_in : Option Shape → Option Sort
-sort_in None = None
-sort_in (Some s) = sort_at s
-
-abbrev pub typed_place : Scope → CType → Exp → Path → Option Sort
-typed_place g t p path =
-    if is_object g.layout t && is_word_of (address_width g.layout.target) (program_sort g p) && not (path_has is_part_of_value path)
-    then sort_in (shape_along g path (shape_of g.layout t)) else None
-
-abbrev pub global_place : Scope → Option CType → Path → Option Sort
-global_place g None path = None
-global_place g (Some t) path = if path_has is_part_of_value path then None else sort_in (shape_along g path (shape_of g.layout t))
 
 -- the sort of what is written at a place
 abbrev pub place_sort : Scope → Place → Option Sort
 place_sort g (Stored t p path) = typed_place g t p path
 place_sort g (Written t p path) = typed_place g t p path
 place_sort g (Global x path) = global_place g (g.globals x) path
-
-abbrev pub fits_place : Option Sort → Option Sort → Bool
-fits_place (Some s) (Some t) = same_sort s t
-fits_place _ _ = false
 
 abbrev pub where_fits : Bool → Option (List Scalar) → Option (List Scalar)
 where_fits true ss = ss
@@ -94,14 +39,6 @@ where_fits false ss = None
 abbrev pub and_then_scalars : Option (List Scalar) → (List Scalar → Option (List Scalar)) → Option (List Scalar)
 and_then_scalars None f = None
 and_then_scalars (Some ss) f = f ss
-
-abbrev pub result_scalars : (Kind → Scalar) → Option Kind → List Scalar
-result_scalars f None = []
-result_scalars f (Some k) = f k ∷ []
-
-abbrev pub call_scalars : (Kind → Scalar) → Option Signature → Option (List Scalar) → Option (List Scalar)
-call_scalars f (Some s) (Some ss) = if same_scalars (map f (kinds_of s.params)) ss then Some (result_scalars f s.result) else None
-call_scalars f _ _ = None
 
 abbrev pub one_for_each : List Name → List Scalar → Bool
 one_for_each xs ss = length xs == length ss

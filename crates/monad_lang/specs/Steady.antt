@@ -10,9 +10,10 @@ use Rattle.c_memory.specs.Memory.{Memory}
 use Rattle.c_memory.specs.TypedHeap.{TypedHeap, view}
 use Rattle.c_memory.specs.Heap.{Heap, OnBytes, OnTypes, is_tagged}
 use Rattle.ac_expr.specs.Evaluation.{Env, State, value, steps}
+use Rattle.ac_expr.specs.Signature.{kinds_of, values_of}
 use Rattle.ac_expr.specs.View.{AreOfKinds}
-use Rattle.monad_lang.specs.Program.{Place, Stored, Written, Global, Mon, Write, Call, FinalFn, FinalUnit, final_fn, kinds_of}
-use Rattle.monad_lang.specs.Run.{Answer, Failure, Runs, runs, values_of}
+use Rattle.monad_lang.specs.Program.{Place, Stored, Written, Global, Mon, Write, Call, FinalFn, FinalUnit, final_fn}
+use Rattle.monad_lang.specs.Run.{Answer, Failure, Runs, runs}
 use Rattle.monad_lang.specs.Reach.{AtEach}
 
 -- the arguments are values of the called function's kinds

@@ -1,0 +1,64 @@
+-- Simpl commands as plain trees (Schirmer, Verification of Sequential Imperative Programs in Isabelle/HOL), cut to the
+-- commands that generation makes.
+use Rattle.std.specs.Prelude.{ℕ, List, [], ◌∷◌, Option, Some, None, if◌then◌else◌}
+use Rattle.c_values.specs.Name.{Name, same_name}
+use Rattle.c_values.specs.Types.{CType}
+use Rattle.c_values.specs.Layout.{Layout, GlobalVar}
+use Rattle.ac_expr.specs.Expression.{Exp, Path}
+use Rattle.ac_expr.specs.Sort.{Level, Kind}
+use Rattle.ac_expr.specs.Signature.{Binder, Signature}
+
+-- why a guard stands where it does; the last two are watched by a function's level alone
+pub data GuardKind : Type 0 where
+  Div : GuardKind
+  Signed : GuardKind
+  Shift : GuardKind
+  Pointer : GuardKind
+  Bounds : GuardKind
+  Unreached : GuardKind
+  Tag : GuardKind
+  Wrap : GuardKind
+
+-- a condition that has to hold, and what it is about
+pub record Condition : Type 0 where
+  pub kind : GuardKind
+  pub exp : Exp
+
+pub data Simpl : Type 0 where
+  Skip : Simpl
+  Throw : Simpl
+  Set : Name → Exp → Simpl
+  SetGlobal : Name → Path → Exp → Simpl
+  Store : CType → Exp → Path → Exp → Simpl
+  -- the local takes any value of its sort
+  Pick : Name → Simpl
+  Seq : Simpl → Simpl → Simpl
+  Cond : Exp → Simpl → Simpl → Simpl
+  Guard : Condition → Simpl → Simpl
+  Catch : Simpl → Simpl → Simpl
+  -- the conditions, in order, before each test
+  While : List Condition → Exp → Simpl → Simpl
+  -- where the result goes, the function, and its arguments
+  Call : Option Name → Name → List Exp → Simpl
+
+pub record SimplFn : Type 0 where
+  pub name : Name
+  -- the parameters first
+  pub locals : List Binder
+  pub level : Level
+  pub body : Simpl
+
+pub record SimplUnit : Type 0 where
+  pub layout : Layout
+  pub globals : List GlobalVar
+  pub functions : List SimplFn
+  -- one for each function, in the same order
+  pub signatures : List Signature
+
+abbrev pub simpl_fn : List SimplFn → Name → Option SimplFn
+simpl_fn [] x = None
+simpl_fn (f ∷ fs) x = if same_name f.name x then Some f else simpl_fn fs x
+
+abbrev pub kind_of : List Binder → Name → Option Kind
+kind_of [] x = None
+kind_of (b ∷ bs) x = if same_name b.name x then Some b.kind else kind_of bs x

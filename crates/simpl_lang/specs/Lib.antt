@@ -1,0 +1,4 @@
+pub mod Command
+pub mod Exec
+pub mod Sorted
+pub mod Form
