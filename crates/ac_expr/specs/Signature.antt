@@ -49,4 +49,3 @@ bound _ _ env = env
 -- no name has a value
 abbrev pub no_env : Env
 no_env x = nothing
-

@@ -66,4 +66,3 @@ result_scalars f (Some k) = f k ∷ []
 abbrev pub call_scalars : (Kind → Scalar) → Option Signature → Option (List Scalar) → Option (List Scalar)
 call_scalars f (Some s) (Some ss) = if same_scalars (map f (kinds_of s.params)) ss then Some (result_scalars f s.result) else None
 call_scalars f _ _ = None
-

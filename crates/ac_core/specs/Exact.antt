@@ -1,0 +1,122 @@
+-- When abstract programs are exact against C: a program fails where, and only where, the C hits what its level watches, and
+-- otherwise the C hits nothing at all and both have the same results. A bound is a number of turns and a limit of nested
+-- calls, or none.
+use Rattle.std.specs.Prelude.{◌≡◌, ℕ, ◌+◌, ◌<◌, ◌≤◌, Bool, true, false, List, [], ◌∷◌, Option, Some, None, ◌⊎◌, ◌↔◌}
+use Rattle.correspondence.specs.Outcome.{Done, Failed, Ends}
+use Rattle.c_values.specs.Name.{Name}
+use Rattle.c_values.specs.Types.{CType}
+use Rattle.c_values.specs.Value.{Value}
+use Rattle.c_values.specs.Layout.{Layout, GlobalVar, shape_of, size_of}
+use Rattle.c_values.specs.Path.{HasShape}
+use Rattle.c_values.specs.Choice.{Choice}
+use Rattle.c_memory.specs.Memory.{Tag, Memory}
+use Rattle.c_memory.specs.Tags.{IsWellTagged}
+use Rattle.c_memory.specs.TypedHeap.{view}
+use Rattle.c_memory.specs.Heap.{Heap, OnBytes, OnTypes}
+use Rattle.ac_expr.specs.Sort.{Level, Kind, is_lifted}
+use Rattle.ac_expr.specs.Evaluation.{State}
+use Rattle.ac_expr.specs.View.{view_at, views_at}
+use Rattle.ac_expr.specs.Signature.{Invocation, kinds_of}
+use Rattle.simpl_lang.specs.Command.{GuardKind}
+use Rattle.simpl_lang.specs.Exec.{Returned}
+use Rattle.monad_lang.specs.Program.{FinalUnit}
+use Rattle.monad_lang.specs.Run.{Answer, Failure, program_runs}
+use Rattle.c_types.specs.Typed.{TypedUnit, TypedFn, Variable, typed_fn}
+use Rattle.simpl_gen.specs.CRun.{c_runs, plain}
+use Rattle.simpl_gen.specs.Generate.{variables, result_kind}
+
+-- each global has a value of its type
+abbrev pub AreGlobals : Layout → List GlobalVar → (Name → Value) → Type 0
+AreGlobals l [] globals = Unit {0}
+AreGlobals l (v ∷ vs) globals = HasShape (shape_of l v.type) (globals v.name) × AreGlobals l vs globals
+
+-- the arguments are of the parameters' types
+abbrev pub AreArguments : Layout → List Variable → List Value → Type 0
+AreArguments l [] [] = Unit {0}
+AreArguments l (p ∷ ps) (v ∷ vs) = HasShape (shape_of l p.type) v × AreArguments l ps vs
+AreArguments l [] (v ∷ vs) = ⊥
+AreArguments l (p ∷ ps) [] = ⊥
+
+-- where runs of a function begin: at a bound, with a choice, from a memory, values of the globals and arguments
+pub record Begin : Type 0 where
+  pub turns : ℕ
+  pub depth : Option ℕ
+  pub choice : Choice
+  pub memory : Memory
+  pub globals : Name → Value
+  pub arguments : List Value
+
+-- a memory that is well-tagged, and values of the right types
+pub record IsBegin (u : TypedUnit) (f : TypedFn) (b : Begin) : Type 0 where
+  pub tagged : IsWellTagged u.layout b.memory
+  pub globals : AreGlobals u.layout u.globals b.globals
+  pub arguments : AreArguments u.layout f.params b.arguments
+
+abbrev pub state_of : Heap → (Name → Value) → State
+state_of h globals = record { heap = h; globals = globals }
+
+-- the C run of a function, watched by levels
+abbrev pub c_ends : TypedUnit → (Name → Level) → TypedFn → Begin → Ends Returned GuardKind
+c_ends u watch f b = c_runs u watch b.choice b.turns b.depth (record { name = f.name; arguments = b.arguments; state = state_of (OnBytes b.memory) b.globals })
+
+-- the heap of an abstract program at a level, for a memory
+abbrev pub heap_for : Layout → Bool → Memory → Heap
+heap_for l true m = OnTypes (view l m)
+heap_for l false m = OnBytes m
+
+-- the abstract program of a function, from a heap, the arguments being seen at the parameters' kinds
+abbrev pub program_ends : TypedUnit → Level → FinalUnit → TypedFn → Begin → Heap → Ends Answer Failure
+program_ends u level a f b h =
+    program_runs a b.choice b.turns b.depth (record { name = f.name; arguments = views_at (kinds_of (variables u.layout.target level f.params)) b.arguments; state = state_of h b.globals })
+
+abbrev pub Fails : Ends Answer Failure → Type 0
+Fails p = p (Failed tt)
+
+abbrev pub IsUndefined : Ends Returned GuardKind → Type 0
+IsUndefined p = (k : GuardKind) × p (Failed k)
+
+-- the values of a program that stand for a C result
+abbrev pub seen : Option Kind → Option Value → List Value
+seen (Some k) (Some v) = view_at k v ∷ []
+seen _ _ = []
+
+-- some C run returns a result of this view, with a memory of this heap, and these globals
+pub record ReturnsAs (l : Layout) (result : Option Kind) (heap : Memory → Heap) (p : Ends Returned GuardKind) (a : Answer) : Type 0 where
+  pub value : Option Value
+  pub memory : Memory
+  pub returns : p (Done (record { result = value; state = state_of (OnBytes memory) a.state.globals }))
+  pub values : a.values ≡ seen result value
+  pub heap_is : a.state.heap ≡ heap memory
+
+-- an address in the footprint of a tag
+abbrev pub InFootprint : Layout → List Tag → ℕ → Type 0
+InFootprint l [] x = ⊥
+InFootprint l (t ∷ ts) x = ((t.address ≤ x) × (x < t.address + size_of l t.type)) ⊎ InFootprint l ts x
+
+-- the tags stay, and for a function on typed heaps every byte outside of all footprints
+pub record KeepsMemory (l : Layout) (lifted : Bool) (before after : Memory) : Type 0 where
+  pub tags : after.tags ≡ before.tags
+  pub bytes : lifted ≡ true → (x : ℕ) → (InFootprint l before.tags x → ⊥) → after.bytes x ≡ before.bytes x
+
+-- what holds of the runs that begin at one place, from a heap, each memory being seen as a heap
+pub record ExactFrom (u : TypedUnit) (levels : Name → Level) (a : FinalUnit) (f : TypedFn) (b : Begin) (heap : Memory → Heap) : Type 0 where
+  -- the program fails exactly where some run of the C hits what the levels watch
+  pub fails : Fails (program_ends u (levels f.name) a f b (heap b.memory)) → IsUndefined (c_ends u levels f b)
+  pub fails_back : IsUndefined (c_ends u levels f b) → Fails (program_ends u (levels f.name) a f b (heap b.memory))
+  -- where it doesn't fail, no run of the C is undefined at all
+  pub defined : (Fails (program_ends u (levels f.name) a f b (heap b.memory)) → ⊥) → IsUndefined (c_ends u plain f b) → ⊥
+  -- where it doesn't fail, its results are the views of what runs of the C return, and no others
+  pub results : (Fails (program_ends u (levels f.name) a f b (heap b.memory)) → ⊥) → (r : Answer) → program_ends u (levels f.name) a f b (heap b.memory) (Done r) → ReturnsAs u.layout (result_kind u.layout.target (levels f.name) f.result) heap (c_ends u plain f b) r
+  pub results_back : (Fails (program_ends u (levels f.name) a f b (heap b.memory)) → ⊥) → (r : Answer) → ReturnsAs u.layout (result_kind u.layout.target (levels f.name) f.result) heap (c_ends u plain f b) r → program_ends u (levels f.name) a f b (heap b.memory) (Done r)
+  -- such a return keeps the memory's tags, and what a function on typed heaps can't reach
+  pub keeps : (Fails (program_ends u (levels f.name) a f b (heap b.memory)) → ⊥) → (r : Returned) (m : Memory) → c_ends u plain f b (Done r) → r.state.heap ≡ OnBytes m → KeepsMemory u.layout (is_lifted (levels f.name)) b.memory m
+
+-- An abstract program is exact against a C function: from the heap of its level, and, where that is a typed heap, from the
+-- bytes themselves too, so that a caller on bytes finds every byte as the C leaves it.
+pub record Exact (u : TypedUnit) (levels : Name → Level) (a : FinalUnit) (f : TypedFn) : Type 0 where
+  pub on_its_heap : (b : Begin) → IsBegin u f b → ExactFrom u levels a f b (heap_for u.layout (is_lifted (levels f.name)))
+  pub on_bytes : is_lifted (levels f.name) ≡ true → (b : Begin) → IsBegin u f b → ExactFrom u levels a f b OnBytes
+
+-- of every function of the unit
+abbrev pub IsExact : TypedUnit → (Name → Level) → FinalUnit → Type 0
+IsExact u levels a = (x : Name) (f : TypedFn) → typed_fn u.functions x ≡ Some f → Exact u levels a f

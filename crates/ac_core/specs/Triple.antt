@@ -1,0 +1,85 @@
+-- Hoare triples, of an abstract program and of the C that it stands for.
+use Rattle.std.specs.Prelude.{◌≡◌, ℕ, Bool, true, false, List, [], ◌∷◌, Option, Some, None, codes}
+use Rattle.correspondence.specs.Outcome.{Done, Failed}
+use Rattle.c_values.specs.Name.{Name, with_name}
+use Rattle.c_values.specs.Value.{Value, Bits, Number, Truth}
+use Rattle.c_values.specs.Path.{IsBits}
+use Rattle.c_values.specs.Choice.{Choice}
+use Rattle.c_values.specs.Layout.{Layout}
+use Rattle.c_memory.specs.Memory.{Memory}
+use Rattle.c_memory.specs.Heap.{Heap, OnBytes, OnTypes, IsHeap}
+use Rattle.ac_expr.specs.Expression.{Exp}
+use Rattle.ac_expr.specs.Sort.{Level, Kind, Scalar, WordSort, NumberSort, TruthSort, is_lifted}
+use Rattle.ac_expr.specs.Evaluation.{Env, State, holds}
+use Rattle.ac_expr.specs.View.{AreOfKinds, views_at}
+use Rattle.ac_expr.specs.Signature.{Invocation, bound, no_env, names_of, kinds_of}
+use Rattle.simpl_lang.specs.Exec.{Returned}
+use Rattle.monad_lang.specs.Program.{FinalUnit, FinalFn, final_fn}
+use Rattle.monad_lang.specs.Run.{Answer, program_runs}
+use Rattle.c_types.specs.Typed.{TypedUnit, TypedFn}
+use Rattle.simpl_gen.specs.CRun.{plain}
+use Rattle.simpl_gen.specs.Generate.{variables, result_kind}
+use Rattle.ac_core.specs.Exact.{AreGlobals, Begin, IsBegin, state_of, heap_for, c_ends, seen, IsUndefined}
+
+-- a variable that stands for the same value before and after
+pub record Logical : Type 0 where
+  pub name : Name
+  pub sort : Scalar
+
+pub record Assertions : Type 0 where
+  pub function : Name
+  pub logicals : List Logical
+  pub before : Exp
+  pub after : Exp
+
+abbrev pub IsOfSort : Scalar → Value → Type 0
+IsOfSort (WordSort n) v = IsBits n v
+IsOfSort NumberSort (Number n) = Unit {0}
+IsOfSort TruthSort (Truth b) = Unit {0}
+IsOfSort _ _ = ⊥
+
+abbrev pub AreLogicals : List Logical → List Value → Type 0
+AreLogicals [] [] = Unit {0}
+AreLogicals (x ∷ xs) (v ∷ vs) = IsOfSort x.sort v × AreLogicals xs vs
+AreLogicals [] (v ∷ vs) = ⊥
+AreLogicals (x ∷ xs) [] = ⊥
+
+abbrev pub logical_names : List Logical → List Name
+logical_names [] = []
+logical_names (x ∷ xs) = x.name ∷ logical_names xs
+
+-- the name that a result has in an assertion
+abbrev pub result_name : Name
+result_name = codes "result"
+
+-- the precondition of parameters, logical values and a state
+abbrev pub MeetsBefore : Layout → Assertions → List Name → List Value → List Value → State → Type 0
+MeetsBefore l t params arguments logicals s = holds l (bound params arguments (bound (logical_names t.logicals) logicals no_env)) s t.before ≡ true
+
+-- the postcondition of a result, logical values and a state
+abbrev pub MeetsAfter : Layout → Assertions → List Value → List Value → State → Type 0
+MeetsAfter l t results logicals s = holds l (bound (result_name ∷ []) results (bound (logical_names t.logicals) logicals no_env)) s t.after ≡ true
+
+-- the heap that a function at a level runs on
+abbrev pub IsHeapFor : Layout → Bool → Heap → Type 0
+IsHeapFor l true (OnTypes cells) = IsHeap l (OnTypes cells)
+IsHeapFor l false (OnBytes m) = IsHeap l (OnBytes m)
+IsHeapFor l _ _ = ⊥
+
+-- at every bound and choice, from each state, logical values and arguments that meet the precondition, the program doesn't
+-- fail and each result meets the postcondition
+pub record HoldsOfProgram (a : FinalUnit) (f : FinalFn) (t : Assertions) : Type 0 where
+  pub holds_at : (turns : ℕ) (depth : Option ℕ) (p : Choice) (s : State) (logicals arguments : List Value) →
+      IsHeapFor a.layout (is_lifted f.level) s.heap → AreGlobals a.layout a.globals s.globals → AreLogicals t.logicals logicals → AreOfKinds (kinds_of f.params) arguments →
+      MeetsBefore a.layout t (names_of f.params) arguments logicals s →
+      (program_runs a p turns depth (record { name = f.name; arguments = arguments; state = s }) (Failed tt) → ⊥)
+      × ((r : Answer) → program_runs a p turns depth (record { name = f.name; arguments = arguments; state = s }) (Done r) → MeetsAfter a.layout t r.values logicals r.state)
+
+-- from each memory, globals and arguments whose views meet the precondition, no run of the C is undefined, and the view of
+-- each return meets the postcondition
+pub record HoldsOfC (u : TypedUnit) (levels : Name → Level) (f : TypedFn) (t : Assertions) : Type 0 where
+  pub holds_at : (b : Begin) (logicals : List Value) → IsBegin u f b → AreLogicals t.logicals logicals →
+      MeetsBefore u.layout t (names_of (variables u.layout.target (levels f.name) f.params)) (views_at (kinds_of (variables u.layout.target (levels f.name) f.params)) b.arguments) logicals (state_of (heap_for u.layout (is_lifted (levels f.name)) b.memory) b.globals) →
+      (IsUndefined (c_ends u plain f b) → ⊥)
+      × ((r : Returned) (m : Memory) → c_ends u plain f b (Done r) → r.state.heap ≡ OnBytes m →
+      MeetsAfter u.layout t (seen (result_kind u.layout.target (levels f.name) f.result) r.result) logicals (state_of (heap_for u.layout (is_lifted (levels f.name)) m) r.state.globals))

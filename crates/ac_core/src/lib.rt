@@ -1,0 +1,2 @@
+//! From C text to programs that are proved exact.
+#![tactic(auto)]

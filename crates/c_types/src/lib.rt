@@ -1,0 +1,2 @@
+//! Typed C units: each expression has its type, and each conversion stands where it is made.
+#![tactic(auto)]

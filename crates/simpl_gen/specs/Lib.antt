@@ -1,0 +1,5 @@
+pub mod CValue
+pub mod CRun
+pub mod Levels
+pub mod Guards
+pub mod Generate
