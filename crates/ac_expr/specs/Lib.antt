@@ -6,3 +6,4 @@ pub mod Form
 pub mod View
 pub mod Signature
 pub mod Sorted
+pub mod Code

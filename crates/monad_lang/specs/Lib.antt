@@ -5,3 +5,4 @@ pub mod Sorted
 pub mod Names
 pub mod Form
 pub mod Steady
+pub mod Code
