@@ -1,2 +1,5 @@
 pub mod Exact
 pub mod Triple
+pub mod ProgramText
+pub mod Words
+pub mod Code

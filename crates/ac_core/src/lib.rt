@@ -1,2 +1,4 @@
 //! From C text to programs that are proved exact.
 #![tactic(auto)]
+
+mod program_text;

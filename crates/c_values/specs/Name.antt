@@ -1,5 +1,6 @@
 -- Names, as lists of bytes.
 use Rattle.std.specs.Prelude.{ℕ, Bool, false, List, [], ◌∷◌, ◌||◌, if◌then◌else◌}
+use Rattle.std.specs.List.{list_any}
 use Rattle.std.specs.Str.{bytes_eq}
 
 abbrev pub Name : Type 0
@@ -13,5 +14,4 @@ abbrev pub with_name : {A : Type 0} → Name → A → (Name → A) → Name →
 with_name x v table y = if same_name x y then v else table y
 
 abbrev pub is_among : Name → List Name → Bool
-is_among x [] = false
-is_among x (y ∷ ys) = same_name x y || is_among x ys
+is_among x ys = list_any (same_name x) ys

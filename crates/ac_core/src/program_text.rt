@@ -1,0 +1,243 @@
+//! The canonical text of programs, for the programs that there are so far. `specs/ProgramText` has the whole language.
+
+ghost use Rattle.std.specs.Prelude.{◌≡◌, ◌++◌, List, map, pos, codes, string_bytes, OnOk, IfOk};
+ghost use Rattle.std.specs.Fmt.{decimal};
+ghost use Rattle.ac_expr.specs.Code.{exp_of, level_of, kind_of};
+ghost use Rattle.monad_lang.specs.Code.{mon_of, binder_of, final_fn_of};
+ghost use Rattle.ac_core.specs.ProgramText.{exp_text, spaced, row, kind_text, level_text, binder_text, program_text, then_texts, function_text, unit_text};
+ghost use Rattle.ac_core.specs.Code.{final_unit_of};
+
+use ac_expr::{Exp, Kind, Level};
+use itoa::Buffer;
+use monad_lang::{Binder, FinalFn, FinalUnit, Mon};
+use std::alloc::{AllocError, Global};
+
+/// The canonical text of a unit's programs: one line.
+#[tactic(auto, using(crate::proofs::Spaced::spaced_more_seen))]
+pub(crate) fn write_program(alloc: Global, unit: &FinalUnit) -> Result<Vec<u8>, AllocError>
+    ensures { IfOk result (λ text. text.items ≡ unit_text (final_unit_of unit.now)) }
+{
+    let mut out = Vec::new(alloc);
+    push(&mut out, "(program")?;
+    for function in &unit.functions {
+        push(&mut out, " ")?;
+        push_function(&mut out, function)?;
+    }
+    push(&mut out, ")\n")?;
+    Ok(out)
+}
+
+fn push_function(out: &mut Vec<u8>, function: &FinalFn) -> Result<(), AllocError>
+    ensures { OnOk result (out.new.items ≡ out.old.items ++ function_text (final_fn_of function.now)) }
+{
+    push(out, "(")?;
+    push(out, &function.name)?;
+    push(out, " ")?;
+    push_level(out, function.level)?;
+    push(out, " ")?;
+    push_binders(out, &function.params)?;
+    push(out, " ")?;
+    push_kinds(out, &function.results)?;
+    push(out, " ")?;
+    push_program(out, &function.body)?;
+    push(out, ")")
+}
+
+fn push_level(out: &mut Vec<u8>, level: Level) -> Result<(), AllocError>
+    ensures { OnOk result (out.new.items ≡ out.old.items ++ level_text (level_of level)) }
+{
+    match level {
+        Level::Bytes => push(out, "bytes"),
+        Level::Words => push(out, "words"),
+        Level::Numbers => push(out, "numbers"),
+    }
+}
+
+fn push_binders(out: &mut Vec<u8>, binders: &[Binder]) -> Result<(), AllocError>
+    ensures { OnOk result (out.new.items ≡ out.old.items ++ row (map binder_text (map binder_of binders.now))) }
+{
+    let Some((first, rest)) = binders.split_first() else {
+        return push(out, "()");
+    };
+    push(out, "(")?;
+    push_binder(out, first)?;
+    push_more_binders(out, rest)?;
+    push(out, ")")
+}
+
+// Each after a space.
+#[tactic(auto, using(crate::proofs::Spaced::spaced_more_seen))]
+fn push_more_binders(out: &mut Vec<u8>, binders: &[Binder]) -> Result<(), AllocError>
+    ensures { OnOk result (out.new.items ≡ out.old.items ++ spaced (map binder_text (map binder_of binders.now))) }
+{
+    for binder in binders {
+        push(out, " ")?;
+        push_binder(out, binder)?;
+    }
+    Ok(())
+}
+
+fn push_binder(out: &mut Vec<u8>, binder: &Binder) -> Result<(), AllocError>
+    ensures { OnOk result (out.new.items ≡ out.old.items ++ binder_text (binder_of binder.now)) }
+{
+    push(out, "(")?;
+    push(out, &binder.name)?;
+    push(out, " ")?;
+    push_kind(out, binder.kind)?;
+    push(out, ")")
+}
+
+fn push_kinds(out: &mut Vec<u8>, kinds: &[Kind]) -> Result<(), AllocError>
+    ensures { OnOk result (out.new.items ≡ out.old.items ++ row (map kind_text (map kind_of kinds.now))) }
+{
+    let Some((first, rest)) = kinds.split_first() else {
+        return push(out, "()");
+    };
+    push(out, "(")?;
+    push_kind(out, *first)?;
+    push_more_kinds(out, rest)?;
+    push(out, ")")
+}
+
+// Each after a space.
+#[tactic(auto, using(crate::proofs::Spaced::spaced_more_seen))]
+fn push_more_kinds(out: &mut Vec<u8>, kinds: &[Kind]) -> Result<(), AllocError>
+    ensures { OnOk result (out.new.items ≡ out.old.items ++ spaced (map kind_text (map kind_of kinds.now))) }
+{
+    for kind in kinds {
+        push(out, " ")?;
+        push_kind(out, *kind)?;
+    }
+    Ok(())
+}
+
+fn push_kind(out: &mut Vec<u8>, kind: Kind) -> Result<(), AllocError>
+    ensures { OnOk result (out.new.items ≡ out.old.items ++ kind_text (kind_of kind)) }
+{
+    let (head, width) = match kind {
+        Kind::Word(width) => ("(w ", width),
+        Kind::Nat(width) => ("(nat ", width),
+        Kind::Int(width) => ("(int ", width),
+        Kind::Bool => return push(out, "bool"),
+    };
+    push(out, head)?;
+    push_number(out, u64::from(width))?;
+    push(out, ")")
+}
+
+// A sequence of binds is one list.
+#[cycle(programs)]
+fn push_program(out: &mut Vec<u8>, program: &Mon) -> Result<(), AllocError>
+    ensures { OnOk result (out.new.items ≡ out.old.items ++ program_text (mon_of program.now)) }
+{
+    match program {
+        Mon::Bind(first, names, rest) => {
+            push(out, "(do ")?;
+            push_names(out, names)?;
+            push(out, " ")?;
+            push_program(out, first)?;
+            push_rest(out, rest)?;
+            push(out, ")")
+        }
+        Mon::Ret(values) => {
+            push(out, "(ret")?;
+            push_values(out, values)?;
+            push(out, ")")
+        }
+        Mon::Guard(condition) => {
+            push(out, "(guard ")?;
+            push_exp(out, condition)?;
+            push(out, ")")
+        }
+    }
+}
+
+// The texts of a sequence, each after a space.
+#[cycle(programs)]
+fn push_rest(out: &mut Vec<u8>, program: &Mon) -> Result<(), AllocError>
+    ensures { OnOk result (out.new.items ≡ out.old.items ++ spaced (then_texts (mon_of program.now))) }
+{
+    push(out, " ")?;
+    match program {
+        Mon::Bind(first, names, rest) => {
+            push_names(out, names)?;
+            push(out, " ")?;
+            push_program(out, first)?;
+            push_rest(out, rest)
+        }
+        other => push_program(out, other),
+    }
+}
+
+fn push_names(out: &mut Vec<u8>, names: &[String]) -> Result<(), AllocError>
+    ensures { OnOk result (out.new.items ≡ out.old.items ++ row (map string_bytes names.now)) }
+{
+    let Some((first, rest)) = names.split_first() else {
+        return push(out, "()");
+    };
+    push(out, "(")?;
+    push(out, first)?;
+    push_more_names(out, rest)?;
+    push(out, ")")
+}
+
+// Each after a space.
+#[tactic(auto, using(crate::proofs::Spaced::spaced_more))]
+fn push_more_names(out: &mut Vec<u8>, names: &[String]) -> Result<(), AllocError>
+    ensures { OnOk result (out.new.items ≡ out.old.items ++ spaced (map string_bytes names.now)) }
+{
+    for name in names {
+        push(out, " ")?;
+        push(out, name)?;
+    }
+    Ok(())
+}
+
+// Each value after a space.
+#[tactic(auto, using(crate::proofs::Spaced::spaced_more_seen))]
+fn push_values(out: &mut Vec<u8>, values: &[Exp]) -> Result<(), AllocError>
+    ensures { OnOk result (out.new.items ≡ out.old.items ++ spaced (map exp_text (map exp_of values.now))) }
+{
+    for value in values {
+        push(out, " ")?;
+        push_exp(out, value)?;
+    }
+    Ok(())
+}
+
+fn push_exp(out: &mut Vec<u8>, exp: &Exp) -> Result<(), AllocError>
+    ensures { OnOk result (out.new.items ≡ out.old.items ++ exp_text (exp_of exp.now)) }
+{
+    match exp {
+        Exp::Var(name) => push(out, name),
+        Exp::Number(number) => push_number(out, *number),
+        Exp::Add(a, b) => {
+            push(out, "(add ")?;
+            push_exp(out, a)?;
+            push(out, " ")?;
+            push_exp(out, b)?;
+            push(out, ")")
+        }
+        Exp::Between(low, a, high) => {
+            push(out, "(between ")?;
+            push_number(out, *low)?;
+            push(out, " ")?;
+            push_exp(out, a)?;
+            push(out, " ")?;
+            push_number(out, *high)?;
+            push(out, ")")
+        }
+    }
+}
+
+fn push_number(out: &mut Vec<u8>, number: u64) -> Result<(), AllocError>
+    ensures { OnOk result (out.new.items ≡ out.old.items ++ decimal number) }
+{
+    out.extend_from_slice(Buffer::new().format(number).as_bytes())
+}
+
+fn push(out: &mut Vec<u8>, text: &str) -> Result<(), AllocError>
+    ensures { OnOk result (out.new.items ≡ out.old.items ++ text.now) }
+{
+    out.extend_from_slice(text.as_bytes())
+}
