@@ -1,10 +1,11 @@
 // Files read whole.
 ghost use Rattle.std.specs.Prelude.{◌≡◌, ◌≤◌, ℕ, List, IfOk, IsErrOf, vec_len};
+ghost use Rattle.ac_base.specs.declared.reading.ReadTrouble.TheVariants.{ReadFault, Memory};
 ghost use Rattle.ac_base.specs.Count.{Rose};
 ghost use Rattle.ac_base.specs.Shelf.{AreWhole, IsLonger};
 
 use crate::{Failed, Shelf};
-use std::alloc::Global;
+use std::alloc::{AllocError, Global};
 use thiserror::Error;
 
 /// Why a file wasn't read whole.
@@ -19,6 +20,22 @@ pub enum ReadTrouble {
     /// There is no memory for the bytes.
     #[error("out of memory")]
     Memory,
+}
+
+impl From<Failed> for ReadTrouble {
+    ghost from_gives = { λ _ trouble. trouble ≡ ReadFault };
+
+    fn from(_: Failed) -> Self {
+        ReadTrouble::ReadFault
+    }
+}
+
+impl From<AllocError> for ReadTrouble {
+    ghost from_gives = { λ _ trouble. trouble ≡ Memory };
+
+    fn from(_: AllocError) -> Self {
+        ReadTrouble::Memory
+    }
 }
 
 /// How many bytes are asked for at a time.
@@ -48,17 +65,13 @@ pub fn read_whole<H: Shelf>(
     loop {
         let len = bytes.len() as u64;
         let asked = (limit - len).min(PIECE_LEN as u64 - 1) as usize + 1;
-        let Ok(count) = shelf.read_at(name, len, &mut piece[..asked]) else {
-            return Err(ReadTrouble::ReadFault);
-        };
+        let count = shelf.read_at(name, len, &mut piece[..asked])?;
         if count == 0 {
             return Ok(bytes);
         }
         if count as u64 > limit - len {
             return Err(ReadTrouble::Limit);
         }
-        if bytes.extend_from_slice(&piece[..count]).is_err() {
-            return Err(ReadTrouble::Memory);
-        }
+        bytes.extend_from_slice(&piece[..count])?;
     }
 }
