@@ -1,5 +1,5 @@
 -- Files in memory, some of whose reads are planned to fail.
-use Rattle.std.specs.Prelude.{◌≡◌, ℕ, ◌+◌, ◌-◌, ◌==◌, min, Bool, if◌then◌else◌, List, [], ◌∷◌, length, map, Option, Some, None, is_some, Vec, String, string_bytes}
+use Rattle.std.specs.Prelude.{ℕ, ◌+◌, ◌-◌, ◌==◌, min, Bool, if◌then◌else◌, List, [], ◌∷◌, length, map, Option, Some, None, is_some, Vec, String, string_bytes}
 use Rattle.std.specs.Option.{option_map}
 use Rattle.std.specs.List.{list_any}
 use Rattle.std.specs.Str.{bytes_eq}

@@ -1,5 +1,5 @@
 -- A room in memory for what is written, some of whose writes are planned to fail.
-use Rattle.std.specs.Prelude.{◌≡◌, ℕ, ◌+◌, ◌-◌, ◌==◌, ◌||◌, nat_lt, min, Bool, if◌then◌else◌, List, [], ◌++◌, length, take, Option, Some, None, Vec}
+use Rattle.std.specs.Prelude.{ℕ, ◌-◌, ◌==◌, ◌||◌, nat_lt, min, Bool, if◌then◌else◌, List, [], ◌++◌, length, take, Option, Some, None, Vec}
 use Rattle.std.specs.List.{list_any}
 use Rattle.std.specs.declared.alloc.Global.{Global}
 use Rattle.ac_base.specs.Count.{one_more}

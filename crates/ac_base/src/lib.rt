@@ -14,3 +14,6 @@ pub use memory_sink::MemorySink;
 pub use outside::{Failed, Shelf, Sink};
 pub use reading::{ReadTrouble, read_whole};
 pub use writing::write_whole;
+
+#[cfg(test)]
+mod tests;

@@ -1,4 +1,4 @@
-use Rattle.std.proofs.Common.{rules, ℕ, length, take, arith, length-take}
+use Rattle.std.proofs.Common.{rules, ℕ, arith, length-take}
 use Rattle.ac_base.proofs.Front.{AreFront-next}
 use Rattle.ac_base.proofs.reading.read_whole.Goals as goal
 
