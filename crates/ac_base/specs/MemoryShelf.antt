@@ -1,5 +1,5 @@
 -- Files in memory, some of whose reads are planned to fail.
-use Rattle.std.specs.Prelude.{ℕ, ◌+◌, ◌-◌, ◌==◌, min, Bool, if◌then◌else◌, List, [], ◌∷◌, length, map, Option, Some, None, is_some, Vec, String, string_bytes}
+use Rattle.std.specs.Prelude.{◌≡◌, ℕ, ◌+◌, ◌-◌, ◌==◌, min, Bool, if◌then◌else◌, List, [], ◌∷◌, length, map, Option, Some, None, is_some, IsSome, Vec, String, string_bytes}
 use Rattle.std.specs.Option.{option_map}
 use Rattle.std.specs.List.{list_any}
 use Rattle.std.specs.Str.{bytes_eq}
@@ -54,3 +54,14 @@ after_read shelf name = record shelf {
   planned = if is_planned shelf then one_more shelf.planned else shelf.planned;
   missing = if is_some (told_contents shelf name) then shelf.missing else one_more shelf.missing;
 }
+
+-- it plans no failure and holds the name
+pub record IsSound (shelf : FilesInMemory) (name : List ℕ) : Type 0 where
+  pub unplanned : shelf.failing ≡ []
+  pub held : IsSome (told_contents shelf name)
+
+-- no call on the name fails, and no call on any name makes one fail or counts a fault of it
+pub record NeverFails (shelf : FilesInMemory) (name : List ℕ) : Type 0 where
+  pub gives : (at room : ℕ) → IsSome (read_count shelf name at room)
+  pub stays : (other : List ℕ) → IsSound (after_read shelf other) name
+  pub counts : (other : List ℕ) → fault_count (after_read shelf other) name ≡ fault_count shelf name

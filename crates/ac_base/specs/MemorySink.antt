@@ -1,5 +1,5 @@
 -- A room in memory for what is written, some of whose writes are planned to fail.
-use Rattle.std.specs.Prelude.{ℕ, ◌-◌, ◌==◌, ◌||◌, nat_lt, min, Bool, if◌then◌else◌, List, [], ◌++◌, length, take, Option, Some, None, Vec}
+use Rattle.std.specs.Prelude.{◌≡◌, ◌≤◌, IsSome, ℕ, ◌+◌, ◌-◌, ◌==◌, ◌||◌, nat_lt, min, Bool, if◌then◌else◌, List, [], ◌++◌, length, take, Option, Some, None, Vec}
 use Rattle.std.specs.List.{list_any}
 use Rattle.std.specs.declared.alloc.Global.{Global}
 use Rattle.ac_base.specs.Count.{one_more}
@@ -36,3 +36,14 @@ after_write sink bytes =
     if is_failing sink (length bytes)
     then (record sink { calls = one_more sink.calls; faults = one_more sink.faults })
     else (record sink { calls = one_more sink.calls; taken = sink.taken ++ take (wanted sink (length bytes)) bytes })
+
+-- it plans no failure and has room for so many bytes more
+pub record HasRoomFor (sink : RoomInMemory) (len : ℕ) : Type 0 where
+  pub unplanned : sink.failing ≡ []
+  pub room : length sink.taken + len ≤ sink.room
+
+-- a call with the bytes doesn't fail, counts no fault and leaves room for those that it didn't take
+pub record TakesUnfailing (sink : RoomInMemory) (bytes : List ℕ) : Type 0 where
+  pub takes : IsSome (write_count sink (length bytes))
+  pub counts : (after_write sink bytes).faults ≡ sink.faults
+  pub stays : HasRoomFor (after_write sink bytes) (length bytes - wanted sink (length bytes))

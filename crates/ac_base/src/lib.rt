@@ -9,8 +9,8 @@ mod outside;
 mod reading;
 mod writing;
 
-pub use memory_shelf::MemoryShelf;
-pub use memory_sink::MemorySink;
+pub use memory_shelf::{MemoryShelf, sound_shelf_never_fails};
+pub use memory_sink::{MemorySink, sink_with_room_never_fails};
 pub use outside::{Failed, Shelf, Sink};
 pub use reading::{ReadTrouble, read_whole};
 pub use writing::write_whole;

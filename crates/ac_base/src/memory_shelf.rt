@@ -1,10 +1,10 @@
 // A shelf over files in memory.
-ghost use Rattle.std.specs.Prelude.{◌≡◌, ◌<◌, ◌≤◌, ◌-◌, ◌^◌, ℕ, List, length, take, drop, min, map, IfOk, OnErr, nat_eq};
+ghost use Rattle.std.specs.Prelude.{◌≡◌, ◌<◌, ◌≤◌, ◌-◌, ◌^◌, ℕ, List, length, take, drop, min, map, IfOk, OnErr};
 ghost use Rattle.std.specs.Option.{option_copied};
 ghost use Rattle.std.specs.Result.{result_ok};
 ghost use Rattle.ac_base.specs.Count.{Rose};
 ghost use Rattle.ac_base.specs.Shelf.{AreBytesAt, EndsBy};
-ghost use Rattle.ac_base.specs.MemoryShelf.{named, fresh_shelf, file_named, told_contents, fault_count, read_count, after_read};
+ghost use Rattle.ac_base.specs.MemoryShelf.{named, fresh_shelf, FilesInMemory, IsSound, NeverFails, file_named, told_contents, fault_count, read_count, after_read};
 
 use crate::{Failed, Shelf};
 use std::marker::Model;
@@ -41,7 +41,8 @@ impl Model for MemoryShelf {
 }
 
 impl MemoryShelf {
-    /// A shelf with these files, by their names: of two with one name the first counts.
+    /// A shelf with these files, by their names: of two with one name the first counts. A call gives at most
+    /// `u64::MAX` bytes, so as many as there is room for.
     pub fn new(files: Vec<(String, Vec<u8>)>, failing: Vec<u64>) -> MemoryShelf
         ensures { result ≡ fresh_shelf files failing (2 ^ 64 - 1) }
     {
@@ -107,6 +108,11 @@ impl Shelf for MemoryShelf {
         Ok(copy_piece(file, at, self.step, into))
     }
 }
+
+/// A shelf that plans no failure never fails on a name that it holds, whatever it is called with.
+pub fn sound_shelf_never_fails()
+    ensures { (shelf : FilesInMemory) (name : List ℕ) → IsSound shelf name → NeverFails shelf name }
+{}
 
 // The first file of the name.
 fn file_named<'a>(files: &'a [(String, Vec<u8>)], name: &str) -> Option<&'a [u8]>

@@ -1,9 +1,9 @@
 // A sink over a room in memory.
-ghost use Rattle.std.specs.Prelude.{◌≡◌, ◌<◌, ◌≤◌, ◌-◌, ◌^◌, length, take, Some, IfOk, OnErr};
+ghost use Rattle.std.specs.Prelude.{◌≡◌, ◌<◌, ◌≤◌, ◌-◌, ◌^◌, ℕ, List, length, take, Some, IfOk, OnErr};
 ghost use Rattle.std.specs.Result.{result_ok};
 ghost use Rattle.ac_base.specs.Count.{Rose};
 ghost use Rattle.ac_base.specs.Sink.{grown};
-ghost use Rattle.ac_base.specs.MemorySink.{fresh_sink, write_count, after_write};
+ghost use Rattle.ac_base.specs.MemorySink.{RoomInMemory, HasRoomFor, TakesUnfailing, fresh_sink, write_count, after_write};
 
 use crate::{Failed, Sink};
 use std::alloc::{AllocError, Global};
@@ -41,7 +41,8 @@ impl Model for MemorySink {
 }
 
 impl MemorySink {
-    /// An empty sink with room for so many bytes.
+    /// An empty sink with room for so many bytes, for which it takes memory here. A call takes at most `u64::MAX`
+    /// bytes, so all that it is given.
     pub fn new(alloc: Global, room: u32, failing: Vec<u64>) -> Result<MemorySink, AllocError>
         ensures { IfOk result (λ sink. sink ≡ fresh_sink room failing (2 ^ 64 - 1)) }
     {
@@ -111,3 +112,8 @@ impl Sink for MemorySink {
         Ok(count)
     }
 }
+
+/// A sink that plans no failure doesn't fail while its room holds what it is given.
+pub fn sink_with_room_never_fails()
+    ensures { (sink : RoomInMemory) (bytes : List ℕ) → HasRoomFor sink (length bytes) → TakesUnfailing sink bytes }
+{}
