@@ -1,13 +1,9 @@
 -- What is left of some bytes, and what a sink took of them, after the next call took k.
-use Rattle.std.proofs.Common.{◌≡◌, ℕ, ◌+◌, ◌-◌, ◌≤◌, List, ◌++◌, length, take, drop, Option, Some, None, refl, sym, ap, ◌∙◌, arith}
-use Rattle.std.proofs.lemmas.List.{take_all, drop-drop, length-drop, append_assoc}
+use Rattle.std.proofs.Common.{◌≡◌, ℕ, ◌+◌, ◌-◌, ◌≤◌, List, ◌++◌, length, take, drop, Option, sym, ap, ◌∙◌, arith}
+use Rattle.std.proofs.lemmas.List.{take_all, drop-drop, length-drop}
 use Rattle.std.proofs.Math.Seq.{take-add}
 use Rattle.ac_base.specs.Sink.{grown}
-
--- grown twice is grown once
-pub grown-grown : (told : Option (List ℕ)) (a b : List ℕ) → grown (grown told a) b ≡ grown told (a ++ b)
-grown-grown None a b = refl
-grown-grown (Some before) a b = ap Some (append_assoc before a b)
+use Rattle.ac_base.proofs.Taken.{grown-grown}
 
 module _ (bytes rest : List ℕ) (k : ℕ) (within : length rest ≤ length bytes) (takes : k ≤ length rest) (is_rest : rest ≡ drop (length bytes - length rest) bytes) where
   abbrev taken : ℕ
