@@ -1,0 +1,4 @@
+pub mod Front
+pub mod Begin
+pub mod Numerals
+pub mod Operands

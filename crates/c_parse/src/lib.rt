@@ -1,0 +1,7 @@
+//! Reads C text into trees.
+#![tactic(auto)]
+
+mod lexeme;
+mod first;
+mod name;
+mod operand;
