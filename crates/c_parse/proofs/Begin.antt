@@ -1,5 +1,5 @@
 -- A text begins with at most one lexeme.
-use Rattle.std.proofs.Common.{◌≡◌, ◌≢◌, ℕ, suc, ◌+◌, ◌<◌, ◌≤◌, Bool, true, false, eqb, ◌&&◌, ◌||◌, List, [], ◌∷◌, ◌++◌, length, take, drop, sym, refl, ap, ◌∙◌, subst, arith, take-append-drop, append_assoc, Option, Some, None, IfNone}
+use Rattle.std.proofs.Common.{◌≡◌, ◌≢◌, ℕ, suc, ◌+◌, ◌<◌, ◌≤◌, Bool, true, false, eqb, ◌&&◌, ◌||◌, List, [], ◌∷◌, ◌++◌, length, take, drop, sym, refl, ap, ◌∙◌, subst, arith, take-append-drop, length-append, Option, Some, None, IfNone}
 use Rattle.std.proofs.lemmas.Bool.Decides.{nat_tests}
 use Rattle.std.proofs.lemmas.Bool.{false≢true, eqb-true}
 use Rattle.std.specs.List.{prefix_len, AllByRecursion}
@@ -40,6 +40,11 @@ begins_is {l} {m} {text} {x} {y} h k =
     let same = front_is is_space h.space (spelling l ++ x) k.space (spelling m ++ y) h.is_blank k.is_blank (stops_at_lexeme l x h.is_whole) (stops_at_lexeme m y k.is_whole) (sym h.parts ∙ k.parts) in
     whole_is l m x y h.is_whole k.is_whole same.1
 
+spelling_nonempty : (l : Lexeme) (rest : List ℕ) → IsWhole l rest → 0 < length (spelling l)
+spelling_nonempty (Word []) rest h = absurd (h.0.0 refl)
+spelling_nonempty (Word (b ∷ word)) rest h = omega arith
+spelling_nonempty (Mark mark) rest h = omega arith
+
 -- the text without its white space
 abbrev pub trimmed : List ℕ → List ℕ
 trimmed text = drop (prefix_len is_space text) text
@@ -72,9 +77,21 @@ begins_no_word text word rest e h =
     let t = trimmed text in
     h.is_whole.0.0 (sym (front_is is_word_byte (take (prefix_len is_word_byte t) t) (drop (prefix_len is_word_byte t) t) word rest (passes is_word_byte t) h.is_whole.0.1 (stops is_word_byte t) h.is_whole.1 (take-append-drop (prefix_len is_word_byte t) t ∙ trimmed_is h)).0 ∙ e)
 
-pub if_none : {T P : Type 0} (r : Option T) → P → IfNone r P
-if_none None p = p
-if_none (Some x) p = tt
+-- one word and one rest
+pub word_is : {v w text x y : List ℕ} → Begins (Word v) text x → Begins (Word w) text y → (v ≡ w) × (x ≡ y)
+word_is h k =
+    let same = begins_is h k in
+    (let e = same.0 in cc, same.1)
+
+-- a mark is not another one, and no word
+pub other_mark : {a b : ℕ} {text x y : List ℕ} → (a ≡ b → ⊥) → Begins (Mark a) text x → Begins (Mark b) text y → ⊥
+other_mark differ h k = differ (let e = (begins_is h k).0 in cc)
+
+-- a text is longer than what is left after a lexeme
+pub begins_shorter : {l : Lexeme} {text rest : List ℕ} → Begins l text rest → length rest < length text
+begins_shorter {l} {text} {rest} h =
+    let some = spelling_nonempty l rest h.is_whole in
+    omega (arith, ap length h.parts, length-append h.space (spelling l ++ rest), length-append (spelling l) rest)
 
 pub empty_is : (xs : List ℕ) → true ≡ eqb (length xs) 0 → xs ≡ []
 empty_is [] h = refl

@@ -1,6 +1,7 @@
 -- The front of a text whose bytes pass a test.
-use Rattle.std.proofs.Common.{◌≡◌, ◌≢◌, ℕ, suc, ◌+◌, ◌<◌, ◌≤◌, Bool, true, false, cond, List, [], ◌∷◌, ◌++◌, length, take, drop, sym, refl, ap, ◌∙◌, subst, arith, one-add}
-use Rattle.std.specs.List.{prefix_len, AllByRecursion}
+use Rattle.std.proofs.Common.{◌≡◌, ◌≢◌, ℕ, suc, ◌+◌, ◌<◌, ◌≤◌, Bool, true, false, ◌&&◌, cond, List, [], ◌∷◌, ◌++◌, length, take, drop, sym, refl, ap, ◌∙◌, subst, arith, one-add}
+use Rattle.std.specs.List.{prefix_len, list_all}
+use Rattle.std.proofs.lemmas.Bool.{false≢true}
 use Rattle.c_parse.specs.Lexeme.{Each, Stops}
 
 -- a front that passes, before a rest that doesn't begin so, is the only one
@@ -35,3 +36,15 @@ stops test (x ∷ xs) = elim (test x) as (λ b. test x ≡ b → Stops test (dro
     true ↦ λ h. rw one-add (stops test xs)
   | false ↦ λ h. h
   ] refl
+
+pub each_from : (test : ℕ → Bool) (xs : List ℕ) → list_all test xs ≡ true → Each test xs
+each_from test [] h = tt
+each_from test (x ∷ xs) h =
+    elim (test x) as (λ b. test x ≡ b → (b && list_all test xs) ≡ true → Each test (x ∷ xs)) [
+      true ↦ λ e h. (e, each_from test xs h)
+    | false ↦ λ e h. absurd (false≢true h)
+    ] refl h
+
+pub each_to : (test : ℕ → Bool) (xs : List ℕ) → Each test xs → list_all test xs ≡ true
+each_to test [] h = refl
+each_to test (x ∷ xs) h = subst (λ b. (b && list_all test xs) ≡ true) (sym h.0) (each_to test xs h.1)

@@ -1,7 +1,7 @@
 //! Words and marks at the front of a text.
 
-ghost use Rattle.std.specs.Prelude.{◌≡◌, ◌≤◌, ℕ, List, length, drop, IfSome, IfNone};
-ghost use Rattle.std.specs.List.{prefix_len};
+ghost use Rattle.std.specs.Prelude.{◌≡◌, ◌≤◌, ℕ, List, length, drop, IfSome, MatchOption};
+ghost use Rattle.std.specs.List.{list_all, prefix_len};
 ghost use Rattle.c_parse.specs.Lexeme.{is_space, is_word_byte, Word, Mark, IsMark, Begins};
 
 /// Whether a byte is white space.
@@ -44,7 +44,7 @@ fn without_space(text: &[u8]) -> &[u8]
 /// The word that the text begins with, and the text after it.
 pub fn next_word(text: &[u8]) -> Option<(&[u8], &[u8])>
     ensures found { IfSome result (λ found. Begins (Word found.0.now) text.now found.1.now) }
-    ensures none { IfNone result ((word rest : List ℕ) → Begins (Word word) text.now rest → ⊥) }
+    ensures only { (word rest : List ℕ) → Begins (Word word) text.now rest → MatchOption result ⊥ (λ found. (found.0.now ≡ word) × (found.1.now ≡ rest)) }
 {
     let text = without_space(text);
     let (word, rest) = text.split_at(word_len(text));
@@ -54,7 +54,7 @@ pub fn next_word(text: &[u8]) -> Option<(&[u8], &[u8])>
 /// The text after a word, where it begins with that word.
 pub fn after_word<'a>(text: &'a [u8], word: &[u8]) -> Option<&'a [u8]>
     ensures found { IfSome result (λ rest. Begins (Word word.now) text.now rest.now) }
-    ensures none { IfNone result ((rest : List ℕ) → Begins (Word word.now) text.now rest → ⊥) }
+    ensures only { (rest : List ℕ) → Begins (Word word.now) text.now rest → MatchOption result ⊥ (λ found. found.now ≡ rest) }
 {
     let (found, rest) = next_word(text)?;
     if found == word { Some(rest) } else { None }
@@ -64,8 +64,15 @@ pub fn after_word<'a>(text: &'a [u8], word: &[u8]) -> Option<&'a [u8]>
 pub fn after_mark(text: &[u8], mark: u8) -> Option<&[u8]>
     requires { IsMark mark }
     ensures found { IfSome result (λ rest. Begins (Mark mark) text.now rest.now) }
-    ensures none { IfNone result ((rest : List ℕ) → Begins (Mark mark) text.now rest → ⊥) }
+    ensures only { (rest : List ℕ) → Begins (Mark mark) text.now rest → MatchOption result ⊥ (λ found. found.now ≡ rest) }
 {
     let (first, rest) = without_space(text).split_first()?;
     if *first == mark { Some(rest) } else { None }
+}
+
+/// Whether the text is white space alone.
+pub fn is_blank(text: &[u8]) -> bool
+    ensures { result ≡ list_all is_space text.now }
+{
+    text.iter().all(|byte| is_space(*byte))
 }

@@ -52,7 +52,7 @@ pub fn constant(word: &[u8]) -> Option<u32>
 }
 
 /// The position of the first parameter with a name.
-fn position_of(params: &[String], name: &[u8]) -> Option<usize>
+pub fn position_of(params: &[String], name: &[u8]) -> Option<usize>
     ensures { result ≡ position (λ param. bytes_eq (string_bytes param) name.now) params.now }
 {
     params.iter().position(|param| param.as_bytes() == name)
