@@ -1,11 +1,11 @@
 -- A text begins with at most one lexeme.
-use Rattle.std.proofs.Common.{◌≡◌, ◌≢◌, ℕ, suc, ◌+◌, ◌<◌, ◌≤◌, Bool, true, false, eqb, ◌&&◌, ◌||◌, List, [], ◌∷◌, ◌++◌, length, take, drop, sym, refl, ap, ◌∙◌, subst, arith, take-append-drop, length-append, Option, Some, None, IfNone}
+use Rattle.std.proofs.Common.{◌≡◌, ◌≢◌, ℕ, ◌<◌, true, false, eqb, List, [], ◌∷◌, ◌++◌, length, take, drop, sym, refl, ap, ◌∙◌, subst, arith, take-append-drop, length-append}
 use Rattle.std.proofs.lemmas.Bool.Decides.{nat_tests}
 use Rattle.std.proofs.lemmas.Bool.{false≢true, eqb-true}
-use Rattle.std.specs.List.{prefix_len, AllByRecursion}
+use Rattle.std.specs.List.{prefix_len}
 use Rattle.std.specs.Str.{IsAscii}
 use Rattle.std.proofs.lemmas.Str.Ascii.{IsAscii-nil, IsAscii-cons}
-use Rattle.c_parse.specs.Lexeme.{is_space, is_word_byte, Each, Stops, Lexeme, Word, Mark, spelling, IsMark, IsWhole, Begins}
+use Rattle.c_parse.specs.Lexeme.{is_space, is_word_byte, Each, Stops, Lexeme, Word, Mark, spelling, IsWhole, Begins}
 use Rattle.c_parse.proofs.Front.{front_is, passes, stops}
 
 -- a byte of a word is no white space

@@ -1,5 +1,5 @@
 -- Distinct names, found one after the other.
-use Rattle.std.proofs.Common.{◌≡◌, ◌≢◌, ℕ, ◌+◌, ◌<◌, ◌≤◌, Bool, true, false, Option, Some, None, is_some, List, [], ◌∷◌, ◌++◌, length, map, get_or, take, sym, ap, ◌∙◌, subst, arith, length-take-le, get_or-take}
+use Rattle.std.proofs.Common.{◌≡◌, ◌≢◌, ℕ, ◌+◌, ◌<◌, true, false, Option, Some, None, is_some, List, [], length, map, get_or, take, sym, ap, ◌∙◌, subst, arith, length-take-le, get_or-take}
 use Rattle.std.specs.Prelude.{AllPairs}
 use Rattle.std.specs.List.{position}
 use Rattle.std.specs.Str.{bytes_eq}

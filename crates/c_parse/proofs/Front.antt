@@ -1,5 +1,5 @@
 -- The front of a text whose bytes pass a test.
-use Rattle.std.proofs.Common.{◌≡◌, ◌≢◌, ℕ, suc, ◌+◌, ◌<◌, ◌≤◌, Bool, true, false, ◌&&◌, cond, List, [], ◌∷◌, ◌++◌, length, take, drop, sym, refl, ap, ◌∙◌, subst, arith, one-add}
+use Rattle.std.proofs.Common.{◌≡◌, ℕ, ◌+◌, Bool, true, false, ◌&&◌, cond, List, [], ◌∷◌, ◌++◌, take, drop, sym, refl, subst, one-add}
 use Rattle.std.specs.List.{prefix_len, list_all}
 use Rattle.std.proofs.lemmas.Bool.{false≢true}
 use Rattle.c_parse.specs.Lexeme.{Each, Stops}
@@ -25,24 +25,24 @@ front_is test (x ∷ xs) ys (u ∷ us) vs hx hu sy sv e =
 pub passes : (test : ℕ → Bool) (xs : List ℕ) → Each test (take (prefix_len test xs) xs)
 passes test [] = tt
 passes test (x ∷ xs) = elim (test x) as (λ b. test x ≡ b → Each test (take (cond b (1 + prefix_len test xs) 0) (x ∷ xs))) [
-    true ↦ λ h. rw one-add (h, passes test xs)
+  | true ↦ λ h. rw one-add (h, passes test xs)
   | false ↦ λ h. tt
-  ] refl
+] refl
 
 -- and ends where the test fails
 pub stops : (test : ℕ → Bool) (xs : List ℕ) → Stops test (drop (prefix_len test xs) xs)
 stops test [] = tt
 stops test (x ∷ xs) = elim (test x) as (λ b. test x ≡ b → Stops test (drop (cond b (1 + prefix_len test xs) 0) (x ∷ xs))) [
-    true ↦ λ h. rw one-add (stops test xs)
+  | true ↦ λ h. rw one-add (stops test xs)
   | false ↦ λ h. h
-  ] refl
+] refl
 
 pub each_from : (test : ℕ → Bool) (xs : List ℕ) → list_all test xs ≡ true → Each test xs
 each_from test [] h = tt
 each_from test (x ∷ xs) h =
     elim (test x) as (λ b. test x ≡ b → (b && list_all test xs) ≡ true → Each test (x ∷ xs)) [
-      true ↦ λ e h. (e, each_from test xs h)
-    | false ↦ λ e h. absurd (false≢true h)
+      | true ↦ λ e h. (e, each_from test xs h)
+      | false ↦ λ e h. absurd (false≢true h)
     ] refl h
 
 pub each_to : (test : ℕ → Bool) (xs : List ℕ) → Each test xs → list_all test xs ≡ true

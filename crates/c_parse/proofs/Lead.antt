@@ -1,7 +1,6 @@
 -- What is left of a text after some lexemes.
-use Rattle.std.proofs.Common.{◌≡◌, ℕ, List, [], ◌∷◌, ◌++◌, sym, refl, ap, ◌∙◌, subst}
-use Rattle.c_parse.specs.Lexeme.{Each, is_space, Lexeme, Word, Mark, Begins, Leads, Spells}
-use Rattle.c_parse.proofs.Begin.{begins_is}
+use Rattle.std.proofs.Common.{◌≡◌, ℕ, List, [], ◌∷◌, ◌++◌, sym, refl, subst}
+use Rattle.c_parse.specs.Lexeme.{Lexeme, Begins, Leads, Spells}
 
 -- past the first lexeme, where its rest is known
 pub along : {l : Lexeme} {text found : List ℕ} (ls : List Lexeme) (rest : List ℕ) → ((next : List ℕ) → Begins l text next → found ≡ next) → Leads (l ∷ ls) text rest → Leads ls found rest

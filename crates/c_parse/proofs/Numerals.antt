@@ -1,11 +1,11 @@
 -- Decimal constants.
-use Rattle.std.proofs.Common.{◌≡◌, ℕ, zero, suc, ◌+◌, ◌<◌, ◌≤◌, ◌^◌, Bool, true, false, List, [], ◌∷◌, ◌++◌, length, take, drop, get_or, sym, refl, ap, ◌∙◌, subst, arith, rules, Option, Some, None, Result, Ok, Err, IfSome}
+use Rattle.std.proofs.Common.{◌≡◌, ℕ, zero, suc, ◌<◌, ◌^◌, true, List, [], ◌∷◌, ◌++◌, length, get_or, sym, ap, ◌∙◌, subst, arith, rules, Some, Result, Ok, Err, IfSome}
 use Rattle.std.specs.Result.{OkIff, result_ok}
 use Rattle.std.specs.List.{list_all}
 use Rattle.std.specs.Char.{is_ascii_digit}
 use Rattle.std.specs.Fmt.{decimal}
-use Rattle.std.specs.Str.Parse.{AllDigits, digits_value, ParsesUnsigned}
-use Rattle.std.proofs.lemmas.Str.Parse.{IsDigitsTest, IsNumeralModel, numerals_by_value, parse_digits}
+use Rattle.std.specs.Str.Parse.{digits_value}
+use Rattle.std.proofs.lemmas.Str.Parse.{IsDigitsTest, IsNumeralModel, numerals_by_value}
 use Rattle.std.proofs.lemmas.Fmt.{digits_decimal, digits_value-decimal, decimal-digits_value, decimal_nonempty, first_decimal, decimal_digit}
 use Rattle.std.proofs.lemmas.List.{append_cancel_right}
 use Rattle.c_parse.specs.Operand.{IsNumeral, decimal_constant}
@@ -45,8 +45,8 @@ only word digits r n e small f p =
     let same : digits ≡ decimal n = append_cancel_right digits (decimal n) (117 ∷ []) (sym e ∙ f) in
     let value : digits_value 10 digits ≡ n = ap (digits_value 10) same ∙ digits_value-decimal own n (omega arith) in
     elim r as (λ r. Parsed digits r → result_ok r ≡ Some n) [
-      Ok x ↦ λ p. ap Some (p.1 ∙ value)
-    | Err x ↦ λ p. absurd (p (subst (λ ds. 0 < length ds) (sym same) (decimal_nonempty n (omega arith)), omega arith))
+      | Ok x ↦ λ p. ap Some (p.1 ∙ value)
+      | Err x ↦ λ p. absurd (p (subst (λ ds. 0 < length ds) (sym same) (decimal_nonempty n (omega arith)), omega arith))
     ] p
 
 -- the digits before the suffix of a constant are a numeral

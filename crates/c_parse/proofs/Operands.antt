@@ -1,12 +1,11 @@
 -- Which operand a word spells.
-use Rattle.std.proofs.Common.{◌≡◌, ◌≢◌, ℕ, zero, suc, ◌+◌, ◌<◌, ◌≤◌, ◌^◌, Bool, true, false, ◌&&◌, cond, ltb, List, [], ◌∷◌, ◌++◌, length, map, get_or, sym, refl, ap, ◌∙◌, subst, arith, Option, Some, None, ⊎_elim}
+use Rattle.std.proofs.Common.{◌≡◌, ◌≢◌, ℕ, ◌<◌, ◌≤◌, ◌^◌, true, false, ◌&&◌, cond, ltb, List, [], ◌∷◌, ◌++◌, length, map, get_or, sym, refl, ap, ◌∙◌, subst, arith, Some, None, ⊎_elim}
 use Rattle.std.specs.Prelude.{All, AllPairs}
 use Rattle.std.specs.List.{position, position_or_len, list_all}
 use Rattle.std.specs.Str.{bytes_eq}
 use Rattle.std.specs.Char.{is_ascii_digit}
 use Rattle.std.specs.Fmt.{decimal}
 use Rattle.std.proofs.lemmas.Bool.{false≢true, ltb-false, cases_lt}
-use Rattle.std.proofs.lemmas.Bool.Decides.{nat_tests}
 use Rattle.std.proofs.lemmas.Slice.Eq.{bytes_eq-Decides}
 use Rattle.std.proofs.lemmas.List.Quantifiers.{position-Some}
 use Rattle.std.proofs.lemmas.List.Sums.{fails_before_first}
@@ -20,9 +19,9 @@ use Rattle.c_parse.specs.declared.operand.Operand.TheVariants.{Parameter, Consta
 
 position_past : (n len : ℕ) → cond (ltb n len) (Some n) None ≡ None → len ≤ n
 position_past n len = elim (ltb n len) as (λ b. ltb n len ≡ b → cond b (Some n) None ≡ None → len ≤ n) [
-    true ↦ λ h e. absurd cc
+  | true ↦ λ h e. absurd cc
   | false ↦ λ h e. ltb-false n len h
-  ] refl
+] refl
 
 module _ {X : Type 0} (f : X → List ℕ) (word : List ℕ) where
   -- the place of a text that `position` finds

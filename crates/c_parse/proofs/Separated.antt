@@ -1,11 +1,11 @@
 -- Reading items with a mark between them and another mark at the end.
-use Rattle.std.proofs.Common.{◌≡◌, ◌≢◌, ℕ, ◌+◌, ◌<◌, ◌≤◌, List, [], ◌∷◌, ◌++◌, length, map, sym, refl, ap, ◌∙◌, subst, arith, length-append, append_assoc, append-nil}
+use Rattle.std.proofs.Common.{◌≡◌, ℕ, ◌<◌, List, [], ◌∷◌, ◌++◌, length, map, sym, refl, ap, ◌∙◌, subst, arith, length-append, append_assoc, append-nil}
 use Rattle.std.specs.List.{All}
 use Rattle.std.proofs.lemmas.List.Elements.{All-push, All-nil, All-head, All-tail}
-use Rattle.c_parse.specs.Lexeme.{Lexeme, Word, Mark, Begins, Leads}
+use Rattle.c_parse.specs.Lexeme.{Lexeme, Mark, Begins, Leads}
 use Rattle.c_parse.specs.FirstForm.{each_after, separated}
 use Rattle.c_parse.proofs.Begin.{begins_is, other_mark}
-use Rattle.c_parse.proofs.Lead.{along, leads_append, leads_split}
+use Rattle.c_parse.proofs.Lead.{leads_append, leads_split}
 
 all_middle : {X : Type 0} (P : X → Type 0) (xs : List X) (y : X) (ys : List X) → All P (xs ++ y ∷ ys) → P y
 all_middle P [] y ys h = All-head P y ys h

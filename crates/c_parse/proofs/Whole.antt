@@ -1,6 +1,6 @@
 -- What a text of the first form says, read from its front.
-use Rattle.std.proofs.Common.{◌≡◌, ◌≢◌, ℕ, ◌<◌, List, [], ◌∷◌, ◌++◌, length, sym, ap, ◌∙◌, subst, Option, None, Some, MatchOption}
-use Rattle.std.specs.Prelude.{All, AllPairs}
+use Rattle.std.proofs.Common.{◌≡◌, ℕ, ◌<◌, List, ◌++◌, length, sym, subst}
+use Rattle.std.specs.Prelude.{All}
 use Rattle.c_parse.specs.declared.operand.Operand.{Operand}
 use Rattle.c_parse.specs.Lexeme.{Lexeme, Leads, Spells}
 use Rattle.c_parse.specs.Name.{IsName}

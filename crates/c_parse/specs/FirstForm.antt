@@ -1,5 +1,5 @@
 -- The first form of C text: one function of unsigned parameters that returns a sum of them and of constants.
-use Rattle.std.specs.Prelude.{◌≡◌, ◌≢◌, ◌<◌, ◌≤◌, ℕ, List, [], ◌∷◌, ◌++◌, map, length, All, AllPairs, codes}
+use Rattle.std.specs.Prelude.{◌≢◌, ◌<◌, ◌≤◌, ℕ, List, [], ◌∷◌, ◌++◌, map, length, All, AllPairs, codes}
 use Rattle.c_parse.specs.Lexeme.{Lexeme, Word, Mark, Spells}
 use Rattle.c_parse.specs.Name.{IsName}
 use Rattle.c_parse.specs.Operand.{word_of, IsOperand}

@@ -9,11 +9,10 @@ ghost use Rattle.c_parse.specs.FirstForm.{declared, heading, parameters, opening
 ghost use Rattle.c_parse.specs.FirstUnit.{unit_of};
 ghost use Rattle.c_parse.specs.declared.operand.Operand.{Operand};
 
-use std::alloc::{AllocError, Global};
-
 use crate::lexeme::{after_mark, after_word, is_blank, next_word};
 use crate::name::{is_name, owned};
 use crate::operand::{Operand, operand_of, position_of};
+use std::alloc::{AllocError, Global};
 
 /// A function that returns a sum of its parameters and of constants.
 #[derive(Debug, Drop)]
@@ -36,7 +35,11 @@ fn declared(text: &[u8]) -> Option<(&[u8], &[u8])>
 {
     let rest = after_word(text, b"unsigned")?;
     let (name, rest) = next_word(rest)?;
-    if is_name(name) { Some((name, rest)) } else { None }
+    if is_name(name) {
+        Some((name, rest))
+    } else {
+        None
+    }
 }
 
 /// The name of `unsigned NAME (`, and the text after it.

@@ -48,7 +48,11 @@ pub fn next_word(text: &[u8]) -> Option<(&[u8], &[u8])>
 {
     let text = without_space(text);
     let (word, rest) = text.split_at(word_len(text));
-    if word.is_empty() { None } else { Some((word, rest)) }
+    if word.is_empty() {
+        None
+    } else {
+        Some((word, rest))
+    }
 }
 
 /// The text after a word, where it begins with that word.

@@ -11,17 +11,28 @@ use std::str;
 
 /// The words of the C subset that are no names.
 const KEYWORDS: [&str; 26] = [
-    "break", "case", "char", "const", "continue", "default", "do", "else",
-    "enum", "extern", "for", "if", "inline", "int", "long", "return",
-    "short", "signed", "sizeof", "static", "struct", "switch", "typedef", "unsigned",
-    "void", "while",
+    "break", "case", "char", "const", "continue", "default", "do", "else", "enum", "extern", "for",
+    "if", "inline", "int", "long", "return", "short", "signed", "sizeof", "static", "struct",
+    "switch", "typedef", "unsigned", "void", "while",
 ];
 
 /// The words of C and of its dialects that the subset refuses.
 const UNSUPPORTED: [&str; 15] = [
-    "asm", "auto", "double", "float", "goto", "register",
-    "restrict", "union", "volatile", "_Bool", "_Complex", "_Imaginary",
-    "__asm__", "__attribute__", "__extension__",
+    "asm",
+    "auto",
+    "double",
+    "float",
+    "goto",
+    "register",
+    "restrict",
+    "union",
+    "volatile",
+    "_Bool",
+    "_Complex",
+    "_Imaginary",
+    "__asm__",
+    "__attribute__",
+    "__extension__",
 ];
 
 /// The most bytes of a name.

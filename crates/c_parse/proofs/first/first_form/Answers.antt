@@ -1,11 +1,11 @@
-use Rattle.std.proofs.Common.{◌≡◌, ◌≢◌, ◌<◌, length, ℕ, List, ◌∷◌, [], map, string_bytes, sym, ap, subst, ◌∙◌, refl, MatchOption, IfSome, Some, None}
+use Rattle.std.proofs.Common.{◌≡◌, ◌≢◌, ◌<◌, length, map, string_bytes, sym, ap, subst, ◌∙◌, refl, Some}
 use Rattle.std.specs.Prelude.{All, AllPairs}
 use Rattle.std.proofs.lemmas.List.{length-map}
 use Rattle.c_parse.specs.Lexeme.{Leads}
 use Rattle.c_parse.specs.Name.{IsName}
 use Rattle.std.proofs.lemmas.Option.{MatchOption-at_some, MatchOption-at_none}
 use Rattle.std.proofs.lemmas.Bool.{false≢true}
-use Rattle.c_parse.specs.FirstForm.{Function, IsFirstForm, AreParameters, AreOperands, parameters, sum}
+use Rattle.c_parse.specs.FirstForm.{IsFirstForm, AreOperands, parameters, sum}
 use Rattle.c_parse.proofs.Whole.{no_heading, after_heading, no_parameters, after_parameters, no_opening, after_opening, no_sum, after_sum, first_form_is}
 use Rattle.c_parse.proofs.first.first_form.Goals as goal
 
@@ -52,11 +52,11 @@ returns-clause-found c =
     let distinct = subst (AllPairs ◌≢◌) (ap (map string_bytes) c.deref.ensures.value) (c.if-not-are_distinct.ensures.0 refl) in
     subst (λ name. IsFirstForm c.args.text.now (record { name = name; params = (map string_bytes c.in-Some-2.params.items); operands = c.in-Some-3.operands.items })) (sym c.in_ok-name.ensures)
     (first_form_is c.args.text.now c.in-Some.name.now c.in-Some.rest.now (map string_bytes c.in-Some-2.params.items) c.in-Some-2.rest.now c.in-Some-opening.rest.now c.in-Some-3.operands.items c.in-Some-3.rest.now c.in-Some.ensures.found.0
-      (record { some = rw length-map p.0; named = p.1; distinct = distinct })
-      (subst (λ names. AreOperands names c.in-Some-3.operands.items) names o.0)
-      c.in-Some.ensures.found.1 p.2 c.in-Some-opening.ensures.found
-      (subst (λ names. Leads (sum names c.in-Some-3.operands.items) c.in-Some-opening.rest.now c.in-Some-3.rest.now) names o.1)
-      (c.if-not-is_closing.ensures.0 refl))
+    (record { some = rw length-map p.0; named = p.1; distinct = distinct })
+    (subst (λ names. AreOperands names c.in-Some-3.operands.items) names o.0)
+    c.in-Some.ensures.found.1 p.2 c.in-Some-opening.ensures.found
+    (subst (λ names. Leads (sum names c.in-Some-3.operands.items) c.in-Some-opening.rest.now c.in-Some-3.rest.now) names o.1)
+    (c.if-not-is_closing.ensures.0 refl))
 
 pub returns-clause-only : goal.returns-clause-only
 returns-clause-only c u h =

@@ -1,4 +1,4 @@
-use Rattle.std.proofs.Common.{sym, subst, ◌∙◌}
+use Rattle.std.proofs.Common.{◌∙◌}
 use Rattle.c_parse.proofs.first.next_operand.Goals as goal
 
 pub returns-in_err-word-clause-only : goal.returns-in_err-word-clause-only

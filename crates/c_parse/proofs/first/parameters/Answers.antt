@@ -1,11 +1,10 @@
-use Rattle.std.proofs.Common.{◌≡◌, ℕ, List, ◌∷◌, ◌++◌, [], map, string_bytes, is_ok, sym, subst, ap, ◌∙◌, refl, arith}
+use Rattle.std.proofs.Common.{◌≡◌, ◌∷◌, ◌++◌, [], map, string_bytes, is_ok, sym, subst, ap, ◌∙◌, refl}
 use Rattle.std.proofs.ResultArms.{chosen}
 use Rattle.std.proofs.lemmas.List.{map-append, length-map}
 use Rattle.std.proofs.lemmas.Bool.{eqb-false}
 use Rattle.c_parse.specs.Name.{IsName}
 use Rattle.c_parse.specs.FirstForm.{declared}
-use Rattle.c_parse.proofs.Separated.{Reads, Stands, none_first, reads_first, reads_more, more_after, none_after, reads_all}
-use Rattle.c_parse.proofs.Begin.{begins_shorter}
+use Rattle.c_parse.proofs.Separated.{Reads, none_first, reads_first, reads_more, more_after, none_after, reads_all}
 use Rattle.c_parse.proofs.first.parameters.Goals as goal
 
 -- no parameter stands first

@@ -1,4 +1,4 @@
-use Rattle.std.proofs.Common.{◌≡◌, length, map, string_bytes}
+use Rattle.std.proofs.Common.{length, map, string_bytes}
 use Rattle.c_parse.specs.Name.{IsName}
 use Rattle.c_parse.specs.FirstForm.{declared}
 use Rattle.c_parse.proofs.Separated.{Reads}

@@ -1,9 +1,9 @@
-use Rattle.std.proofs.Common.{◌≡◌, ℕ, List, ◌∷◌, ◌++◌, [], length, map, string_bytes, is_ok, sym, subst, ap, ◌∙◌, refl, arith, length-append}
+use Rattle.std.proofs.Common.{◌≡◌, ◌∷◌, ◌++◌, [], length, map, string_bytes, is_ok, sym, subst, ap, ◌∙◌, refl, arith, length-append}
 use Rattle.std.proofs.ResultArms.{chosen}
 use Rattle.std.proofs.lemmas.Bool.{eqb-false}
 use Rattle.c_parse.specs.Operand.{IsOperand}
 use Rattle.c_parse.specs.FirstForm.{operand}
-use Rattle.c_parse.proofs.Separated.{Reads, Stands, none_first, reads_first, reads_more, more_after, none_after, reads_all}
+use Rattle.c_parse.proofs.Separated.{Reads, none_first, reads_first, reads_more, more_after, none_after, reads_all}
 use Rattle.c_parse.proofs.first.sum.Goals as goal
 
 -- no operand stands first
@@ -43,9 +43,10 @@ loop-after-preserved c =
     }
 
 pub returns-in-Some-after_mark-2-clause-found : goal.returns-in-Some-after_mark-2-clause-found
-returns-in-Some-after_mark-2-clause-found c =
-    (record { some = c.loop-after.invariant.read.some; few = c.loop-after.invariant.few; each = c.loop-after.invariant.read.fit },
-     reads_all (operand (map string_bytes c.args.params.now)) (IsOperand (map string_bytes c.args.params.now)) 43 59 c.args.text.now c.loop-after.rest.now c.in-Some-after_mark-2.rest.now c.loop-after.operands.items c.loop-after.invariant.read c.in-Some-after_mark-2.ensures.found)
+returns-in-Some-after_mark-2-clause-found c = (
+  record { some = c.loop-after.invariant.read.some; few = c.loop-after.invariant.few; each = c.loop-after.invariant.read.fit },
+  reads_all (operand (map string_bytes c.args.params.now)) (IsOperand (map string_bytes c.args.params.now)) 43 59 c.args.text.now c.loop-after.rest.now c.in-Some-after_mark-2.rest.now c.loop-after.operands.items c.loop-after.invariant.read c.in-Some-after_mark-2.ensures.found,
+)
 
 pub returns-in-Some-after_mark-2-clause-only : goal.returns-in-Some-after_mark-2-clause-only
 returns-in-Some-after_mark-2-clause-only c operands rest are h =

@@ -1,4 +1,4 @@
-use Rattle.std.proofs.Common.{◌≡◌, ◌≤◌, length, map, string_bytes}
+use Rattle.std.proofs.Common.{◌≤◌, length, map, string_bytes}
 use Rattle.c_parse.specs.Operand.{IsOperand}
 use Rattle.c_parse.specs.FirstForm.{operand}
 use Rattle.c_parse.proofs.Separated.{Reads}

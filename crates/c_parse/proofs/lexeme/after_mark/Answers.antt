@@ -1,5 +1,5 @@
-use Rattle.std.proofs.Common.{◌≡◌, ℕ, List, [], ◌∷◌, length, sym, ap, ◌∙◌, arith}
-use Rattle.c_parse.specs.Lexeme.{Mark, Begins}
+use Rattle.std.proofs.Common.{◌∷◌, length, sym, ap, ◌∙◌, arith}
+use Rattle.c_parse.specs.Lexeme.{Mark}
 use Rattle.c_parse.proofs.Begin.{trimmed_is, begins_trimmed}
 use Rattle.c_parse.proofs.lexeme.after_mark.Goals as goal
 

@@ -1,6 +1,6 @@
 use Rattle.std.proofs.Common.{◌≡◌, take, drop, subst, sym, ap, ◌∙◌}
 use Rattle.std.specs.List.{prefix_len}
-use Rattle.c_parse.specs.Lexeme.{Word, Begins, is_word_byte}
+use Rattle.c_parse.specs.Lexeme.{is_word_byte}
 use Rattle.c_parse.proofs.Begin.{trimmed, begins_word, begins_no_word, word_is, empty_is, nonempty_is}
 use Rattle.c_parse.proofs.lexeme.next_word.Goals as goal
 use Rattle.c_parse.proofs.lexeme.next_word.Goals.{After-is_empty}

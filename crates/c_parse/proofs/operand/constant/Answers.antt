@@ -1,4 +1,4 @@
-use Rattle.std.proofs.Common.{◌≡◌, ℕ, List, ◌++◌, ◌∷◌, [], Some, IfSome, sym, subst, ◌∙◌, refl}
+use Rattle.std.proofs.Common.{◌≡◌, ◌++◌, ◌∷◌, [], Some, IfSome, sym, subst, ◌∙◌, refl}
 use Rattle.std.proofs.lemmas.Bool.{false≢true}
 use Rattle.std.proofs.lemmas.Bool.Decides.{Decides-eqb}
 use Rattle.std.proofs.lemmas.Slice.Eq.{strip_suffix_is}
@@ -6,7 +6,7 @@ use Rattle.std.proofs.lemmas.Str.{IsUtf8-from_ascii}
 use Rattle.std.proofs.lemmas.Fmt.{IsAscii-from_digits}
 use Rattle.std.proofs.lemmas.Str.Parse.{parse_digits}
 use Rattle.std.specs.Str.Parse.{ParsesUnsigned}
-use Rattle.c_parse.specs.Operand.{IsNumeral, decimal_constant}
+use Rattle.c_parse.specs.Operand.{decimal_constant}
 use Rattle.c_parse.proofs.Numerals.{own, found, only, numeral_before, Parsed}
 use Rattle.c_parse.proofs.operand.constant.Goals as goal
 use Rattle.c_parse.proofs.operand.constant.Goals.{After-is_numeral, After-ok}

@@ -1,5 +1,4 @@
-use Rattle.std.proofs.Common.{◌≡◌, ℕ, List, ◌++◌, ◌∷◌, [], Some, map, string_bytes, sym, subst, ap, ◌∙◌, refl}
-use Rattle.c_parse.specs.declared.operand.Operand.TheVariants.{Parameter, Constant}
+use Rattle.std.proofs.Common.{Some, map, string_bytes, sym, ap}
 use Rattle.c_parse.proofs.Operands.{first_at, nowhere, only_parameter, only_constant}
 use Rattle.c_parse.proofs.operand.operand_of.Goals as goal
 
