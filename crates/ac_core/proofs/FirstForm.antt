@@ -1,17 +1,16 @@
 -- The program that a text of the first form is shown as is exact against its C function.
-use Rattle.std.proofs.Common.{◌≡◌, ◌≢◌, ℕ, zero, suc, ◌+◌, ◌-◌, ◌%◌, ◌<◌, ◌≤◌, ◌^◌, Bool, true, false, ◌||◌, ◌&&◌, not, List, [], ◌∷◌, map, length, get_or, sym, refl, ap, ◌∙◌, subst, arith, Option, Some, None, Result, Ok, Err, ℤ, pos, ◌+ℤ◌, if◌then◌else◌, ◌⊎◌, inl, inr}
+use Rattle.std.proofs.Common.{◌≡◌, ℕ, zero, suc, ◌+◌, ◌<◌, ◌^◌, Bool, true, false, ◌||◌, ◌&&◌, not, List, [], ◌∷◌, map, length, get_or, sym, refl, ap, ◌∙◌, subst, arith, Option, Some, None, Ok, Err, ℤ, pos, if◌then◌else◌}
 use Rattle.std.specs.Prelude.{int_le, All}
 use Rattle.std.proofs.lemmas.Bool.{false≢true, leb-true}
 use Rattle.std.proofs.lemmas.Slice.Eq.{bytes_eq-Decides}
 use Rattle.std.proofs.lemmas.List.Elements.{All-head, All-tail}
 use Rattle.correspondence.specs.Outcome.{Outcome, Done, Failed, Stopped, Ends, done, fault, given, Then, goes_on, fails, stops, choose}
 use Rattle.c_values.specs.Name.{Name, same_name, with_name}
-use Rattle.c_values.specs.Types.{Ilp32, UInt, CType, Integer}
-use Rattle.c_values.specs.Word.{Word, IsWord, word}
-use Rattle.c_values.specs.Number.{Add, number_op, is_between, is_of_type}
+use Rattle.c_values.specs.Types.{Ilp32, UInt}
+use Rattle.c_values.specs.Word.{word}
+use Rattle.c_values.specs.Number.{Add, number_op, is_between}
 use Rattle.c_values.specs.Value.{Value, Bits, Number, Truth, Parts, number_in}
 use Rattle.std.proofs.Math.Nat.{mod-eq_of_lt}
-use Rattle.c_values.specs.Layout.{Layout}
 use Rattle.c_values.specs.Path.{IsBits}
 use Rattle.c_values.specs.Choice.{Choice}
 use Rattle.c_memory.specs.Memory.{Memory}
@@ -20,10 +19,10 @@ use Rattle.ac_expr.specs.Expression.{Exp, Var, NumberLit, Arith, Between}
 use Rattle.ac_expr.specs.Sort.{Level, Bytes, Numbers, NatKind}
 use Rattle.ac_expr.specs.Evaluation as E
 use Rattle.ac_expr.specs.View.{view_at, views_at}
-use Rattle.ac_expr.specs.Signature.{Invocation, names_of, kinds_of, bound, no_env}
+use Rattle.ac_expr.specs.Signature.{names_of, kinds_of, bound, no_env}
 use Rattle.simpl_lang.specs.Command as K
 use Rattle.simpl_lang.specs.Exec.{Machine, machine_with, Returned}
-use Rattle.monad_lang.specs.Program.{Mon, Ret, Bind, Guard, FinalUnit}
+use Rattle.monad_lang.specs.Program.{FinalUnit}
 use Rattle.monad_lang.specs.Program.{Place}
 use Rattle.monad_lang.specs.Form.{program_has, is_stored, no_place, is_numbers}
 use Rattle.ac_expr.specs.Form.{has, is_load, is_word_arithmetic}
@@ -37,8 +36,8 @@ use Rattle.c_parse.specs.declared.operand.Operand.{Operand}
 use Rattle.c_parse.specs.declared.operand.Operand.TheVariants.{Parameter, Constant}
 use Rattle.c_parse.specs.Operand.{IsOperand}
 use Rattle.c_parse.specs.FirstForm.{Function, AreOperands}
-use Rattle.ac_core.specs.Exact.{AreArguments, Begin, IsBegin, state_of, heap_for, c_ends, program_ends, Fails, IsUndefined, seen, ReturnsAs, KeepsMemory, ExactFrom, Exact, IsExact}
-use Rattle.ac_core.specs.FirstForm.{unsigned_type, layout, c_operand, c_sum, c_body, c_parameter, typed_fn_of, typed_unit_of, levels, operand, fits, guarded_sum, body, parameter, final_fn_of, final_unit_of}
+use Rattle.ac_core.specs.Exact.{AreArguments, Begin, state_of, heap_for, c_ends, program_ends, Fails, IsUndefined, seen, ReturnsAs, KeepsMemory, ExactFrom, Exact, IsExact}
+use Rattle.ac_core.specs.FirstForm.{unsigned_type, layout, c_operand, c_sum, c_parameter, typed_fn_of, typed_unit_of, levels, operand, fits, guarded_sum, body, parameter, final_fn_of, final_unit_of}
 
 -- the word of a number
 abbrev bits : ℕ → Value
@@ -240,8 +239,8 @@ module _ (params : List Name) (locals env : E.Env) (c_state m_state : E.State) w
         let c = C.Compute C.Add UInt a (c_operand params o) in
         let s = Arith Add e (operand params o) in
         elim (fits_test (m + x.0)) as (λ t. fits_test (m + x.0) ≡ t → Sums a e (o ∷ os)) [
-          true ↦ λ t. sum_more a e o os (guard_is e (operand params o) m x.0 h.is x.1.is ∙ t) (sum_ends c s (m + x.0) os (adds a (c_operand params o) e (operand params o) m x.0 h x.1 t) (All-tail (IsOperand params) o os fit))
-        | false ↦ λ t. overflows (record {
+          | true ↦ λ t. sum_more a e o os (guard_is e (operand params o) m x.0 h.is x.1.is ∙ t) (sum_ends c s (m + x.0) os (adds a (c_operand params o) e (operand params o) m x.0 h x.1 t) (All-tail (IsOperand params) o os fit))
+          | false ↦ λ t. overflows (record {
             watched = undefined_sum c (map (c_operand params) os) K.Wrap (computed_is Numbers a (c_operand params o) m x.0 h.watched x.1.watched ∙ watched_wraps (m + x.0) t);
             fails = guard_fails (E.holds layout env m_state (fits s)) (after_guard s os) (guard_is e (operand params o) m x.0 h.is x.1.is ∙ t);
           })
