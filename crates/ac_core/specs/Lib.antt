@@ -3,3 +3,4 @@ pub mod Triple
 pub mod ProgramText
 pub mod Words
 pub mod Code
+pub mod FirstForm
