@@ -10,3 +10,6 @@ mod words;
 
 pub use status::Status;
 pub use top::autocorres;
+
+#[cfg(test)]
+mod tests;
