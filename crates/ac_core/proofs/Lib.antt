@@ -1,2 +1,3 @@
 pub mod Spaced
 pub mod FirstForm
+pub mod Commands

@@ -2,3 +2,4 @@
 #![tactic(auto)]
 
 mod program_text;
+mod words;
