@@ -64,9 +64,12 @@ operand params (Constant number) = NumberLit (pos number)
 abbrev pub fits : Exp → Exp
 fits e = Between (pos 0) e (pos 4294967295)
 
+abbrev pub guard : Exp → Mon
+guard e = Guard (fits e)
+
 abbrev pub guarded_sum : Exp → List Exp → Mon
 guarded_sum a [] = Ret (a ∷ [])
-guarded_sum a (b ∷ bs) = Bind (Guard (fits (Arith Add a b))) [] (guarded_sum (Arith Add a b) bs)
+guarded_sum a (b ∷ bs) = Bind (guard (Arith Add a b)) [] (guarded_sum (Arith Add a b) bs)
 
 abbrev pub body : List Exp → Mon
 body [] = Ret []

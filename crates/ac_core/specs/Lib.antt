@@ -4,3 +4,5 @@ pub mod ProgramText
 pub mod Words
 pub mod Code
 pub mod FirstForm
+pub mod Answer
+pub mod Status

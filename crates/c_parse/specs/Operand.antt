@@ -6,7 +6,7 @@ use Rattle.std.specs.Fmt.{decimal}
 use Rattle.c_parse.specs.declared.operand.Operand.{Operand}
 use Rattle.c_parse.specs.declared.operand.Operand.TheVariants.{Parameter, Constant}
 
--- a number in decimal, and `u`
+-- a number in decimal, and `u`; with a capital `U` it would be no constant of the first form
 abbrev pub decimal_constant : ℕ → List ℕ
 decimal_constant number = decimal number ++ 117 ∷ []
 

@@ -153,6 +153,7 @@ fn are_distinct(names: &[String]) -> bool
 /// `unsigned NAME ( unsigned NAME , .. ) { return OPERAND + .. ; }`, with one parameter or more and
 /// one to sixteen operands. An operand is a parameter, or a decimal constant of 32 bits with the
 /// suffix `u`.
+/// `None` where the text isn't of this form. The only error is want of memory.
 pub fn first_form(alloc: Global, text: &[u8]) -> Result<Option<FirstUnit>, AllocError>
     ensures found { IfOk result (λ answer. IfSome answer (λ unit. IsFirstForm text.now (unit_of unit))) }
 
