@@ -1,10 +1,8 @@
 //! The forms of words that the program takes.
 
-ghost use Rattle.std.specs.Prelude.{◌≡◌, None, Some, IfSome, IfNone, List, map, is_some, string_bytes, nat_eq};
-ghost use Rattle.std.specs.Str.{bytes_eq};
-ghost use Rattle.std.specs.List.{starts_with};
+ghost use Rattle.std.specs.Prelude.{◌≡◌, None, Some, IfSome, IfNone, List, map, is_some, string_bytes, ◌&&◌};
 ghost use Rattle.c_values.specs.Name.{is_among};
-ghost use Rattle.ac_core.specs.Words.{command_of, plain_show, is_option, is_target, has_options, has_files, has_count, is_last_target, is_count, is_digit};
+ghost use Rattle.ac_core.specs.Words.{command_of, plain_show, ilp32_word, lp64_word, is_option, are_options, is_target, has_options, has_files, has_count, is_last_target, is_count};
 
 /// The file of `show FILE`, where the words are of that form and have no option.
 pub(crate) fn shown_file(words: &[String]) -> Option<&str>
@@ -14,7 +12,7 @@ pub(crate) fn shown_file(words: &[String]) -> Option<&str>
     let [command, file] = words else {
         return None;
     };
-    if is(command, "show") {
+    if command.as_str() == "show" {
         Some(file.as_str())
     } else {
         None
@@ -28,19 +26,14 @@ pub(crate) fn is_form(words: &[String]) -> bool
     let Some((command, rest)) = words.split_first() else {
         return false;
     };
-    if is(command, "show") || is(command, "print") || is(command, "translate") {
-        return takes_options(rest);
+    match command.as_str() {
+        "show" | "print" | "translate" => takes_options(rest),
+        "check" => takes_files(rest, 2),
+        "run" | "prove" => takes_files(rest, 3),
+        "sample" => rest.len() == 1 && takes_count(rest),
+        "trial" => takes_count(rest),
+        _ => false,
     }
-    if is(command, "check") {
-        return takes_files(rest, 2);
-    }
-    if is(command, "run") || is(command, "prove") {
-        return takes_files(rest, 3);
-    }
-    if is(command, "sample") {
-        return rest.len() == 1 && takes_count(rest);
-    }
-    is(command, "trial") && takes_count(rest)
 }
 
 // Whether a file and options follow.
@@ -50,8 +43,21 @@ fn takes_options(words: &[String]) -> bool
     let Some((_file, options)) = words.split_first() else {
         return false;
     };
-    options.iter().all(|word| is_option(word))
-        && !(is_among("target=ilp32", options) && is_among("target=lp64", options))
+    are_options(options)
+}
+
+// Whether each word is an option, and no two choose different targets.
+fn are_options(words: &[String]) -> bool
+    ensures { result ≡ are_options (map string_bytes words.now) }
+{
+    !have_both_targets(words) && words.iter().all(|word| is_option(word.as_str()))
+}
+
+// Whether both targets are among the words.
+fn have_both_targets(words: &[String]) -> bool
+    ensures { result ≡ (is_among ilp32_word (map string_bytes words.now) && is_among lp64_word (map string_bytes words.now)) }
+{
+    is_among("target=ilp32", words) && is_among("target=lp64", words)
 }
 
 // Whether so many files follow, and then no word or a target.
@@ -77,7 +83,7 @@ fn is_last_target(words: &[String]) -> bool
 {
     match words {
         [] => true,
-        [word] => is_target(word),
+        [word] => is_target(word.as_str()),
         _ => false,
     }
 }
@@ -89,47 +95,33 @@ fn is_count(word: &[u8]) -> bool
     let Some((first, rest)) = word.split_first() else {
         return false;
     };
-    word.iter().all(|byte| is_digit(*byte)) && word.len() <= 9 && (*first != b'0' || rest.is_empty())
-}
-
-// Whether a byte is a decimal digit.
-fn is_digit(byte: u8) -> bool
-    ensures { result ≡ is_digit byte }
-{
-    b'0' <= byte && byte <= b'9'
-}
-
-// Whether a word is this one.
-fn is(word: &String, other: &str) -> bool
-    ensures { result ≡ bytes_eq (string_bytes word.now) other.now }
-{
-    word.as_str() == other
+    if *first == b'0' {
+        return rest.is_empty();
+    }
+    word.len() <= 9 && word.iter().all(|byte| byte.is_ascii_digit())
 }
 
 // Whether a word is among others.
 fn is_among(word: &str, words: &[String]) -> bool
     ensures { result ≡ is_among word.now (map string_bytes words.now) }
 {
-    words.iter().any(|other| is(other, word))
+    words.iter().any(|other| word == other.as_str())
 }
 
 // Whether a word chooses a target.
-fn is_target(word: &String) -> bool
-    ensures { result ≡ is_target (string_bytes word.now) }
+fn is_target(word: &str) -> bool
+    ensures { result ≡ is_target word.now }
 {
-    is(word, "target=ilp32") || is(word, "target=lp64")
+    matches!(word, "target=ilp32" | "target=lp64")
 }
 
 // Whether a word is an option.
-fn is_option(word: &String) -> bool
-    ensures { result ≡ is_option (string_bytes word.now) }
+#[tactic(auto, using(std::proofs::lemmas::Str::Pattern::starts_text))]
+fn is_option(word: &str) -> bool
+    ensures { result ≡ is_option word.now }
 {
-    begins(word, "bytes=") || begins(word, "words=") || is_target(word)
+    word.starts_with("bytes=") || word.starts_with("words=") || is_target(word)
 }
 
-// Whether a word begins with a text.
-fn begins(word: &String, front: &str) -> bool
-    ensures { result ≡ starts_with nat_eq (string_bytes word.now) front.now }
-{
-    word.as_bytes().starts_with(front.as_bytes())
-}
+#[cfg(test)]
+mod tests;
