@@ -1,7 +1,4 @@
 pub mod Spaced
 pub mod FirstForm
-<<<<<<< HEAD
 pub mod Commands
-=======
 pub mod Complete
->>>>>>> origin/main
