@@ -33,7 +33,7 @@ size_multiple (Scalar t width) h = dvd_refl (width / 8)
 size_multiple (Record x n align fs) h = h.multiple
 size_multiple (Row e n) h = dvd-mul_left_of_dvd (alignment e) (size_multiple e h.element) n
 
-some_bytes : (a : ℕ) → IsAlignment a → 0 < a
+pub some_bytes : (a : ℕ) → IsAlignment a → 0 < a
 some_bytes a h = omega arith
 
 some_product : (m n : ℕ) → 0 < m → 0 < n → 0 < m * n

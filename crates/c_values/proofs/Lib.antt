@@ -1,3 +1,6 @@
 pub mod Formed
 pub mod Leads
 pub mod Geometry
+pub mod Placed
+pub mod Laid
+pub mod Parts
