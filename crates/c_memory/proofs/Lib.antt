@@ -1,0 +1,3 @@
+pub mod Modulus
+pub mod Frame
+pub mod RoundTrip
