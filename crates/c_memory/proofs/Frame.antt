@@ -41,7 +41,7 @@ bytes_frame space a (suc n) v bytes x h =
     ∙ with_byte_other (a % space) (v % 256) bytes x (misses_first space a n x h)
 
 module _ (space : ℕ) (x : ℕ) where
-  elements_frame : (e : Shape) → ((a : ℕ) (v : Value) (bytes : ℕ → ℕ) → Spares space e a x → store space e a v bytes x ≡ bytes x) →
+  pub elements_frame : (e : Shape) → ((a : ℕ) (v : Value) (bytes : ℕ → ℕ) → Spares space e a x → store space e a v bytes x ≡ bytes x) →
       (a n : ℕ) (vs : Values) (bytes : ℕ → ℕ) → ((i : ℕ) → i < n → Spares space e (a + i * size e) x) →
       stored_elements (λ b v bs. store space e b v bs) (size e) a n vs bytes x ≡ bytes x
   elements_frame e one a zero vs bytes h = refl
