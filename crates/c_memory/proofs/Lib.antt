@@ -1,3 +1,6 @@
 pub mod Modulus
+pub mod Objects
 pub mod Frame
 pub mod RoundTrip
+pub mod Loaded
+pub mod Padding

@@ -1,2 +1,4 @@
 //! Memory of bytes with tags, typed heaps, and what reads and writes mean on either.
 #![tactic(auto)]
+
+pub mod memory_laws;
