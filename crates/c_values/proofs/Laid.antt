@@ -4,7 +4,7 @@ use Rattle.std.proofs.lemmas.Bool.{false≢true, true≢false, and_parts, or_par
 use Rattle.std.proofs.lemmas.Slice.Eq.{bytes_eq-Decides}
 use Rattle.c_values.specs.Name.{Name, same_name, with_name, is_among}
 use Rattle.c_values.specs.Types.{Target, Ilp32, Lp64, CType, Integer, Void, Ptr, Struct, Array, IntType, Char, SChar, UChar, Short, UShort, Int, UInt, Long, ULong, LLong, ULLong, width_of, address_width}
-use Rattle.c_values.specs.Layout.{Layout, IsLayout, Shape, Incomplete, Scalar, Record, Row, Fields, no_fields, field, size, alignment, aligned, placed, Member, StructDef, struct_shape, shape_from, shapes_after, shape_of, is_complete, are_complete, are_built, all_members_complete, has_member, is_scalar, scalar_width}
+use Rattle.c_values.specs.Layout.{Layout, IsLayout, Shape, type_of, Incomplete, Scalar, Record, Row, Fields, no_fields, field, size, alignment, aligned, placed, Member, StructDef, struct_shape, shape_from, shapes_after, shape_of, is_complete, are_complete, are_built, all_members_complete, has_member, is_scalar, scalar_width}
 use Rattle.c_values.proofs.Formed.{IsAlignment, IsFormed, AreFormed}
 use Rattle.c_values.proofs.Placed.{struct_formed}
 
@@ -52,17 +52,25 @@ module _ (t : Target) where
     pub formed : IsFormed s
     pub laid : IsLaid structs s
 
+  -- each complete struct is good, and is of the name by which it is found
   abbrev pub AllGood : (Name → Shape) → Type 0
-  AllGood structs = (x : Name) → is_complete (structs x) ≡ true → IsGood structs (structs x)
+  AllGood structs = (x : Name) → is_complete (structs x) ≡ true → IsGood structs (structs x) × (type_of (structs x) ≡ Struct x)
 
   integer_good : (structs : Name → Shape) (i : IntType) → IsGood structs (Scalar (Integer i) (width_of t i))
   integer_good structs i = record { formed = integer_formed t i; laid = record { scalar = refl; wide = refl } }
+
+  pub type_back : (structs : Name → Shape) → AllGood structs → (u : CType) → is_complete (shape_from t structs u) ≡ true → type_of (shape_from t structs u) ≡ u
+  type_back structs all (Integer i) h = refl
+  type_back structs all Void h = refl
+  type_back structs all (Ptr u) h = refl
+  type_back structs all (Struct x) h = (all x h).1
+  type_back structs all (Array u n) h = ap (λ e. Array e n) (type_back structs all u (and_parts _ (is_complete (shape_from t structs u)) h).1)
 
   pub type_good : (structs : Name → Shape) → AllGood structs → (u : CType) → is_complete (shape_from t structs u) ≡ true → IsGood structs (shape_from t structs u)
   type_good structs all (Integer i) h = integer_good structs i
   type_good structs all Void h = absurd (false≢true h)
   type_good structs all (Ptr u) h = record { formed = pointer_formed t u; laid = record { scalar = refl; wide = refl } }
-  type_good structs all (Struct x) h = all x h
+  type_good structs all (Struct x) h = (all x h).0
   type_good structs all (Array u n) h =
       let p = and_parts _ (is_complete (shape_from t structs u)) h in
       let g = type_good structs all u p.1 in
@@ -120,11 +128,13 @@ module _ (t : Target) where
     still_good s g = record { formed = g.formed; laid = kept structs after (keeps structs d.name _ (unknown d.name new)) s g.laid }
 
     good_after : AllGood after
-    good_after x h = by_cases (same_name d.name x) h
+    good_after x h = by_cases (same_name d.name x) refl h
       where
-        by_cases : (b : Bool) → is_complete (cond b (struct_shape (shape_from t structs) d) (structs x)) ≡ true → IsGood after (cond b (struct_shape (shape_from t structs) d) (structs x))
-        by_cases true h' = struct_good
-        by_cases false h' = still_good (structs x) (all x h')
+        found : Bool → Shape
+        found b = cond b (struct_shape (shape_from t structs) d) (structs x)
+        by_cases : (b : Bool) → same_name d.name x ≡ b → is_complete (found b) ≡ true → IsGood after (found b) × (type_of (found b) ≡ Struct x)
+        by_cases true e h' = (struct_good, ap (λ y. Struct y) (name_is d.name x e))
+        by_cases false e h' = let g = all x h' in (still_good (structs x) g.0, g.1)
 
     unknown_after : OthersUnknown after (d.name ∷ names)
     unknown_after x h =
@@ -151,3 +161,6 @@ layout_good l h = all_good l.target (λ x. Incomplete) [] l.structs (λ x c. abs
 -- the shape of a complete type
 pub shape_good : (l : Layout) → IsLayout l → (u : CType) → is_complete (shape_of l u) ≡ true → IsGood l.target (structs_of l) (shape_of l u)
 shape_good l h u c = type_good l.target (structs_of l) (layout_good l h) u c
+
+pub shape_type : (l : Layout) → IsLayout l → (u : CType) → is_complete (shape_of l u) ≡ true → type_of (shape_of l u) ≡ u
+shape_type l h u c = type_back l.target (structs_of l) (layout_good l h) u c

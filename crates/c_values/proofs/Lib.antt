@@ -4,3 +4,5 @@ pub mod Geometry
 pub mod Placed
 pub mod Laid
 pub mod Parts
+pub mod SameType
+pub mod Height
