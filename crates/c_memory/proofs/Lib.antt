@@ -4,3 +4,5 @@ pub mod Frame
 pub mod RoundTrip
 pub mod Loaded
 pub mod Padding
+pub mod Roots
+pub mod OnePath

@@ -23,7 +23,7 @@ mutual
   members_complete (field offset s fs) align n at h = and_from (is_complete s) (are_complete fs) (formed_complete s h.first) (members_complete fs align n (offset + size s) h.others)
 
 module _ (t : Target) (structs : Name → Shape) where
-  nth_laid : {k at : ℕ} {s : Shape} {fs : Fields} → AreLaid t structs fs → IsNth fs k at s → IsLaid t structs s
+  pub nth_laid : {k at : ℕ} {s : Shape} {fs : Fields} → AreLaid t structs fs → IsNth fs k at s → IsLaid t structs s
   nth_laid h first = h.first
   nth_laid h (next m) = nth_laid h.others m
 
