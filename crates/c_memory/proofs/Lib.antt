@@ -6,3 +6,4 @@ pub mod Loaded
 pub mod Padding
 pub mod Roots
 pub mod OnePath
+pub mod Covered
