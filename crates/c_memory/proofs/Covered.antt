@@ -14,7 +14,7 @@ use Rattle.c_values.proofs.Parts.{leads_laid, laid_shape}
 use Rattle.c_memory.specs.Memory.{Tag}
 use Rattle.c_memory.specs.Tags.{is_root_type, is_pointer_ok, IsTag, AreApart, ApartFrom, AreTags, IsPart, root_path, path_from, is_covered}
 use Rattle.c_memory.proofs.Objects.{object_complete}
-use Rattle.c_memory.proofs.Roots.{Finds, found_part, Reaches, part_reached}
+use Rattle.c_memory.proofs.Roots.{Finds, found_part, found_leads, Reaches, part_reached}
 use Rattle.c_memory.proofs.OnePath.{leads_found}
 
 none_some : {A : Type 0} {a : A} → ◌≡◌ {A = Option A} None (Some a) → ⊥
@@ -64,7 +64,7 @@ pointer_from l t a h =
     (le-leb (a + size_of l t) (space l) h.fits)
 
 module _ (l : Layout) (h : IsLayout l) where
-  tag_good : (u : Tag) → IsTag l u → IsGood l.target (structs_of l) (shape_of l u.type)
+  pub tag_good : (u : Tag) → IsTag l u → IsGood l.target (structs_of l) (shape_of l u.type)
   tag_good u i = shape_good l h u.type (object_complete l u.type i.object)
 
   pub root_of : (u : Tag) (t : CType) (a : ℕ) (path : List Step) → IsTag l u → path_from l u t a ≡ Some path → IsRoot l u t a path
@@ -73,8 +73,7 @@ module _ (l : Layout) (h : IsLayout l) where
       let at = a - u.address in
       let f = found_part (shape_of l u.type) t at path p.1 in
       let g = tag_good u i in
-      let own : f.end ≡ shape_of l t = sym (laid_shape l.target (structs_of l) f.end (leads_laid l.target (structs_of l) g.laid f.leads)) ∙ ap (shape_of l) f.type in
-      let leads = subst (λ s. Leads (shape_of l u.type) path at s) own f.leads in
+      let leads = found_leads l u.type t at path h (object_complete l u.type i.object) p.1 in
       record { at = at; address = omega (arith, p.0); leads = leads; within = leads_within g.formed leads; part = f.part }
 
   -- each part of a tag's object is a root of it

@@ -4,12 +4,12 @@ use Rattle.std.proofs.lemmas.Bool.{false≢true, true≢false, and_parts, and_fr
 use Rattle.std.proofs.lemmas.Nat.{div-mul-add, mod-mul-add}
 use Rattle.c_values.specs.Name.{Name}
 use Rattle.c_values.specs.Types.{CType, Integer, Void, Ptr, Struct, Array, Target, same_type}
-use Rattle.c_values.specs.Layout.{Layout, Shape, Incomplete, Scalar, Record, Row, Fields, no_fields, field, size, type_of, is_scalar}
+use Rattle.c_values.specs.Layout.{Layout, IsLayout, shape_of, is_complete, Shape, Incomplete, Scalar, Record, Row, Fields, no_fields, field, size, type_of, is_scalar}
 use Rattle.c_values.specs.Path.{Step, Field, Index}
 use Rattle.c_values.proofs.Formed.{IsFormed, AreFormed, size_some}
 use Rattle.c_values.proofs.Leads.{IsNth, first, next, Leads, ends, by_member, by_element}
 use Rattle.c_values.proofs.Geometry.{IsWithin, nth_within, leads_within}
-use Rattle.c_values.proofs.Laid.{IsLaid, AreLaid}
+use Rattle.c_values.proofs.Laid.{IsLaid, AreLaid, structs_of, shape_good}
 use Rattle.c_values.proofs.Parts.{nth_laid, leads_laid, laid_shape}
 use Rattle.c_values.proofs.SameType.{type_is, same_type-refl}
 use Rattle.c_values.proofs.Height.{height, nth_lower, leads_lower}
@@ -98,6 +98,13 @@ mutual
   found_member : (fs : Fields) (k : ℕ) (t : CType) (d : ℕ) (ps : List Step) → member_path fs k t d ≡ Some ps → FindsMember fs k t d ps
   found_member no_fields k t d ps h = absurd (none_some h)
   found_member (field at s fs) k t d ps h = this_member at s fs k t d ps (λ c qs e. found_part s t c qs e) (λ e. found_member fs (suc k) t d ps e) (nat_le at d && nat_lt d (at + size s)) refl h
+
+-- what is found has the shape of its type
+pub found_leads : (l : Layout) (u t : CType) (d : ℕ) (ps : List Step) → IsLayout l → is_complete (shape_of l u) ≡ true → root_path (shape_of l u) t d ≡ Some ps → Leads (shape_of l u) ps d (shape_of l t)
+found_leads l u t d ps h complete e =
+    let f = found_part (shape_of l u) t d ps e in
+    let laid = leads_laid l.target (structs_of l) (shape_good l h u complete).laid f.leads in
+    subst (λ s. Leads (shape_of l u) ps d s) (sym (laid_shape l.target (structs_of l) f.end laid) ∙ ap (shape_of l) f.type) f.leads
 
 -- a part of a root type, at the end of a path
 pub record Reaches (s : Shape) (t : CType) (d : ℕ) : Type 0 where

@@ -2,3 +2,4 @@
 #![tactic(auto)]
 
 pub mod memory_laws;
+pub mod tag_laws;
