@@ -7,3 +7,5 @@ pub mod Padding
 pub mod Roots
 pub mod OnePath
 pub mod Covered
+pub mod LoadedParts
+pub mod StoredParts

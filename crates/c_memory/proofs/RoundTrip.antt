@@ -34,7 +34,7 @@ little_endian_same space bytes bytes' a (suc n) h =
     ap₂ (λ b r. b + 256 * r) (agree_first space a n bytes bytes' h) (little_endian_same space bytes bytes' (a + 1) n (agree_later space a n bytes bytes' h))
 
 module _ (space : ℕ) (bytes bytes' : ℕ → ℕ) where
-  elements_same : (e : Shape) → ((a : ℕ) → AgreeOn space a (size e) bytes bytes' → load space bytes e a ≡ load space bytes' e a) → (a n : ℕ) →
+  pub elements_same : (e : Shape) → ((a : ℕ) → AgreeOn space a (size e) bytes bytes' → load space bytes e a ≡ load space bytes' e a) → (a n : ℕ) →
       AgreeOn space a (n * size e) bytes bytes' → loaded_elements (λ b. load space bytes e b) (size e) a n ≡ loaded_elements (λ b. load space bytes' e b) (size e) a n
   elements_same e one a zero h = refl
   elements_same e one a (suc n) h =
@@ -52,15 +52,16 @@ module _ (space : ℕ) (bytes bytes' : ℕ → ℕ) where
     pub load_same : (s : Shape) (a : ℕ) → IsFormed s → AgreeOn space a (size s) bytes bytes' → load space bytes s a ≡ load space bytes' s a
     load_same Incomplete a f h = refl
     load_same (Scalar t width) a f h = ap (λ n. Bits (record { width = width; bits = n })) (little_endian_same space bytes bytes' a (width / 8) h)
-    load_same (Record x n align fs) a f h = ap (λ vs. Parts vs) (members_same fs align n 0 a f.members h)
+    load_same (Record x n align fs) a f h = ap (λ vs. Parts vs) (members_same fs align n 0 a f.members (λ i from lt. h i lt))
     load_same (Row e n) a f h = ap (λ vs. Parts vs) (elements_same e (λ b k. load_same e b f.element k) a n h)
 
-    members_same : (fs : Fields) (align n at a : ℕ) → AreFormed align n at fs → AgreeOn space a n bytes bytes' → loaded_members space bytes fs a ≡ loaded_members space bytes' fs a
+    pub members_same : (fs : Fields) (align n at a : ℕ) → AreFormed align n at fs → ((i : ℕ) → at ≤ i → i < n → bytes ((a + i) % space) ≡ bytes' ((a + i) % space)) → loaded_members space bytes fs a ≡ loaded_members space bytes' fs a
     members_same no_fields align n at a f h = refl
     members_same (field offset s fs) align n at a f h =
+        let end : offset + size s ≤ n = members_end align n (offset + size s) fs f.others in
         ap₂ (λ v vs. more v vs)
-        (load_same s (a + offset) f.first (agree_within space a offset n (size s) bytes bytes' h (members_end align n (offset + size s) fs f.others)))
-        (members_same fs align n (offset + size s) a f.others h)
+        (load_same s (a + offset) f.first (λ i lt. subst (λ b. bytes (b % space) ≡ bytes' (b % space)) (sym (add_assoc a offset i)) (h (offset + i) (omega (arith, f.after)) (omega (arith, end, lt)))))
+        (members_same fs align n (offset + size s) a f.others (λ i from lt. h i (omega (arith, f.after, from)) lt))
 
 first_byte : (space a n v : ℕ) (bytes : ℕ → ℕ) → suc n ≤ space → with_bytes space a (suc n) v bytes (a % space) ≡ v % 256
 first_byte space a n v bytes fit =

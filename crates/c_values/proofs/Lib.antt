@@ -6,3 +6,4 @@ pub mod Laid
 pub mod Parts
 pub mod SameType
 pub mod Height
+pub mod Shaped
