@@ -37,15 +37,15 @@ path_parts l u t a path h = by_cases (nat_le u.address a) refl h
     by_cases false e k = absurd (none_some k)
 
 -- where a pointer may point
-record MayPoint (l : Layout) (t : CType) (a : ℕ) : Type 0 where
-  aligned : align_of l t ∣ a
-  some : 0 < a
-  fits : a + size_of l t ≤ space l
+pub record MayPoint (l : Layout) (t : CType) (a : ℕ) : Type 0 where
+  pub aligned : align_of l t ∣ a
+  pub some : 0 < a
+  pub fits : a + size_of l t ≤ space l
 
 positive : (a : ℕ) → (a ≡ 0 → ⊥) → 0 < a
 positive a h = omega arith
 
-pointer_parts : (l : Layout) (t : CType) (a : ℕ) → is_pointer_ok l t a ≡ true → MayPoint l t a
+pub pointer_parts : (l : Layout) (t : CType) (a : ℕ) → is_pointer_ok l t a ≡ true → MayPoint l t a
 pointer_parts l t a h =
     let p = and_parts (nat_eq (a % align_of l t) 0 && not (nat_eq a 0)) (nat_le (a + size_of l t) (space l)) h in
     let q = and_parts (nat_eq (a % align_of l t) 0) (not (nat_eq a 0)) p.0 in
@@ -150,7 +150,7 @@ tag_covers l (v ∷ vs) t a u path c e = by_cases (λ d. tag_covers l vs t a u p
     by_cases rest (inl same) = or_left (is_some (path_from l v t a)) (is_covered l vs t a) (ap is_some (ap (λ x. path_from l x t a) same ∙ e))
     by_cases rest (inr d) = or_right (is_some (path_from l v t a)) (is_covered l vs t a) (rest d)
 
-apart_from : (l : Layout) (t : Tag) (us : List Tag) (v : Tag) → ApartFrom l t us → Contains us v → AreApart l t v
+pub apart_from : (l : Layout) (t : Tag) (us : List Tag) (v : Tag) → ApartFrom l t us → Contains us v → AreApart l t v
 apart_from l t [] v h c = absurd (contains_nothing v c)
 apart_from l t (u ∷ us) v h c = elim (contains_cases u us v c) [ inl e ↦ subst (λ x. AreApart l t x) e h.0 | inr d ↦ apart_from l t us v h.1 d ]
 

@@ -9,3 +9,4 @@ pub mod OnePath
 pub mod Covered
 pub mod LoadedParts
 pub mod StoredParts
+pub mod Views

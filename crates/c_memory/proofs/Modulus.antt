@@ -1,5 +1,5 @@
 -- Addresses modulo the space: bytes of one object are at different addresses.
-use Rattle.std.proofs.Common.{◌≡◌, ◌≢◌, ℕ, suc, ◌+◌, ◌-◌, ◌*◌, ◌/◌, ◌%◌, ◌<◌, ◌≤◌, ◌⊎◌, inl, inr, refl, sym, ap, ◌∙◌, subst, mul-le-mul_left, arith}
+use Rattle.std.proofs.Common.{◌≡◌, ◌≢◌, ℕ, suc, ◌+◌, ◌-◌, ◌*◌, ◌/◌, ◌%◌, ◌<◌, ◌≤◌, ◌⊎◌, inl, inr, refl, sym, ap, ◌∙◌, subst, mul-le-mul_left, mod-eq_of_lt, arith}
 use Rattle.std.proofs.Math.Nat.{div-add-mod, mod-lt}
 use Rattle.std.proofs.lemmas.Bool.{cases_order}
 
@@ -21,3 +21,10 @@ pub apart_addresses : (space a i j : ℕ) → i < j → j < space → (a + i) % 
 apart_addresses space a i j lt less h =
     let e : a + j ≡ (a + i) + (j - i) = omega arith in
     later_address space (a + i) (j - i) (omega arith) (omega arith) (h ∙ ap (λ x. x % space) e)
+
+-- addresses in the space
+pub apart_plain : (space x y : ℕ) → x < y → y < space → x % space ≡ y % space → ⊥
+apart_plain space x y lt less h =
+    let left : x % space ≡ x = mod-eq_of_lt (omega arith) in
+    let right : y % space ≡ y = mod-eq_of_lt less in
+    omega arith
