@@ -10,3 +10,4 @@ pub mod Covered
 pub mod LoadedParts
 pub mod StoredParts
 pub mod Views
+pub mod Cells

@@ -3,3 +3,4 @@
 
 pub mod memory_laws;
 pub mod tag_laws;
+pub mod heap_laws;
