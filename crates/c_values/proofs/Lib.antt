@@ -7,3 +7,4 @@ pub mod Parts
 pub mod SameType
 pub mod Height
 pub mod Shaped
+pub mod Replaced

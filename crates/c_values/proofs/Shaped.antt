@@ -7,13 +7,13 @@ use Rattle.c_values.specs.Layout.{Shape, Incomplete, Scalar, Record, Row, Fields
 use Rattle.c_values.specs.Path.{Step, Field, Index, place_of, with_changed, sel, upd, HasShape, AreMembers, AreElements}
 use Rattle.c_values.proofs.Leads.{IsNth, first, next, Leads, ends, by_member, by_element}
 
-members_count : {k at : ℕ} {s : Shape} {fs : Fields} (vs : Values) → AreMembers fs vs → IsNth fs k at s → k < count vs
+pub members_count : {k at : ℕ} {s : Shape} {fs : Fields} (vs : Values) → AreMembers fs vs → IsNth fs k at s → k < count vs
 members_count no_values h first = absurd h
 members_count no_values h (next m) = absurd h
 members_count (more v vs) h first = omega arith
 members_count (more v vs) h (next m) = let r = members_count vs h.1 m in omega (arith, r)
 
-member_shaped : {k at : ℕ} {s : Shape} {fs : Fields} (vs : Values) → AreMembers fs vs → IsNth fs k at s → HasShape s (part vs k)
+pub member_shaped : {k at : ℕ} {s : Shape} {fs : Fields} (vs : Values) → AreMembers fs vs → IsNth fs k at s → HasShape s (part vs k)
 member_shaped no_values h first = absurd h
 member_shaped no_values h (next m) = absurd h
 member_shaped (more v vs) h first = h.0
@@ -25,13 +25,13 @@ member_replaced no_values w h (next m) new = absurd h
 member_replaced (more v vs) w h first new = (new, h.1)
 member_replaced (more v vs) w h (next m) new = (h.0, member_replaced vs w h.1 m new)
 
-elements_count : (P : Value → Type 0) (n : ℕ) (vs : Values) → AreElements P n vs → count vs ≡ n
+pub elements_count : (P : Value → Type 0) (n : ℕ) (vs : Values) → AreElements P n vs → count vs ≡ n
 elements_count P zero no_values h = refl
 elements_count P zero (more v vs) h = absurd h
 elements_count P (suc n) no_values h = absurd h
 elements_count P (suc n) (more v vs) h = ap suc (elements_count P n vs h.1)
 
-element_shaped : (P : Value → Type 0) (n i : ℕ) (vs : Values) → AreElements P n vs → i < n → P (part vs i)
+pub element_shaped : (P : Value → Type 0) (n i : ℕ) (vs : Values) → AreElements P n vs → i < n → P (part vs i)
 element_shaped P zero i vs h lt = absurd (omega arith)
 element_shaped P (suc n) i no_values h lt = absurd h
 element_shaped P (suc n) zero (more v vs) h lt = h.0
@@ -44,27 +44,27 @@ element_replaced P (suc n) i no_values w h new = absurd h
 element_replaced P (suc n) zero (more v vs) w h new = (new, h.1)
 element_replaced P (suc n) (suc i) (more v vs) w h new = (h.0, element_replaced P n i vs w h.1 new)
 
-part_replaced : (vs : Values) (k : ℕ) (w : Value) → k < count vs → part (with_part vs k w) k ≡ w
+pub part_replaced : (vs : Values) (k : ℕ) (w : Value) → k < count vs → part (with_part vs k w) k ≡ w
 part_replaced no_values k w lt = absurd (omega arith)
 part_replaced (more v vs) zero w lt = refl
 part_replaced (more v vs) (suc k) w lt = part_replaced vs k w (omega arith)
 
-count_replaced : (vs : Values) (k : ℕ) (w : Value) → count (with_part vs k w) ≡ count vs
+pub count_replaced : (vs : Values) (k : ℕ) (w : Value) → count (with_part vs k w) ≡ count vs
 count_replaced no_values k w = refl
 count_replaced (more v vs) zero w = refl
 count_replaced (more v vs) (suc k) w = ap suc (count_replaced vs k w)
 
-placed_field : (k n : ℕ) → k < n → place_of (Field k) n ≡ Some k
+pub placed_field : (k n : ℕ) → k < n → place_of (Field k) n ≡ Some k
 placed_field k n lt = cond-true (nat_lt k n) (Some k) None (lt-ltb k n lt)
 
-placed_index : (i n : ℕ) → i < n → place_of (Index (pos i)) n ≡ Some i
+pub placed_index : (i n : ℕ) → i < n → place_of (Index (pos i)) n ≡ Some i
 placed_index i n lt = cond-true (nat_lt i n) (Some i) None (lt-ltb i n lt)
 
 -- one step into parts, where it is one
-sel_step : (vs : Values) (p : Step) (ps : List Step) (k : ℕ) → place_of p (count vs) ≡ Some k → sel (Parts vs) (p ∷ ps) ≡ sel (part vs k) ps
+pub sel_step : (vs : Values) (p : Step) (ps : List Step) (k : ℕ) → place_of p (count vs) ≡ Some k → sel (Parts vs) (p ∷ ps) ≡ sel (part vs k) ps
 sel_step vs p ps k e = ap (λ o. sel (part vs (unwrap_or o 0)) ps) e
 
-upd_step : (vs : Values) (p : Step) (ps : List Step) (w : Value) (k : ℕ) → place_of p (count vs) ≡ Some k → upd (Parts vs) (p ∷ ps) w ≡ Parts (with_part vs k (upd (part vs k) ps w))
+pub upd_step : (vs : Values) (p : Step) (ps : List Step) (w : Value) (k : ℕ) → place_of p (count vs) ≡ Some k → upd (Parts vs) (p ∷ ps) w ≡ Parts (with_part vs k (upd (part vs k) ps w))
 upd_step vs p ps w k e = ap (λ o. Parts (with_changed vs o (λ v. upd v ps w))) e
 
 pub upd_shaped : {s s' : Shape} {ps : List Step} {d : ℕ} (u v : Value) → HasShape s u → HasShape s' v → Leads s ps d s' → HasShape s (upd u ps v)
