@@ -11,3 +11,6 @@ pub mod LoadedParts
 pub mod StoredParts
 pub mod Views
 pub mod Cells
+pub mod Places
+pub mod Elsewhere
+pub mod Wrapped
