@@ -1,17 +1,17 @@
 -- Writes to typed heaps keep the tags, and each value of its tag's shape.
-use Rattle.std.proofs.Common.{◌≡◌, Bool, true, List, [], ◌∷◌, ◌++◌, map, Option, Some, None, refl, sym, ap, ap₂, ◌∙◌, subst, ℕ}
+use Rattle.std.proofs.Common.{◌≡◌, true, List, [], ◌∷◌, map, Option, Some, None, refl, ap, ℕ}
 use Rattle.c_values.specs.Types.{CType}
 use Rattle.c_values.specs.Value.{Value}
 use Rattle.c_values.specs.Layout.{Layout, IsLayout, shape_of, space}
 use Rattle.c_values.specs.Path.{Step, Spot, spot, in_range, HasShape}
 use Rattle.c_values.proofs.Shaped.{upd_shaped}
 use Rattle.c_memory.specs.Memory.{Tag, AreBytes}
-use Rattle.c_memory.specs.Tags.{IsTag, AreTags, path_from}
-use Rattle.c_memory.specs.TypedHeap.{Cell, TypedHeap, tags_of, with_cell_part, write_cells}
+use Rattle.c_memory.specs.Tags.{AreTags, path_from}
+use Rattle.c_memory.specs.TypedHeap.{TypedHeap, tags_of, with_cell_part, write_cells}
 use Rattle.c_memory.specs.Heap.{CellsFit}
 use Rattle.c_memory.proofs.Covered.{tag_good}
 use Rattle.c_memory.proofs.Loaded.{load_shaped}
-use Rattle.c_memory.proofs.Views.{cell_at, IsPlaceIn, place_in}
+use Rattle.c_memory.proofs.Views.{cell_at, place_in}
 
 pub tags_written : (l : Layout) (cells : TypedHeap) (t : CType) (a : ℕ) (path : List Step) (v : Value) → tags_of (write_cells l cells t a path v) ≡ tags_of cells
 tags_written l [] t a path v = refl

@@ -1,20 +1,19 @@
 -- Covered roots: each has one tag, lies within it and is where a pointer may point.
-use Rattle.std.proofs.Common.{◌≡◌, ◌≢◌, ℕ, zero, suc, ◌+◌, ◌-◌, ◌*◌, ◌%◌, ◌<◌, ◌≤◌, nat_eq, nat_lt, nat_le, ◌⊎◌, inl, inr, Bool, true, false, not, ◌&&◌, ◌||◌, cond, List, [], ◌∷◌, Option, Some, None, is_some, Contains, length, refl, sym, ap, ap₂, ◌∙◌, subst, arith, leb-true, le-leb, eqb-true, eq-eqb}
+use Rattle.std.proofs.Common.{◌≡◌, ℕ, zero, suc, ◌+◌, ◌-◌, ◌%◌, ◌<◌, ◌≤◌, nat_eq, nat_le, ◌⊎◌, inl, inr, Bool, true, false, not, ◌&&◌, ◌||◌, cond, List, [], ◌∷◌, Option, Some, None, is_some, Contains, refl, sym, ap, ap₂, ◌∙◌, subst, arith, leb-true, le-leb, eqb-true, eq-eqb}
 use Rattle.std.proofs.Math.Nat.{dvd_trans, dvd-add, mod-eq-zero_of_dvd, dvd_of_mod-eq-zero}
 use Prim.Native.Nat.{◌∣◌}
-use Rattle.std.proofs.lemmas.Bool.{false≢true, and_parts, and_from, or_cases, or_left, or_right, cond-true, not-true, not_from_false, ne_eqb, eqb-false}
+use Rattle.std.proofs.lemmas.Bool.{false≢true, and_parts, and_from, or_left, or_right, cond-true, not-true, not_from_false, ne_eqb, eqb-false}
 use Rattle.c_values.specs.Types.{CType}
-use Rattle.c_values.specs.Layout.{Layout, IsLayout, Shape, size, alignment, type_of, shape_of, size_of, align_of, space}
+use Rattle.c_values.specs.Layout.{Layout, IsLayout, shape_of, size_of, align_of, space}
 use Rattle.c_values.specs.Path.{Step}
 use Rattle.c_values.proofs.Formed.{size_some}
 use Rattle.c_values.proofs.Leads.{Leads}
 use Rattle.c_values.proofs.Geometry.{IsWithin, leads_within}
-use Rattle.c_values.proofs.Laid.{IsGood, structs_of, shape_good, shape_type}
-use Rattle.c_values.proofs.Parts.{leads_laid, laid_shape}
+use Rattle.c_values.proofs.Laid.{IsGood, structs_of, shape_good}
 use Rattle.c_memory.specs.Memory.{Tag}
 use Rattle.c_memory.specs.Tags.{is_root_type, is_pointer_ok, IsTag, AreApart, ApartFrom, AreTags, IsPart, root_path, path_from, is_covered}
 use Rattle.c_memory.proofs.Objects.{object_complete}
-use Rattle.c_memory.proofs.Roots.{Finds, found_part, found_leads, Reaches, part_reached}
+use Rattle.c_memory.proofs.Roots.{found_part, found_leads, part_reached}
 use Rattle.c_memory.proofs.OnePath.{leads_found}
 
 none_some : {A : Type 0} {a : A} → ◌≡◌ {A = Option A} None (Some a) → ⊥
@@ -81,10 +80,11 @@ module _ (l : Layout) (h : IsLayout l) where
   part_path u t d i p =
       let g = tag_good u i in
       let r = part_reached l.target (structs_of l) g.laid p in
-      let found = leads_found l.target (structs_of l) g.formed g.laid r.leads (ap is_root_type r.type ∙ r.root) in
-      (r.path,
-      cond-true (nat_le u.address (u.address + d)) _ None (le-leb u.address (u.address + d) (omega arith))
-      ∙ ap₂ (λ v c. root_path (shape_of l u.type) v c) (sym r.type) (back u.address d) ∙ found)
+      let found = leads_found l.target (structs_of l) g.formed g.laid r.leads (ap is_root_type r.type ∙ r.root) in (
+        r.path,
+        cond-true (nat_le u.address (u.address + d)) _ None (le-leb u.address (u.address + d) (omega arith))
+            ∙ ap₂ (λ v c. root_path (shape_of l u.type) v c) (sym r.type) (back u.address d) ∙ found,
+      )
     where
       back : (a d : ℕ) → a + d - a ≡ d
       back a d = omega arith
@@ -136,8 +136,10 @@ covered_tag l (u ∷ us) t a h = by_cases (λ k. covered_tag l us t a k) (path_f
   where
     Found : List Tag → Type 0
     Found ts = (v : Tag) × Contains ts v × (path : List Step) × (path_from l v t a ≡ Some path)
+
     later : Found us → Found (u ∷ us)
     later (v, c, path, e) = (v, contains_later u us v c, path, e)
+
     by_cases : (is_covered l us t a ≡ true → Found us) → (o : Option (List Step)) → path_from l u t a ≡ o → (is_some o || is_covered l us t a) ≡ true → Found (u ∷ us)
     by_cases rest (Some path) e k = (u, contains_first u us, path, e)
     by_cases rest None e k = later (rest k)
@@ -165,8 +167,10 @@ one_tag l (w ∷ ws) u v t a p q h tags c d e f = by_cases (λ x y. one_tag l ws
   where
     root : (x : Tag) (r : List Step) → Contains (w ∷ ws) x → path_from l x t a ≡ Some r → (x.address ≤ a) × (a < x.address + size_of l x.type)
     root x r k g = root_within l h x t a r (tag_among l (w ∷ ws) x tags k) g
+
     clash : (x y : Tag) (r s : List Step) → w ≡ x → Contains ws y → Contains (w ∷ ws) x → Contains (w ∷ ws) y → path_from l x t a ≡ Some r → path_from l y t a ≡ Some s → ⊥
     clash x y r s same k i j g g' = apart_at l x y a (subst (λ z. AreApart l z y) same (apart_from l w ws y tags.1 k)) (root x r i g) (root y s j g')
+
     by_cases : (Contains ws u → Contains ws v → u ≡ v) → (w ≡ u) ⊎ Contains ws u → (w ≡ v) ⊎ Contains ws v → u ≡ v
     by_cases rest (inl x) (inl y) = sym x ∙ y
     by_cases rest (inl x) (inr y) = absurd (clash u v p q x y c d e f)

@@ -1,20 +1,20 @@
 -- A read gives what it gave before a write to a place apart, on either heap.
-use Rattle.std.proofs.Common.{◌≡◌, ◌≢◌, ℕ, ◌+◌, ◌%◌, ◌<◌, ◌≤◌, ◌⊎◌, inl, inr, Bool, true, List, [], ◌∷◌, ◌++◌, Option, Some, None, refl, sym, ap, ◌∙◌, subst₂, arith}
+use Rattle.std.proofs.Common.{◌≡◌, ℕ, ◌+◌, ◌%◌, ◌<◌, inl, inr, true, List, [], ◌∷◌, ◌++◌, Option, Some, None, refl, sym, ap, ◌∙◌, arith}
 use Rattle.c_values.specs.Types.{CType}
 use Rattle.c_values.specs.Value.{Value}
-use Rattle.c_values.specs.Layout.{Layout, IsLayout, size, shape_of, size_of, space}
-use Rattle.c_values.specs.Path.{Step, Spot, spot, in_range, sel, upd}
+use Rattle.c_values.specs.Layout.{Layout, IsLayout, size, shape_of, space}
+use Rattle.c_values.specs.Path.{Step, Spot, spot, in_range, upd}
 use Rattle.c_values.proofs.Geometry.{AreApart}
 use Rattle.c_values.proofs.Replaced.{sel_upd_apart}
 use Rattle.c_memory.specs.Memory.{load, load_at, store, store_at}
-use Rattle.c_memory.specs.Tags.{IsTag, AreTags, path_from}
+use Rattle.c_memory.specs.Tags.{AreTags, path_from}
 use Rattle.c_memory.specs.TypedHeap.{Cell, TypedHeap, tags_of, cell_part, read_cells, with_cell_part, write_cells}
 use Rattle.c_memory.specs.Heap.{CellsFit}
 use Rattle.c_memory.proofs.Modulus.{apart_plain}
 use Rattle.c_memory.proofs.Covered.{tag_good}
 use Rattle.c_memory.proofs.Frame.{store_frame, spares}
 use Rattle.c_memory.proofs.RoundTrip.{load_same}
-use Rattle.c_memory.proofs.Views.{IsPlaceIn, place_in, address, load_here, store_here}
+use Rattle.c_memory.proofs.Views.{place_in, address, load_here, store_here}
 use Rattle.c_memory.proofs.Places.{IsInSpace}
 
 module _ (l : Layout) (h : IsLayout l) (t u : CType) (a b : ℕ) (path other : List Step) (q r : Spot)
@@ -49,8 +49,10 @@ module _ (l : Layout) (h : IsLayout l) (t u : CType) (a b : ℕ) (path other : L
     where
       after : TypedHeap
       after = write_cells l cs t a path v
+
       changed : List Step → Cell
       changed root = record { tag = c.tag; value = upd c.value (root ++ path) v }
+
       by_cases : read_cells l after u b other ≡ read_cells l cs u b other → (o : Option (List Step)) → path_from l c.tag t a ≡ o → (o' : Option (List Step)) → path_from l c.tag u b ≡ o' →
           read_cells l (with_cell_part c o path v cs after) u b other ≡ read_cells l (c ∷ cs) u b other
       by_cases rest None e o' e' = ap (λ w. cell_part c (path_from l c.tag u b) other w) rest

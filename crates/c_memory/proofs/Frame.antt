@@ -1,5 +1,5 @@
 -- What a store leaves as it was.
-use Rattle.std.proofs.Common.{◌≡◌, ◌≢◌, ℕ, zero, suc, ◌+◌, ◌*◌, ◌/◌, ◌%◌, ◌<◌, ◌≤◌, nat_eq, Bool, true, false, List, refl, sym, ap, ◌∙◌, subst, cond, arith, add-zero, add-suc, add_assoc, add-one}
+use Rattle.std.proofs.Common.{◌≡◌, ◌≢◌, ℕ, zero, suc, ◌+◌, ◌*◌, ◌/◌, ◌%◌, ◌<◌, ◌≤◌, nat_eq, refl, sym, ap, ◌∙◌, subst, arith, add-zero, add_assoc}
 use Rattle.std.proofs.lemmas.Bool.{cond-false, ne_eqb}
 use Rattle.c_values.specs.Value.{Value, Values, Bits, Number, Truth, Parts, no_values, more}
 use Rattle.c_values.specs.Layout.{Shape, Incomplete, Scalar, Record, Row, Fields, no_fields, field, size}
@@ -52,6 +52,7 @@ module _ (space : ℕ) (x : ℕ) where
     where
       moved : (a i step : ℕ) → a + suc i * step ≡ a + step + i * step
       moved a i step = omega arith
+
       first : (a step : ℕ) → a + 0 * step ≡ a
       first a step = omega arith
 
@@ -94,6 +95,7 @@ module _ (space : ℕ) (x : ℕ) where
     pub all_spare : (fs : Fields) (align n at a : ℕ) → AreFormed align n at fs → ((j : ℕ) → at ≤ j → j < n → (a + j) % space ≢ x) → AllSpare space fs a x
     all_spare no_fields align n at a f h = tt
     all_spare (field offset s fs) align n at a f h =
-        let end : offset + size s ≤ n = members_end align n (offset + size s) fs f.others in
-        (spares s (a + offset) f.first (λ i lt e. h (offset + i) (omega (arith, f.after)) (omega (arith, lt, end)) (ap (λ b. b % space) (sym (add_assoc a offset i)) ∙ e)),
-        all_spare fs align n (offset + size s) a f.others (λ j from lt. h j (omega (arith, f.after)) lt))
+        let end : offset + size s ≤ n = members_end align n (offset + size s) fs f.others in (
+          spares s (a + offset) f.first (λ i lt e. h (offset + i) (omega (arith, f.after)) (omega (arith, lt, end)) (ap (λ b. b % space) (sym (add_assoc a offset i)) ∙ e)),
+          all_spare fs align n (offset + size s) a f.others (λ j from lt. h j (omega (arith, f.after)) lt),
+        )

@@ -1,9 +1,8 @@
 -- What is loaded has its shape, and to store it back changes nothing.
-use Rattle.std.proofs.Common.{◌≡◌, ◌≢◌, ℕ, zero, suc, ◌+◌, ◌*◌, ◌/◌, ◌%◌, ◌^◌, ◌<◌, ◌≤◌, nat_eq, Bool, true, false, ◌⊎◌, inl, inr, cond, refl, sym, ap, ap₂, ◌∙◌, subst, arith, pow-add, mod-lt}
+use Rattle.std.proofs.Common.{◌≡◌, ℕ, zero, suc, ◌+◌, ◌*◌, ◌/◌, ◌%◌, ◌^◌, ◌<◌, nat_eq, Bool, true, false, ◌⊎◌, inl, inr, cond, refl, sym, ap, ap₂, ◌∙◌, subst, arith, pow-add}
 use Rattle.std.proofs.Math.Path.{fun_ext}
 use Rattle.std.proofs.lemmas.Bool.{cond-true, cond-false, cases_Bool, eqb-true}
 use Rattle.std.proofs.lemmas.Nat.{mod_below}
-use Rattle.c_values.specs.Word.{Word, IsWord}
 use Rattle.c_values.specs.Value.{Value, Values, Bits, Number, Truth, Parts, no_values, more}
 use Rattle.c_values.specs.Layout.{Shape, Incomplete, Scalar, Record, Row, Fields, no_fields, field, size}
 use Rattle.c_values.specs.Path.{HasShape, AreMembers, AreElements}
@@ -31,6 +30,7 @@ module _ (space : ℕ) (bytes : ℕ → ℕ) (known : AreBytes bytes) where
     where
       high : (b r : ℕ) → b < 256 → (b + 256 * r) / 256 ≡ r
       high b r h = omega arith
+
       low : (b r : ℕ) → b < 256 → (b + 256 * r) % 256 ≡ b
       low b r h = omega arith
 
@@ -60,6 +60,7 @@ module _ (space : ℕ) (bytes : ℕ → ℕ) (known : AreBytes bytes) where
     where
       bits : (n : ℕ) → 8 * suc n ≡ 8 * n + 8
       bits n = omega arith
+
       grown : (b r p q : ℕ) → b < 256 → r < p → q ≡ p * 256 → b + 256 * r < q
       grown b r p q h k e = omega arith
 

@@ -1,9 +1,9 @@
 -- The part of a loaded value at the end of a path is what lies at its offset.
-use Rattle.std.proofs.Common.{◌≡◌, ℕ, zero, suc, ◌+◌, ◌*◌, ◌<◌, ◌≤◌, nat_lt, Bool, true, false, cond, List, [], ◌∷◌, ◌++◌, Option, Some, None, unwrap_or, pos, refl, sym, ap, ap₂, ◌∙◌, subst, arith, add-zero, zero-add, add_assoc, lt-ltb}
+use Rattle.std.proofs.Common.{◌≡◌, ℕ, zero, suc, ◌+◌, ◌*◌, ◌<◌, nat_lt, List, ◌∷◌, ◌++◌, Some, None, unwrap_or, pos, refl, sym, ap, ◌∙◌, subst, arith, add-zero, zero-add, add_assoc, lt-ltb}
 use Rattle.std.proofs.lemmas.Bool.{cond-true}
-use Rattle.c_values.specs.Value.{Value, Values, Parts, no_values, more, count, part}
-use Rattle.c_values.specs.Layout.{Shape, Incomplete, Scalar, Record, Row, Fields, no_fields, field, size}
-use Rattle.c_values.specs.Path.{Step, Field, Index, place_of, sel}
+use Rattle.c_values.specs.Value.{count, part}
+use Rattle.c_values.specs.Layout.{Shape, Record, Row, Fields, size}
+use Rattle.c_values.specs.Path.{Step, Field, Index, sel}
 use Rattle.c_values.proofs.Leads.{IsNth, first, next, Leads, ends, by_member, by_element}
 use Rattle.c_memory.specs.Memory.{load, loaded_members, loaded_elements}
 

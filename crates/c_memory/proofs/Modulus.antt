@@ -1,6 +1,6 @@
 -- Addresses modulo the space: bytes of one object are at different addresses.
-use Rattle.std.proofs.Common.{◌≡◌, ◌≢◌, ℕ, suc, ◌+◌, ◌-◌, ◌*◌, ◌/◌, ◌%◌, ◌<◌, ◌≤◌, ◌⊎◌, inl, inr, refl, sym, ap, ◌∙◌, subst, mul-le-mul_left, mod-eq_of_lt, arith}
-use Rattle.std.proofs.Math.Nat.{div-add-mod, mod-lt}
+use Rattle.std.proofs.Common.{◌≡◌, ℕ, suc, ◌+◌, ◌-◌, ◌*◌, ◌/◌, ◌%◌, ◌<◌, ◌≤◌, ◌⊎◌, inl, inr, ap, ◌∙◌, mul-le-mul_left, mod-eq_of_lt, arith}
+use Rattle.std.proofs.Math.Nat.{div-add-mod}
 use Rattle.std.proofs.lemmas.Bool.{cases_order}
 
 quotient_grows : (s x e q r : ℕ) → s * q + r ≡ x → (q' : ℕ) → s * q' + r ≡ x + e → 0 < e → e < s → ⊥

@@ -1,5 +1,5 @@
 -- An object has a place in the space.
-use Rattle.std.proofs.Common.{◌≡◌, ℕ, ◌^◌, ◌≤◌, true, ◌&&◌, lit≤, arith, le_trans}
+use Rattle.std.proofs.Common.{◌≡◌, ◌^◌, ◌≤◌, true, lit≤, le_trans}
 use Rattle.std.proofs.lemmas.Bool.{and_parts, leb-true}
 use Rattle.c_values.specs.Types.{Target, Ilp32, Lp64, CType, address_width}
 use Rattle.c_values.specs.Layout.{Layout, shape_of, size_of, is_object, is_complete, largest_size, space}

@@ -1,15 +1,15 @@
 -- The search finds each part of a root type, by the one path that leads to it.
-use Rattle.std.proofs.Common.{◌≡◌, ◌≢◌, ℕ, zero, suc, ◌+◌, ◌-◌, ◌*◌, ◌/◌, ◌%◌, ◌<◌, ◌≤◌, nat_eq, nat_lt, nat_le, Bool, true, false, ◌&&◌, cond, List, [], ◌∷◌, Option, Some, None, pos, refl, sym, ap, ap₂, ◌∙◌, subst, arith, add-zero, zero-add}
+use Rattle.std.proofs.Common.{◌≡◌, ℕ, suc, ◌+◌, ◌-◌, ◌*◌, ◌<◌, ◌≤◌, nat_eq, nat_lt, nat_le, true, false, ◌&&◌, cond, List, [], Some, None, pos, refl, sym, ap, ap₂, ◌∙◌, arith, add-zero, zero-add}
 use Rattle.std.proofs.lemmas.Bool.{false≢true, and_from, and_left, and_right, lt-ltb, le-leb, le-ltb, cond-true, cond-false, false_from_ne_true}
 use Rattle.std.proofs.lemmas.Nat.{div-mul-add, mod-mul-add}
 use Rattle.c_values.specs.Name.{Name}
-use Rattle.c_values.specs.Types.{CType, Integer, Void, Ptr, Struct, Array, Target, same_type}
-use Rattle.c_values.specs.Layout.{Layout, Shape, Incomplete, Scalar, Record, Row, Fields, no_fields, field, size, type_of, shape_from}
+use Rattle.c_values.specs.Types.{CType, Struct, Target, same_type}
+use Rattle.c_values.specs.Layout.{Shape, Incomplete, Scalar, Record, Row, Fields, size, type_of, shape_from}
 use Rattle.c_values.specs.Path.{Step, Field, Index}
 use Rattle.c_values.proofs.Formed.{IsFormed, AreFormed, size_some}
 use Rattle.c_values.proofs.Leads.{IsNth, first, next, Leads, ends, by_member, by_element}
-use Rattle.c_values.proofs.Geometry.{IsWithin, nth_within, leads_within}
-use Rattle.c_values.proofs.Laid.{IsLaid, AreLaid}
+use Rattle.c_values.proofs.Geometry.{nth_within, leads_within}
+use Rattle.c_values.proofs.Laid.{IsLaid}
 use Rattle.c_values.proofs.Parts.{nth_laid, leads_laid, laid_shape}
 use Rattle.c_values.proofs.SameType.{type_is, same_type-refl}
 use Rattle.c_values.proofs.Height.{height, highest, nth_lower, leads_lower}
@@ -53,6 +53,7 @@ module _ (target : Target) (structs : Name → Shape) where
     where
       itself : same_type (Struct x) (type_of s) ≡ true → Record x n align fs ≡ s
       itself e = sym h.known ∙ ap (shape_from target structs) (type_is (Struct x) (type_of s) e) ∙ laid_shape target structs s h'
+
       clash : Record x n align fs ≡ s → ⊥
       clash e = let k : suc (highest fs) ≡ height s = ap height e in omega arith
 

@@ -1,5 +1,5 @@
 -- An address that no scalar part of a type covers is spared by a store.
-use Rattle.std.proofs.Common.{◌≡◌, ◌≢◌, ℕ, ◌+◌, ◌*◌, ◌/◌, ◌%◌, ◌<◌, true, refl, sym, ap, subst, add-zero, add_assoc}
+use Rattle.std.proofs.Common.{◌≡◌, ℕ, ◌+◌, ◌*◌, true, sym, subst, add-zero, add_assoc}
 use Rattle.c_values.specs.Types.{CType}
 use Rattle.c_values.specs.Layout.{Layout, Shape, Incomplete, Scalar, Record, Row, Fields, no_fields, field, size, size_of, is_scalar}
 use Rattle.c_values.proofs.Laid.{IsLaid, AreLaid, structs_of}

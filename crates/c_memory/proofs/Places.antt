@@ -1,22 +1,19 @@
 -- Reads after a write, on either heap.
-use Rattle.std.proofs.Common.{◌≡◌, ◌≢◌, ℕ, ◌+◌, ◌%◌, ◌<◌, ◌≤◌, ◌⊎◌, inl, inr, Bool, true, false, ◌||◌, List, [], ◌∷◌, ◌++◌, Option, Some, None, is_some, Contains, refl, sym, ap, ap₂, ◌∙◌, subst, subst₂, arith, le_trans, mod-eq_of_lt}
+use Rattle.std.proofs.Common.{◌≡◌, ℕ, ◌+◌, ◌%◌, ◌<◌, ◌≤◌, ◌⊎◌, inl, inr, true, ◌||◌, List, [], ◌∷◌, ◌++◌, Option, Some, None, is_some, Contains, refl, sym, ap, ◌∙◌, arith, mod-eq_of_lt}
 use Rattle.std.proofs.lemmas.Bool.{false≢true}
 use Rattle.c_values.specs.Types.{CType}
 use Rattle.c_values.specs.Value.{Value}
 use Rattle.c_values.specs.Layout.{Layout, IsLayout, size, shape_of, size_of, space}
-use Rattle.c_values.specs.Path.{Step, Spot, spot, in_range, sel, upd, HasShape}
-use Rattle.c_values.proofs.Formed.{IsFormed, size_some}
-use Rattle.c_values.proofs.Geometry.{AreApart}
-use Rattle.c_values.proofs.Replaced.{sel_upd, sel_upd_apart}
-use Rattle.c_memory.specs.Memory.{Tag, load, load_at, store, store_at, address_at}
+use Rattle.c_values.specs.Path.{Step, Spot, spot, in_range, upd, HasShape}
+use Rattle.c_values.proofs.Formed.{IsFormed}
+use Rattle.c_values.proofs.Replaced.{sel_upd}
+use Rattle.c_memory.specs.Memory.{Tag, load, load_at, store_at}
 use Rattle.c_memory.specs.Tags.{IsTag, AreTags, path_from, is_covered}
-use Rattle.c_memory.specs.TypedHeap.{Cell, TypedHeap, tags_of, cell_part, read_cells, with_cell_part, write_cells}
+use Rattle.c_memory.specs.TypedHeap.{TypedHeap, tags_of, cell_part, read_cells, with_cell_part, write_cells}
 use Rattle.c_memory.specs.Heap.{CellsFit}
-use Rattle.c_memory.proofs.Modulus.{apart_plain}
-use Rattle.c_memory.proofs.Objects.{object_fits}
-use Rattle.c_memory.proofs.Covered.{tag_good, pointer_parts, covered_tag, tag_among}
+use Rattle.c_memory.proofs.Covered.{pointer_parts, covered_tag, tag_among}
 use Rattle.c_memory.proofs.Frame.{store_frame, spares}
-use Rattle.c_memory.proofs.RoundTrip.{load_same, stored_back}
+use Rattle.c_memory.proofs.RoundTrip.{stored_back}
 use Rattle.c_memory.proofs.Views.{IsPlaceIn, place_in, address, load_here, store_here}
 
 module _ (l : Layout) (h : IsLayout l) (t : CType) (a : ℕ) (path : List Step) (q : Spot) (range : in_range (shape_of l t) path ≡ true) (at_end : spot (shape_of l t) path ≡ Some q) where
@@ -46,6 +43,7 @@ module _ (l : Layout) (h : IsLayout l) (t : CType) (a : ℕ) (path : List Step) 
     where
       written : TypedHeap
       written = write_cells l cs t a path v
+
       by_cases : (is_covered l (tags_of cs) t a ≡ true → read_cells l written t a path ≡ v) → (o : Option (List Step)) → path_from l c.tag t a ≡ o →
           (is_some o || is_covered l (tags_of cs) t a) ≡ true → read_cells l (with_cell_part c o path v cs written) t a path ≡ v
       by_cases rest (Some root) e k =
@@ -62,14 +60,19 @@ module _ (l : Layout) (h : IsLayout l) (t : CType) (a : ℕ) (path : List Step) 
     where
       at : ℕ
       at = address l h t a path q range at_end
+
       w : (u : Tag) × Contains ts u × (root : List Step) × (path_from l u t a ≡ Some root)
       w = covered_tag l ts t a c
+
       is : IsTag l w.0
       is = tag_among l ts w.0 tags w.1
+
       p : IsPlaceIn l h t a path q range at_end w.0 w.2
       p = place_in l h t a path q range at_end w.0 w.2 is w.3
+
       fits : w.0.address + size_of l w.0.type ≤ space l
       fits = (pointer_parts l w.0.type w.0.address is.placed).fits
+
       clash : (i : ℕ) → i < size q.shape → (at + i) % space l ≡ x → (x < w.0.address) ⊎ (w.0.address + size_of l w.0.type ≤ x) → ⊥
       clash i lt e o =
           let plain : (at + i) % space l ≡ at + i = mod-eq_of_lt (omega (arith, fits, p.within.ends, p.plain, lt)) in

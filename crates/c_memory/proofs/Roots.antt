@@ -1,18 +1,14 @@
 -- What the search for a root finds: the parts of a shape, each by its one path.
-use Rattle.std.proofs.Common.{◌≡◌, ◌≢◌, ℕ, zero, suc, ◌+◌, ◌-◌, ◌*◌, ◌/◌, ◌%◌, ◌<◌, ◌≤◌, nat_eq, nat_lt, nat_le, ◌⊎◌, inl, inr, Bool, true, false, ◌&&◌, cond, List, [], ◌∷◌, Option, Some, None, pos, refl, sym, ap, ap₂, ◌∙◌, subst, subst₂, arith, add-zero, zero-add, div-add-mod', eq-eqb, eqb-true}
-use Rattle.std.proofs.lemmas.Bool.{false≢true, true≢false, and_parts, and_from, and_left, and_right, cases_Bool, ltb-true, leb-true, lt-ltb, le-leb, le-ltb, lt-leb, cond-true, cond-false, false_from_ne_true}
-use Rattle.std.proofs.lemmas.Nat.{div-mul-add, mod-mul-add}
+use Rattle.std.proofs.Common.{◌≡◌, ℕ, suc, ◌+◌, ◌-◌, ◌/◌, ◌%◌, ◌≤◌, nat_eq, nat_lt, nat_le, Bool, true, false, ◌&&◌, cond, List, [], ◌∷◌, Option, Some, None, pos, refl, sym, ap, ◌∙◌, subst, subst₂, arith, add-zero, zero-add, div-add-mod', eqb-true}
+use Rattle.std.proofs.lemmas.Bool.{false≢true, and_parts, ltb-true, leb-true}
 use Rattle.c_values.specs.Name.{Name}
-use Rattle.c_values.specs.Types.{CType, Integer, Void, Ptr, Struct, Array, Target, same_type}
+use Rattle.c_values.specs.Types.{CType, Integer, Ptr, Struct, Target, same_type}
 use Rattle.c_values.specs.Layout.{Layout, IsLayout, shape_of, is_complete, Shape, Incomplete, Scalar, Record, Row, Fields, no_fields, field, size, type_of, is_scalar}
 use Rattle.c_values.specs.Path.{Step, Field, Index}
-use Rattle.c_values.proofs.Formed.{IsFormed, AreFormed, size_some}
 use Rattle.c_values.proofs.Leads.{IsNth, first, next, Leads, ends, by_member, by_element}
-use Rattle.c_values.proofs.Geometry.{IsWithin, nth_within, leads_within}
 use Rattle.c_values.proofs.Laid.{IsLaid, AreLaid, structs_of, shape_good}
-use Rattle.c_values.proofs.Parts.{nth_laid, leads_laid, laid_shape}
-use Rattle.c_values.proofs.SameType.{type_is, same_type-refl}
-use Rattle.c_values.proofs.Height.{height, nth_lower, leads_lower}
+use Rattle.c_values.proofs.Parts.{leads_laid, laid_shape}
+use Rattle.c_values.proofs.SameType.{type_is}
 use Rattle.c_memory.specs.Tags.{is_root_type, IsMember, here, later, IsPart, scalar, struct, of_member, of_element, prefixed, root_path, member_path}
 
 none_some : {A : Type 0} {a : A} → ◌≡◌ {A = Option A} None (Some a) → ⊥

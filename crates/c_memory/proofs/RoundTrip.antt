@@ -1,16 +1,15 @@
 -- What is stored is loaded.
-use Rattle.std.proofs.Common.{◌≡◌, ◌≢◌, ℕ, zero, suc, ◌+◌, ◌*◌, ◌/◌, ◌%◌, ◌^◌, ◌<◌, ◌≤◌, nat_eq, Bool, true, false, List, refl, sym, ap, ap₂, ◌∙◌, subst, cond, arith, add-zero, add-suc, add_assoc, add-one, mul-zero, pow-add, mod-lt}
+use Rattle.std.proofs.Common.{◌≡◌, ℕ, zero, suc, ◌+◌, ◌*◌, ◌/◌, ◌%◌, ◌^◌, ◌<◌, ◌≤◌, nat_eq, refl, sym, ap, ap₂, ◌∙◌, subst, arith, add-zero, add_assoc}
 use Rattle.std.proofs.Math.Nat.{mod-add-div}
 use Rattle.std.proofs.lemmas.Bool.{cond-true, eq-eqb}
 use Rattle.std.proofs.lemmas.Nat.{shr_below}
-use Rattle.c_values.specs.Word.{Word, IsWord}
 use Rattle.c_values.specs.Value.{Value, Values, Bits, Number, Truth, Parts, no_values, more}
 use Rattle.c_values.specs.Layout.{Shape, Incomplete, Scalar, Record, Row, Fields, no_fields, field, size}
 use Rattle.c_values.specs.Path.{HasShape, AreMembers, AreElements}
 use Rattle.c_values.proofs.Formed.{IsFormed, AreFormed, members_end}
 use Rattle.c_memory.specs.Memory.{little_endian, load, loaded_members, loaded_elements, with_byte, with_bytes, store, stored_members, stored_elements}
 use Rattle.c_memory.proofs.Modulus.{apart_addresses}
-use Rattle.c_memory.proofs.Frame.{Misses, Spares, AllSpare, bytes_frame, elements_frame, members_frame, store_frame, spares, all_spare}
+use Rattle.c_memory.proofs.Frame.{Misses, bytes_frame, elements_frame, members_frame, store_frame, spares, all_spare}
 
 -- the same at n bytes from a on
 abbrev pub AgreeOn : ℕ → ℕ → ℕ → (ℕ → ℕ) → (ℕ → ℕ) → Type 0
@@ -44,6 +43,7 @@ module _ (space : ℕ) (bytes bytes' : ℕ → ℕ) where
     where
       first : (n step : ℕ) → 0 + step ≤ suc n * step
       first n step = omega arith
+
       later : (n step : ℕ) → step + n * step ≤ suc n * step
       later n step = omega arith
 
@@ -97,10 +97,13 @@ module _ (space : ℕ) where
     where
       whole : (n step : ℕ) → suc n * step ≤ space → step ≤ space
       whole n step k = omega arith
+
       rest : (n step : ℕ) → suc n * step ≤ space → n * step ≤ space
       rest n step k = omega arith
+
       below : (n step j k : ℕ) → suc n * step ≤ space → j < n → k < step → step + j * step + k < space
       below n step j k fit' less lt = grind arith
+
       apart : (a step n i j : ℕ) → suc n * step ≤ space → i < step → j < n → Misses space (a + step + j * step) step ((a + i) % space)
       apart a step n i j fit' lt less k lt' e =
           apart_addresses space a i (step + j * step + k) (omega arith) (below n step j k fit' less lt')

@@ -1,8 +1,8 @@
 -- To store a part and then load the whole is to change that part of the loaded value.
-use Rattle.std.proofs.Common.{◌≡◌, ◌≢◌, ℕ, zero, suc, ◌+◌, ◌*◌, ◌%◌, ◌<◌, ◌≤◌, ◌⊎◌, inl, inr, nat_lt, Bool, true, false, cond, List, [], ◌∷◌, Option, Some, None, pos, refl, sym, ap, ap₂, ◌∙◌, subst, arith, add-zero, add_assoc, lt-ltb}
+use Rattle.std.proofs.Common.{◌≡◌, ◌≢◌, ℕ, zero, suc, ◌+◌, ◌*◌, ◌%◌, ◌<◌, ◌≤◌, inl, inr, nat_lt, List, Option, Some, None, pos, sym, ap, ap₂, ◌∙◌, subst, arith, add-zero, add_assoc, lt-ltb}
 use Rattle.std.proofs.lemmas.Bool.{cond-true}
-use Rattle.c_values.specs.Value.{Value, Values, Parts, no_values, more, count, part, with_part}
-use Rattle.c_values.specs.Layout.{Shape, Incomplete, Scalar, Record, Row, Fields, no_fields, field, size, alignment}
+use Rattle.c_values.specs.Value.{Value, Values, Parts, more, count, part, with_part}
+use Rattle.c_values.specs.Layout.{Shape, Fields, size, alignment}
 use Rattle.c_values.specs.Path.{Step, Field, Index, place_of, with_changed, upd, HasShape}
 use Rattle.c_values.proofs.Formed.{IsFormed, AreFormed, members_end}
 use Rattle.c_values.proofs.Leads.{IsNth, first, next, Leads, ends, by_member, by_element}
@@ -53,10 +53,13 @@ module _ (space : ℕ) (bytes bytes' : ℕ → ℕ) where
     where
       here : (a step : ℕ) → a ≡ a + 0 * step
       here a step = omega arith
+
       once : (n step : ℕ) → suc n * step ≤ space → 0 * step + step ≤ space
       once n step k = omega arith
+
       rest : (n step : ℕ) → suc n * step ≤ space → step + n * step ≤ space
       rest n step k = omega arith
+
       before : (step : ℕ) → 0 * step + step ≤ step
       before step = omega arith
   element_changed e f a (suc n) (suc i) lt fit same =
@@ -68,12 +71,16 @@ module _ (space : ℕ) (bytes bytes' : ℕ → ℕ) where
     where
       there : (a i step : ℕ) → a + suc i * step ≡ a + step + i * step
       there a i step = omega arith
+
       once : (n step : ℕ) → suc n * step ≤ space → 0 + step ≤ space
       once n step k = omega arith
+
       rest : (n step : ℕ) → suc n * step ≤ space → n * step ≤ space
       rest n step k = omega arith
+
       after : (i step : ℕ) → 0 + step ≤ suc i * step
       after i step = omega arith
+
       whole : (n i step : ℕ) → suc i < suc n → suc n * step ≤ space → suc i * step + step ≤ space
       whole n i step less k = grind arith
 

@@ -1,22 +1,19 @@
 -- Typed heaps and memory agree at covered roots.
-use Rattle.std.proofs.Common.{◌≡◌, ◌≢◌, ℕ, zero, suc, ◌+◌, ◌%◌, ◌<◌, ◌≤◌, ◌⊎◌, inl, inr, Bool, true, false, ◌||◌, List, [], ◌∷◌, ◌++◌, map, Option, Some, None, is_some, Contains, pos, ◌+ℤ◌, refl, sym, ap, ap₂, ◌∙◌, subst, arith, add_assoc, mod-eq_of_lt}
+use Rattle.std.proofs.Common.{◌≡◌, ℕ, ◌+◌, ◌%◌, ◌<◌, ◌≤◌, inl, inr, true, ◌||◌, List, [], ◌∷◌, ◌++◌, map, Option, Some, None, is_some, pos, refl, sym, ap, ap₂, ◌∙◌, arith, add_assoc, mod-eq_of_lt}
 use Rattle.std.proofs.lemmas.Bool.{false≢true}
-use Rattle.std.specs.Int.{int_rem_euclid}
 use Rattle.c_values.specs.Types.{CType}
-use Rattle.c_values.specs.Number.{natural}
 use Rattle.c_values.specs.Value.{Value}
-use Rattle.c_values.specs.Layout.{Layout, IsLayout, Shape, size, alignment, shape_of, size_of, align_of, space}
-use Rattle.c_values.specs.Path.{Step, Spot, spot, in_range, sel, upd, HasShape}
-use Rattle.c_values.proofs.Formed.{IsFormed, size_some}
+use Rattle.c_values.specs.Layout.{Layout, IsLayout, size, shape_of, size_of, align_of, space}
+use Rattle.c_values.specs.Path.{Step, Spot, spot, in_range, HasShape}
+use Rattle.c_values.proofs.Formed.{size_some}
 use Rattle.c_values.proofs.Leads.{Leads}
 use Rattle.c_values.proofs.Geometry.{IsWithin, leads_within}
-use Rattle.c_values.proofs.Laid.{IsGood, structs_of, shape_good}
 use Rattle.c_values.proofs.Parts.{formed_complete, part_of}
 use Rattle.c_memory.specs.Memory.{Tag, load, load_at, load_spot, store, store_at, store_spot, address_at}
-use Rattle.c_memory.specs.Tags.{IsTag, AreApart, ApartFrom, AreTags, path_from, is_covered, is_pointer_ok}
-use Rattle.c_memory.specs.TypedHeap.{Cell, TypedHeap, cell_part, read_cells, with_cell_part, write_cells}
-use Rattle.c_memory.proofs.Objects.{object_complete, object_fits}
-use Rattle.c_memory.proofs.Covered.{IsRoot, root_of, tag_good, pointer_parts, covered_tag, apart_from, tag_among}
+use Rattle.c_memory.specs.Tags.{IsTag, AreApart, ApartFrom, AreTags, path_from, is_covered}
+use Rattle.c_memory.specs.TypedHeap.{Cell, cell_part, read_cells, with_cell_part, write_cells}
+use Rattle.c_memory.proofs.Objects.{object_fits}
+use Rattle.c_memory.proofs.Covered.{root_of, tag_good, pointer_parts, covered_tag, apart_from, tag_among}
 use Rattle.c_memory.proofs.LoadedParts.{leads_on, sel_loaded}
 use Rattle.c_memory.proofs.RoundTrip.{load_same}
 use Rattle.c_memory.proofs.Frame.{store_frame, spares}
@@ -87,13 +84,17 @@ module _ (l : Layout) (h : IsLayout l) (t : CType) (a : ℕ) (path : List Step) 
       where
         p : IsPlaceIn w root
         p = place_in w root j e
+
         fits_u : u.address + size_of l u.type ≤ space l
         fits_u = (pointer_parts l u.type u.address i.placed).fits
+
         fits_w : w.address + size_of l w.type ≤ space l
         fits_w = (pointer_parts l w.type w.address j.placed).fits
+
         clash : (x y : ℕ) → AreApart l u w → x < size_of l u.type → y < size q.shape → (u.address + x) % space l ≡ (w.address + p.offset + y) % space l → ⊥
         clash x y (inl o) lt less k = apart_plain (space l) (u.address + x) (w.address + p.offset + y) (omega arith) (omega (arith, p.within.ends, fits_w)) k
         clash x y (inr o) lt less k = apart_plain (space l) (w.address + p.offset + y) (u.address + x) (omega (arith, p.within.ends)) (omega (arith, fits_u)) (sym k)
+
         agrees : (x : ℕ) → x < size_of l u.type → bytes' ((u.address + x) % space l) ≡ bytes ((u.address + x) % space l)
         agrees x lt = store_frame (space l) ((u.address + x) % space l) q.shape address v bytes
             (spares (space l) ((u.address + x) % space l) q.shape address p.within.formed (λ y less k. clash x y apart lt less (sym k ∙ ap (λ b. (b + y) % space l) p.plain)))

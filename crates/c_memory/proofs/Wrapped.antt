@@ -1,6 +1,6 @@
 -- Loads and stores see an address modulo the space.
-use Rattle.std.proofs.Common.{◌≡◌, ℕ, zero, suc, ◌+◌, ◌*◌, ◌/◌, ◌%◌, refl, sym, ap, ap₂, ◌∙◌, subst}
-use Rattle.std.proofs.Math.Nat.{add-mod, mod-mod}
+use Rattle.std.proofs.Common.{◌≡◌, ℕ, zero, suc, ◌+◌, ◌*◌, ◌/◌, ◌%◌, refl, sym, ap, ap₂, ◌∙◌}
+use Rattle.std.proofs.Math.Nat.{add-mod}
 use Rattle.c_values.specs.Value.{Value, Values, Bits, Number, Truth, Parts, no_values, more}
 use Rattle.c_values.specs.Layout.{Shape, Incomplete, Scalar, Record, Row, Fields, no_fields, field, size}
 use Rattle.c_memory.specs.Memory.{little_endian, load, loaded_members, loaded_elements, with_byte, with_bytes, store, stored_members, stored_elements}

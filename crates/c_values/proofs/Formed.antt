@@ -1,7 +1,7 @@
 -- What the shapes of complete types are like: members stand in order, aligned and within the struct, and a size is a
 -- multiple of the alignment.
-use Rattle.std.proofs.Common.{◌≡◌, ℕ, ◌+◌, ◌*◌, ◌/◌, ◌<◌, ◌≤◌, ◌⊎◌, inl, inr, arith}
-use Rattle.std.proofs.Math.Nat.{dvd_refl, dvd_trans, dvd-add, dvd-mul_left, dvd-mul_left_of_dvd}
+use Rattle.std.proofs.Common.{◌≡◌, ℕ, ◌+◌, ◌*◌, ◌/◌, ◌<◌, ◌≤◌, ◌⊎◌, arith}
+use Rattle.std.proofs.Math.Nat.{dvd_refl, dvd-mul_left_of_dvd}
 use Prim.Native.Nat.{◌∣◌}
 use Rattle.c_values.specs.Layout.{Shape, Incomplete, Scalar, Record, Row, Fields, no_fields, field, size, alignment}
 

@@ -1,12 +1,12 @@
 -- Where the parts of a shape lie: within it, aligned, and apart from each other.
-use Rattle.std.proofs.Common.{◌≡◌, ◌≢◌, ℕ, zero, suc, ◌+◌, ◌*◌, ◌<◌, ◌≤◌, ◌⊎◌, inl, inr, List, [], ◌∷◌, ◌++◌, pos, refl, sym, ap, ap₂, ◌∙◌, subst, arith, add-zero}
+use Rattle.std.proofs.Common.{◌≡◌, ◌≢◌, ℕ, ◌+◌, ◌*◌, ◌<◌, ◌≤◌, ◌⊎◌, inl, inr, List, ◌∷◌, ◌++◌, pos, refl, sym, ap, subst, arith}
 use Rattle.std.proofs.Math.Nat.{dvd_refl, dvd_trans, dvd-add, dvd-mul_left_of_dvd, dvd-zero}
 use Rattle.std.proofs.lemmas.Bool.{cases_order}
 use Prim.Native.Nat.{◌∣◌}
 use Rattle.c_values.specs.Name.{Name}
-use Rattle.c_values.specs.Layout.{Shape, Incomplete, Scalar, Record, Row, Fields, no_fields, field, size, alignment}
+use Rattle.c_values.specs.Layout.{Shape, Record, Fields, size, alignment}
 use Rattle.c_values.specs.Path.{Step, Field, Index}
-use Rattle.c_values.proofs.Formed.{IsFormed, AreFormed, size_multiple, size_some, members_end}
+use Rattle.c_values.proofs.Formed.{IsFormed, AreFormed, size_multiple, members_end}
 use Rattle.c_values.proofs.Leads.{IsNth, first, next, Leads, ends, by_member, by_element}
 
 -- a part at an offset lies well in a whole of this size and alignment

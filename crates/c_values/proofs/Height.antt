@@ -1,5 +1,5 @@
 -- No type contains itself: a part of a shape is less high than the whole.
-use Rattle.std.proofs.Common.{◌≡◌, ℕ, suc, ◌+◌, ◌<◌, ◌≤◌, max, List, [], ◌∷◌, arith, le_refl}
+use Rattle.std.proofs.Common.{ℕ, suc, ◌≤◌, max, List, arith, le_refl}
 use Rattle.c_values.specs.Layout.{Shape, Incomplete, Scalar, Record, Row, Fields, no_fields, field}
 use Rattle.c_values.specs.Path.{Step}
 use Rattle.c_values.proofs.Leads.{IsNth, first, next, Leads, ends, by_member, by_element}

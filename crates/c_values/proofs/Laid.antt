@@ -1,11 +1,11 @@
 -- The shapes of a layout's complete types are formed, and each struct in them is the layout's struct of that name.
-use Rattle.std.proofs.Common.{◌≡◌, ℕ, ◌+◌, ◌*◌, ◌/◌, ◌<◌, ◌≤◌, ◌⊎◌, inl, inr, Bool, true, false, not, cond, ◌&&◌, ◌||◌, List, [], ◌∷◌, refl, sym, ap, ◌∙◌, subst, arith}
+use Rattle.std.proofs.Common.{◌≡◌, ℕ, ◌+◌, ◌⊎◌, inl, inr, Bool, true, false, not, cond, List, [], ◌∷◌, refl, sym, ap, ◌∙◌}
 use Rattle.std.proofs.lemmas.Bool.{false≢true, true≢false, and_parts, or_parts, cases_Bool, not-true, ltb-true, false_from_ne_true, cond-true, cond-false}
 use Rattle.std.proofs.lemmas.Slice.Eq.{bytes_eq-Decides}
 use Rattle.c_values.specs.Name.{Name, same_name, with_name, is_among}
 use Rattle.c_values.specs.Types.{Target, Ilp32, Lp64, CType, Integer, Void, Ptr, Struct, Array, IntType, Char, SChar, UChar, Short, UShort, Int, UInt, Long, ULong, LLong, ULLong, width_of, address_width}
-use Rattle.c_values.specs.Layout.{Layout, IsLayout, Shape, type_of, Incomplete, Scalar, Record, Row, Fields, no_fields, field, size, alignment, aligned, placed, Member, StructDef, struct_shape, shape_from, shapes_after, shape_of, is_complete, are_complete, are_built, all_members_complete, has_member, is_scalar, scalar_width}
-use Rattle.c_values.proofs.Formed.{IsAlignment, IsFormed, AreFormed}
+use Rattle.c_values.specs.Layout.{Layout, IsLayout, Shape, type_of, Incomplete, Scalar, Record, Row, Fields, no_fields, field, size, alignment, aligned, placed, Member, StructDef, struct_shape, shape_from, shapes_after, shape_of, is_complete, are_built, all_members_complete, has_member, is_scalar, scalar_width}
+use Rattle.c_values.proofs.Formed.{IsFormed}
 use Rattle.c_values.proofs.Placed.{struct_formed}
 
 pointer_formed : (t : Target) (u : CType) → IsFormed (Scalar u (address_width t))
@@ -132,6 +132,7 @@ module _ (t : Target) where
       where
         found : Bool → Shape
         found b = cond b (struct_shape (shape_from t structs) d) (structs x)
+
         by_cases : (b : Bool) → same_name d.name x ≡ b → is_complete (found b) ≡ true → IsGood after (found b) × (type_of (found b) ≡ Struct x)
         by_cases true e h' = (struct_good, ap (λ y. Struct y) (name_is d.name x e))
         by_cases false e h' = let g = all x h' in (still_good (structs x) g.0, g.1)

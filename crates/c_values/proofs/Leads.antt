@@ -1,12 +1,9 @@
 -- Paths in range lead to a part at an offset that is a natural number.
-use Rattle.std.proofs.Common.{◌≡◌, ◌≢◌, ℕ, zero, suc, ◌+◌, ◌*◌, ◌<◌, ◌≤◌, ◌⊎◌, inl, inr, Bool, true, false, ◌&&◌, List, [], ◌∷◌, ◌++◌, Option, Some, None, ℤ, pos, negsuc, ◌+ℤ◌, ◌*ℤ◌, refl, sym, ap, ap₂, ◌∙◌, subst, arith}
-use Rattle.std.proofs.Math.Nat.{dvd_refl, dvd_trans, dvd-add, dvd-mul_left_of_dvd, dvd-zero}
-use Prim.Native.Nat.{◌∣◌}
+use Rattle.std.proofs.Common.{◌≡◌, ℕ, zero, suc, ◌+◌, ◌*◌, ◌<◌, true, ◌&&◌, List, [], ◌∷◌, Option, Some, None, ℤ, pos, negsuc, ◌+ℤ◌, ◌*ℤ◌, refl, sym, ap, ap₂, ◌∙◌, subst}
 use Rattle.std.proofs.lemmas.Bool.{false≢true, and_parts, and_from, ltb-true, lt-ltb}
 use Rattle.c_values.specs.Name.{Name}
-use Rattle.c_values.specs.Layout.{Shape, Incomplete, Scalar, Record, Row, Fields, no_fields, field, size, alignment}
-use Rattle.c_values.specs.Path.{Step, Field, Index, Spot, spot, step_spot, member_spot, and_then_spot, further, in_range, step_in_range, where_some, is_index}
-use Rattle.c_values.proofs.Formed.{IsFormed, AreFormed, size_multiple, size_some, members_end}
+use Rattle.c_values.specs.Layout.{Shape, Incomplete, Scalar, Record, Row, Fields, no_fields, field, size}
+use Rattle.c_values.specs.Path.{Step, Field, Index, Spot, spot, member_spot, and_then_spot, further, in_range, where_some, is_index}
 
 -- the member of this number stands at this offset
 pub data IsNth : Fields → ℕ → ℕ → Shape → Type 0 where

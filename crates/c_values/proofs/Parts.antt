@@ -1,15 +1,14 @@
 -- The parts that a path reaches in a type of a layout.
-use Rattle.std.proofs.Common.{◌≡◌, ◌≢◌, ℕ, ◌+◌, ◌%◌, ◌<◌, ◌≤◌, ◌⊎◌, Bool, true, false, ◌&&◌, List, [], ◌∷◌, ◌++◌, Option, Some, None, pos, refl, sym, ap, ap₂, ◌∙◌, subst, arith}
-use Rattle.std.proofs.Math.Nat.{mod-eq-zero_of_dvd}
+use Rattle.std.proofs.Common.{◌≡◌, ℕ, ◌+◌, true, List, Some, pos, refl, ap}
 use Rattle.std.proofs.lemmas.Bool.{false≢true, and_from, lt-ltb}
 use Rattle.c_values.specs.Name.{Name}
 use Rattle.c_values.specs.Types.{Target, CType, Integer, Void, Ptr, Struct, Array}
-use Rattle.c_values.specs.Layout.{Layout, IsLayout, Shape, Incomplete, Scalar, Record, Row, Fields, no_fields, field, size, alignment, type_of, shape_from, shape_of, size_of, align_of, is_complete, are_complete, is_scalar, scalar_width}
+use Rattle.c_values.specs.Layout.{Layout, IsLayout, Shape, Incomplete, Scalar, Record, Row, Fields, no_fields, field, size, alignment, type_of, shape_from, shape_of, is_complete, are_complete, is_scalar, scalar_width}
 use Rattle.c_values.specs.Path.{Step, Spot, spot, in_range}
-use Rattle.c_values.proofs.Formed.{IsFormed, AreFormed, size_some}
+use Rattle.c_values.proofs.Formed.{IsFormed, AreFormed}
 use Rattle.c_values.proofs.Leads.{IsNth, first, next, Leads, ends, by_member, by_element, leads_of}
-use Rattle.c_values.proofs.Geometry.{IsWithin, leads_within, leads_apart}
-use Rattle.c_values.proofs.Laid.{IsLaid, AreLaid, IsGood, structs_of, shape_good}
+use Rattle.c_values.proofs.Geometry.{IsWithin, leads_within}
+use Rattle.c_values.proofs.Laid.{IsLaid, AreLaid, structs_of, shape_good}
 
 mutual
   pub formed_complete : (s : Shape) → IsFormed s → is_complete s ≡ true

@@ -1,10 +1,10 @@
 -- A struct whose members have formed shapes is formed.
-use Rattle.std.proofs.Common.{◌≡◌, ℕ, ◌+◌, ◌-◌, ◌*◌, ◌/◌, ◌%◌, ◌<◌, ◌≤◌, max, ◌⊎◌, inl, inr, Bool, true, false, ◌&&◌, List, [], ◌∷◌, refl, sym, subst, le_refl, arith}
+use Rattle.std.proofs.Common.{◌≡◌, ℕ, ◌+◌, ◌-◌, ◌/◌, ◌%◌, ◌<◌, ◌≤◌, max, inl, inr, true, List, [], ◌∷◌, refl, sym, subst, le_refl, arith}
 use Rattle.std.proofs.Math.Nat.{one-dvd, dvd-mul_left, dvd_of_mod-eq-zero}
-use Rattle.std.proofs.lemmas.Bool.{false≢true, and_parts, cases_lt}
+use Rattle.std.proofs.lemmas.Bool.{false≢true, and_parts}
 use Prim.Native.Nat.{◌∣◌}
 use Rattle.c_values.specs.Types.{CType}
-use Rattle.c_values.specs.Layout.{Shape, Incomplete, Scalar, Record, Row, Fields, no_fields, field, size, alignment, aligned, placed, end_of, widest, Member, StructDef, struct_shape, is_complete, are_complete, all_members_complete, has_member}
+use Rattle.c_values.specs.Layout.{Shape, size, alignment, aligned, placed, end_of, widest, Member, StructDef, struct_shape, is_complete, all_members_complete, has_member}
 use Rattle.c_values.proofs.Formed.{IsAlignment, IsFormed, AreFormed, formed_alignment, some_bytes, size_some, members_end}
 
 two_divides : (b : ℕ) → IsAlignment b → 2 ≤ b → b % 2 ≡ 0

@@ -1,11 +1,11 @@
 -- Of a value with a part replaced: the part reads as the new one, and parts apart from it read as before.
-use Rattle.std.proofs.Common.{◌≡◌, ◌≢◌, ℕ, zero, suc, ◌+◌, ◌*◌, ◌<◌, ◌≤◌, ◌⊎◌, inl, inr, List, [], ◌∷◌, Option, Some, None, pos, refl, sym, ap, ap₂, ◌∙◌, subst, arith}
+use Rattle.std.proofs.Common.{◌≡◌, ◌≢◌, ℕ, zero, suc, ◌+◌, ◌*◌, ◌<◌, ◌≤◌, ◌⊎◌, inl, inr, List, ◌∷◌, Some, pos, refl, sym, ap, ◌∙◌, subst, arith}
 use Rattle.std.proofs.lemmas.Bool.{cases_order}
 use Rattle.c_values.specs.Value.{Value, Values, Bits, Number, Truth, Parts, no_values, more, count, part, with_part}
-use Rattle.c_values.specs.Layout.{Shape, Record, Row, Fields, size}
+use Rattle.c_values.specs.Layout.{Shape, size}
 use Rattle.c_values.specs.Path.{Step, Field, Index, place_of, sel, upd, HasShape}
 use Rattle.c_values.proofs.Formed.{IsFormed, size_some}
-use Rattle.c_values.proofs.Leads.{IsNth, first, next, Leads, ends, by_member, by_element}
+use Rattle.c_values.proofs.Leads.{IsNth, Leads, ends, by_member, by_element}
 use Rattle.c_values.proofs.Geometry.{AreApart, nth_within, nth_same, leads_within}
 use Rattle.c_values.proofs.Shaped.{members_count, member_shaped, elements_count, element_shaped, part_replaced, count_replaced, placed_field, placed_index, sel_step, upd_step}
 
@@ -34,6 +34,7 @@ module _ (vs : Values) (v : Value) (p : Step) (ps : List Step) (k : ℕ) (at : p
     where
       new : Values
       new = with_part vs k (upd (part vs k) ps v)
+
       by_cases : (k ≡ j) ⊎ ((k < j) ⊎ (j < k)) → sel (part new j) qs ≡ sel (part vs j) qs
       by_cases (inl c) =
           ap (λ i. sel (part new i) qs) (sym c) ∙ ap (λ u. sel u qs) (part_replaced vs k (upd (part vs k) ps v) less) ∙ rest c ∙ ap (λ i. sel (part vs i) qs) c
@@ -85,8 +86,8 @@ sel_upd_apart (Parts vs) v f h (by_member {n} {align} {k} {at} {d} {fs} {s} {s' 
     let less' = members_count vs h m' in
     other_step vs v (Field k) ps k (placed_field k (count vs) less) less (Field k') qs k' (placed_field k' (count vs) less')
     (λ c. let r = nth_same (subst (λ j. IsNth fs j at s) c m) m' in
-        sel_upd_apart (part vs k) v (nth_within align n 0 f.members m).0.formed (member_shaped vs h m) p (subst (λ z. Leads z qs e s₂) (sym r.1) q)
-        (apart_inner at d (size s₁) e (size s₂) (subst (λ b. AreApart (at + d) (size s₁) (b + e) (size s₂)) (sym r.0) apart)))
+    sel_upd_apart (part vs k) v (nth_within align n 0 f.members m).0.formed (member_shaped vs h m) p (subst (λ z. Leads z qs e s₂) (sym r.1) q)
+    (apart_inner at d (size s₁) e (size s₂) (subst (λ b. AreApart (at + d) (size s₁) (b + e) (size s₂)) (sym r.0) apart)))
 sel_upd_apart (Bits w) v f h (by_member m p) (by_member m' q) apart = absurd h
 sel_upd_apart (Number z) v f h (by_member m p) (by_member m' q) apart = absurd h
 sel_upd_apart (Truth b) v f h (by_member m p) (by_member m' q) apart = absurd h
@@ -96,7 +97,7 @@ sel_upd_apart (Parts vs) v f h (by_element {e = el} {s' = s₁} {n} {i} {d} {ps}
     let less' = subst (λ c. j < c) (sym counted) lt' in
     other_step vs v (Index (pos i)) ps i (placed_index i (count vs) less) less (Index (pos j)) qs j (placed_index j (count vs) less')
     (λ c. sel_upd_apart (part vs i) v f.element (element_shaped (λ w. HasShape el w) n i vs h lt) p q
-        (apart_inner (i * size el) d (size s₁) e (size s₂) (subst (λ b. AreApart (i * size el + d) (size s₁) (b * size el + e) (size s₂)) (sym c) apart)))
+    (apart_inner (i * size el) d (size s₁) e (size s₂) (subst (λ b. AreApart (i * size el + d) (size s₁) (b * size el + e) (size s₂)) (sym c) apart)))
 sel_upd_apart (Bits w) v f h (by_element lt p) (by_element lt' q) apart = absurd h
 sel_upd_apart (Number z) v f h (by_element lt p) (by_element lt' q) apart = absurd h
 sel_upd_apart (Truth b) v f h (by_element lt p) (by_element lt' q) apart = absurd h

@@ -1,9 +1,9 @@
 -- A value of a shape stays one where a part is replaced by a value of the part's shape, and the part read there then is
 -- the new one.
-use Rattle.std.proofs.Common.{◌≡◌, ℕ, zero, suc, ◌+◌, ◌*◌, ◌<◌, ◌≤◌, nat_lt, List, [], ◌∷◌, Option, Some, None, unwrap_or, pos, refl, sym, ap, ◌∙◌, subst, arith, lt-ltb}
+use Rattle.std.proofs.Common.{◌≡◌, ℕ, zero, suc, ◌<◌, nat_lt, List, ◌∷◌, Some, None, unwrap_or, pos, refl, sym, ap, subst, arith, lt-ltb}
 use Rattle.std.proofs.lemmas.Bool.{cond-true}
 use Rattle.c_values.specs.Value.{Value, Values, Bits, Number, Truth, Parts, no_values, more, count, part, with_part}
-use Rattle.c_values.specs.Layout.{Shape, Incomplete, Scalar, Record, Row, Fields, no_fields, field, size}
+use Rattle.c_values.specs.Layout.{Shape, Record, Row, Fields}
 use Rattle.c_values.specs.Path.{Step, Field, Index, place_of, with_changed, sel, upd, HasShape, AreMembers, AreElements}
 use Rattle.c_values.proofs.Leads.{IsNth, first, next, Leads, ends, by_member, by_element}
 

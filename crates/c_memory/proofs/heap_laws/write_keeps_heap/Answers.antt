@@ -1,4 +1,4 @@
-use Rattle.std.proofs.Common.{◌≡◌, ℕ, true, List, Option, Some, subst, sym}
+use Rattle.std.proofs.Common.{◌≡◌, ℕ, true, List, Some, subst, sym}
 use Rattle.c_values.specs.Types.{CType}
 use Rattle.c_values.specs.Value.{Value}
 use Rattle.c_values.specs.Layout.{Layout, IsLayout, shape_of, space}

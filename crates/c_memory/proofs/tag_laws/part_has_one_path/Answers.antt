@@ -1,7 +1,6 @@
-use Rattle.std.proofs.Common.{◌≡◌, ℕ, Some, pos, ap, ◌∙◌, sym, subst}
+use Rattle.std.proofs.Common.{◌≡◌, ℕ, pos, ap, ◌∙◌, sym}
 use Rattle.c_values.specs.Layout.{shape_of, type_of}
-use Rattle.c_values.specs.Path.{Spot}
-use Rattle.c_values.proofs.Leads.{Leads, leads_of}
+use Rattle.c_values.proofs.Leads.{leads_of}
 use Rattle.c_values.proofs.Geometry.{leads_within}
 use Rattle.c_values.proofs.Laid.{shape_good, shape_type, structs_of}
 use Rattle.c_values.proofs.Parts.{formed_complete}

@@ -1,4 +1,4 @@
-use Rattle.std.proofs.Common.{ap, ◌∙◌, sym, Some, ◌≡◌}
+use Rattle.std.proofs.Common.{ap, ◌∙◌, sym}
 use Rattle.c_values.specs.Layout.{shape_of}
 use Rattle.c_values.proofs.Laid.{shape_good, structs_of}
 use Rattle.c_memory.specs.Tags.{is_root_type, root_path}

@@ -1,7 +1,5 @@
-use Rattle.std.proofs.Common.{subst}
 use Rattle.c_values.specs.Layout.{shape_of}
-use Rattle.c_values.proofs.Leads.{Leads, leads_in_range, leads_spot}
-use Rattle.c_values.proofs.Laid.{shape_good, structs_of}
+use Rattle.c_values.proofs.Leads.{leads_in_range, leads_spot}
 use Rattle.c_memory.proofs.Roots.{found_part, found_leads}
 use Rattle.c_memory.proofs.tag_laws.search_finds_parts.Goals as goal
 

@@ -1,5 +1,5 @@
 use Rattle.std.proofs.Common.{◌≡◌, ℕ, sym, ◌∙◌, pos, subst₂}
-use Rattle.c_values.specs.Layout.{shape_of, size}
+use Rattle.c_values.specs.Layout.{size}
 use Rattle.c_values.proofs.Geometry.{AreApart, leads_apart}
 use Rattle.c_values.proofs.Laid.{shape_good}
 use Rattle.c_values.proofs.Parts.{part_of}
