@@ -5,14 +5,13 @@ ghost use Rattle.ac_core.specs.Words.{command_of, plain_show};
 ghost use Rattle.ac_core.specs.Answer.{IsAnswer, IsUnshown, IsFileAnswer, IsTextAnswer};
 ghost use Rattle.ac_core.specs.declared.status.Status.{Status};
 
-use ac_base::{ReadTrouble, Shelf, read_whole};
-use c_parse::first_form;
-use std::alloc::{AllocError, Global};
-
+use crate::Status;
 use crate::first_path::translate;
 use crate::program_text::write_program;
 use crate::words::{is_form, shown_file};
-use crate::Status;
+use ac_base::{ReadTrouble, Shelf, read_whole};
+use c_parse::first_form;
+use std::alloc::{AllocError, Global};
 
 /// A status with the lines of the answer.
 #[derive(Drop)]

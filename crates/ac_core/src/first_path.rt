@@ -93,11 +93,7 @@ fn fits(alloc: Global, sum: &Exp) -> Result<Mon, AllocError>
     ensures { IfOk result (λ guard. mon_of guard ≡ first.guard (exp_of sum.now)) }
 {
     let sum = sum.copy(alloc)?;
-    Ok(Mon::Guard(Exp::Between(
-        0,
-        Box::new(alloc, sum)?,
-        u64::from(u32::MAX),
-    )))
+    Ok(Mon::Guard(Exp::Between(0, Box::new(alloc, sum)?, u64::from(u32::MAX))))
 }
 
 fn operand(alloc: Global, params: &[String], operand: Operand) -> Result<Exp, AllocError>

@@ -1,13 +1,15 @@
 //! Answers of the top call over shelves and sinks in memory.
 
+use crate::{Status, autocorres};
 use ac_base::{MemoryShelf, MemorySink};
 use std::alloc::{AllocError, Global};
 use std::test::Fail;
 
-use crate::{Status, autocorres};
-
 const SUM: &[u8] = b"unsigned f(unsigned a, unsigned b){return a+b;}";
-const SUM_SHOWN: &str = "(program (f numbers ((a (nat 32)) (b (nat 32))) ((nat 32)) (do () (guard (between 0 (add a b) 4294967295)) (ret (add a b)))))\n";
+
+const SUM_SHOWN: &str =
+    "(program (f numbers ((a (nat 32)) (b (nat 32))) ((nat 32)) (do () (guard (between 0 (add a b) 4294967295)) (ret (add a b)))))\n";
+
 const NO_FORM: &str = "words: no command of this form\n";
 
 // How a shelf and a sink behave: the numbers of their calls that fail, and how many bytes a call gives or takes.
@@ -40,7 +42,10 @@ fn run(
     outside: &Outside,
 ) -> Result<(Status, Vec<u8>), AllocError> {
     let mut files = Vec::new(alloc);
-    files.push((String::from_str(alloc, "a.c")?, Vec::from_slice(alloc, text)?))?;
+    files.push((
+        String::from_str(alloc, "a.c")?,
+        Vec::from_slice(alloc, text)?,
+    ))?;
     let shelf_fails = Vec::from_slice(alloc, outside.shelf_fails)?;
     let sink_fails = Vec::from_slice(alloc, outside.sink_fails)?;
     let step = outside.step.max(1);
@@ -72,12 +77,36 @@ fn texts_are_shown_or_not_yet(rt: HostRuntime) -> Result<(), Fail> {
             "(program (m numbers ((a (nat 32))) ((nat 32)) (ret 4294967295)))\n",
         ),
         (b"int f(int a){return a;}", Status::NotYet, "not yet\n"),
-        (b"unsigned m(unsigned a){return 4294967296u;}", Status::NotYet, "not yet\n"),
-        (b"unsigned m(unsigned a){return a+07u;}", Status::NotYet, "not yet\n"),
-        (b"unsigned m(unsigned a){return b;}", Status::NotYet, "not yet\n"),
-        (b"unsigned m(unsigned a,unsigned a){return a;}", Status::NotYet, "not yet\n"),
-        (b"unsigned m(unsigned a){return a+\xc8;}", Status::NotYet, "not yet\n"),
-        (b"unsigned m(unsigned a){return a;", Status::NotYet, "not yet\n"),
+        (
+            b"unsigned m(unsigned a){return 4294967296u;}",
+            Status::NotYet,
+            "not yet\n",
+        ),
+        (
+            b"unsigned m(unsigned a){return a+07u;}",
+            Status::NotYet,
+            "not yet\n",
+        ),
+        (
+            b"unsigned m(unsigned a){return b;}",
+            Status::NotYet,
+            "not yet\n",
+        ),
+        (
+            b"unsigned m(unsigned a,unsigned a){return a;}",
+            Status::NotYet,
+            "not yet\n",
+        ),
+        (
+            b"unsigned m(unsigned a){return a+\xc8;}",
+            Status::NotYet,
+            "not yet\n",
+        ),
+        (
+            b"unsigned m(unsigned a){return a;",
+            Status::NotYet,
+            "not yet\n",
+        ),
         (b"", Status::NotYet, "not yet\n"),
         (
             b"unsigned m(unsigned n23456789012345678901234567890123456789012345678901234567890123){return 0u;}",
@@ -107,7 +136,11 @@ fn words_have_forms(rt: HostRuntime) -> Result<(), Fail> {
         (&["--help"], Status::Words, NO_FORM),
         (&["show", "a.c", "words=f"], Status::NotYet, "not yet\n"),
         (&["check", "a.c", "c.cert"], Status::NotYet, "not yet\n"),
-        (&["trial", "200", "target=lp64"], Status::NotYet, "not yet\n"),
+        (
+            &["trial", "200", "target=lp64"],
+            Status::NotYet,
+            "not yet\n",
+        ),
         (&["show", "b.c"], Status::ReadFault, "read fault: b.c\n"),
         (&["show", "a.c"], Status::Done, SUM_SHOWN),
     ];
@@ -161,7 +194,7 @@ fn each_failure_outside_is_told(rt: HostRuntime) -> Result<(), Fail> {
             let (status, taken) = run(rt.alloc(), &words, SUM, &outside)?;
             if call < writes {
                 assert_eq!(rt; status, Status::WriteFault);
-                assert!(rt; lines.starts_with(&taken) );
+                assert!(rt; lines.starts_with(&taken));
             } else {
                 assert_eq!(rt; status, Status::Done);
             }

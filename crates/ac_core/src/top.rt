@@ -6,11 +6,10 @@ ghost use Rattle.c_parse.specs.FirstForm.{Function, IsFirstForm};
 ghost use Rattle.ac_core.specs.Words.{command_of, plain_show};
 ghost use Rattle.ac_core.specs.Answer.{EndsWith, source_limit};
 
-use ac_base::{Failed, Shelf, Sink, write_whole};
-use std::alloc::Global;
-
 use crate::Status;
 use crate::answer::answer_to;
+use ac_base::{Failed, Shelf, Sink, write_whole};
+use std::alloc::Global;
 
 /// Does what the words ask for: reads the files that they name from the shelf, and writes the answer, or the line of a
 /// fault, to the sink.

@@ -3,10 +3,9 @@
 ghost use Rattle.std.specs.Prelude.{ℕ, List, Option, None, IfOk, ◌≤◌, length};
 
 use ac_base::{Failed, Shelf};
-use std::fs;
-use std::io;
 use std::io::{Read, Seek, SeekFrom};
 use std::rt::Files;
+use std::{fs, io};
 
 /// The files that paths name. It tells no contents, and counts every error as a fault of every name.
 #[derive(Drop)]

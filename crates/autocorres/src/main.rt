@@ -8,12 +8,11 @@ mod file_shelf;
 mod stdout_sink;
 
 use ac_core::{Status, autocorres};
+use file_shelf::FileShelf;
 use std::alloc::Global;
 use std::io::ErrorKind;
 use std::process::ExitCode;
 use std::{env, io};
-
-use file_shelf::FileShelf;
 use stdout_sink::StdoutSink;
 
 fn main(rt: HostRuntime) -> ExitCode {

@@ -13,6 +13,6 @@ returns-in-Ok-write_whole-clause-ends g c =
 pub returns-in-Ok-write_whole-clause-complete : goal.returns-in-Ok-write_whole-clause-complete
 returns-in-Ok-write_whole-clause-complete g c = λ file text unit shows is_text within is_unit readable sound.
     let ends : EndsWith (map string_bytes c.args.words.now) (g.H.Shelf.contents c.args.shelf.now) (g.H.Shelf.faults c.args.shelf.now) (g.H.Shelf.faults c.answer_to.new.shelf)
-          (g.K.Sink.taken c.args.sink.now) (g.K.Sink.taken c.write_whole.new.sink) (g.K.Sink.faults c.args.sink.now) (g.K.Sink.faults c.write_whole.new.sink) c.in-Ok.answer.status =
-          returns-in-Ok-write_whole-clause-ends g c in
+    (g.K.Sink.taken c.args.sink.now) (g.K.Sink.taken c.write_whole.new.sink) (g.K.Sink.faults c.args.sink.now) (g.K.Sink.faults c.write_whole.new.sink) c.in-Ok.answer.status =
+    returns-in-Ok-write_whole-clause-ends g c in
     shown _ _ _ _ _ _ _ _ file text unit shows is_text within is_unit readable sound c.in-Ok.answer.status ends
