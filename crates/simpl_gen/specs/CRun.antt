@@ -165,11 +165,16 @@ ended result (Returning v m) = done (record { result = v; state = m.state })
 ended result (Broken m) = fault K.Unreached
 ended result (Continued m) = fault K.Unreached
 
+-- A local has zeros until its declaration is reached; no typed function reads it before.
+abbrev pub zero_locals : Layout → List C.Variable → Env
+zero_locals l [] = no_env
+zero_locals l (v ∷ vs) = with_name v.name (V.Bits (record { width = local_width l v.type; bits = 0 })) (zero_locals l vs)
+
 -- What isn't in the unit has no body: no typed unit calls it.
 abbrev pub function_runs : Layout → Choice → (Name → Level) → Option C.TypedFn → Option ℕ → List Runs → Invocation → Ends Returned K.GuardKind
 function_runs l p levels None depth fs c = stop Turns
 function_runs l p levels (Some f) depth fs c =
-    Then (statements (record { layout = l; choice = p; level = levels f.name; result = f.result }) f.body depth fs (machine_with (bound (C.variable_names f.params) c.arguments no_env) c.state)) (ended f.result)
+    Then (statements (record { layout = l; choice = p; level = levels f.name; result = f.result }) f.body depth fs (machine_with (bound (C.variable_names f.params) c.arguments (zero_locals l f.locals)) c.state)) (ended f.result)
 
 abbrev pub bodies : C.TypedUnit → (Name → Level) → Choice → List Runs → Runs
 bodies u levels p fs depth c = function_runs u.layout p levels (C.typed_fn u.functions c.name) depth fs c
