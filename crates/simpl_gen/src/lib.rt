@@ -3,4 +3,4 @@
 
 mod laws;
 
-pub use laws::{statements_continue, statements_end_once};
+pub use laws::{statements_continue, statements_end_once, watching_keeps_ends};
