@@ -1,0 +1,12 @@
+use Rattle.std.proofs.Common.{refl}
+use Rattle.worked_rows.proofs.Computed
+use Rattle.worked_rows.proofs.division.Goals as goal
+
+pub returns : goal.returns
+returns c = record {
+  least_by_minus_one = Computed.undefined _ _ _ refl;
+  least_modulo_minus_one = Computed.undefined _ _ _ refl;
+  by_zero = Computed.undefined _ _ _ refl;
+  of_negative = Computed.returns _ _ _ refl refl;
+  rest_of_negative = Computed.returns _ _ _ refl refl;
+}

@@ -1,0 +1,5 @@
+pub mod Trees
+pub mod Claims
+pub mod Sum
+pub mod Midpoint
+pub mod Division
