@@ -3,3 +3,15 @@ pub mod Claims
 pub mod Sum
 pub mod Midpoint
 pub mod Division
+pub mod Shifts
+pub mod CharSum
+pub mod NullTest
+pub mod Swap
+pub mod Find
+pub mod Nodes
+pub mod Counting
+pub mod Reversal
+pub mod StaleNext
+pub mod Uninitialised
+pub mod StructCopy
+pub mod Recursion

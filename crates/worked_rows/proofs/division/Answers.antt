@@ -7,6 +7,7 @@ returns c = record {
   least_by_minus_one = Computed.undefined _ _ _ refl;
   least_modulo_minus_one = Computed.undefined _ _ _ refl;
   by_zero = Computed.undefined _ _ _ refl;
+  modulo_zero = Computed.undefined _ _ _ refl;
   of_negative = Computed.returns _ _ _ refl refl;
   rest_of_negative = Computed.returns _ _ _ refl refl;
 }

@@ -1,6 +1,6 @@
 use Rattle.std.proofs.Common.{refl}
 use Rattle.worked_rows.proofs.Computed
-use Rattle.worked_rows.proofs.sum.Goals as goal
+use Rattle.worked_rows.proofs.unsigned_sum.Goals as goal
 
 pub returns : goal.returns
 returns c = record {

@@ -1,0 +1,9 @@
+use Rattle.std.proofs.Common.{refl}
+use Rattle.worked_rows.proofs.Computed
+use Rattle.worked_rows.proofs.stale_next.Goals as goal
+
+pub returns : goal.returns
+returns c = record {
+  plainly = Computed.undefined _ _ _ refl;
+  watched = Computed.undefined _ _ _ refl;
+}
