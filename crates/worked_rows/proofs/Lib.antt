@@ -1,3 +1,5 @@
 pub mod End
 pub mod CEnd
+pub mod SimplEnd
+pub mod ProgramEnd
 pub mod Computed

@@ -50,4 +50,4 @@ abbrev pub counting_below_five : Case
 counting_below_five = call unit (codes "cnt") (value (pos 4096) ∷ value (pos 5) ∷ []) memory
 
 abbrev pub from_five : ℕ → Case
-from_five turns = record { unit = unit; name = codes "dw"; arguments = value (pos 5) ∷ []; turns = turns; fill = 0; memory = no_memory }
+from_five turns = record { unit = unit; name = codes "dw"; arguments = value (pos 5) ∷ []; turns = turns; depth = Some 256; fill = 0; memory = no_memory }

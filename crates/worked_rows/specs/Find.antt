@@ -28,4 +28,4 @@ memory = record {
 
 -- a number among the three, at so many turns
 abbrev pub finding : ℕ → ℕ → Case
-finding k turns = record { unit = unit; name = codes "find"; arguments = value (pos 4096) ∷ value (pos 3) ∷ value (pos k) ∷ []; turns = turns; fill = 0; memory = memory }
+finding k turns = record { unit = unit; name = codes "find"; arguments = value (pos 4096) ∷ value (pos 3) ∷ value (pos k) ∷ []; turns = turns; depth = Some 256; fill = 0; memory = memory }

@@ -21,5 +21,6 @@ parity f other at_zero = function f (Some uint) (variable (codes "n") uint ∷ [
 abbrev pub unit : TypedUnit
 unit = unit_of [] (parity (codes "od") (codes "ev") 0 ∷ parity (codes "ev") (codes "od") 1 ∷ [])
 
-abbrev pub even : ℕ → ℕ → Case
-even k turns = record { unit = unit; name = codes "ev"; arguments = value (pos k) ∷ []; turns = turns; fill = 0; memory = no_memory }
+-- of a number, at so many turns and a limit of nested calls
+abbrev pub even : ℕ → ℕ → ℕ → Case
+even k turns depth = record { unit = unit; name = codes "ev"; arguments = value (pos k) ∷ []; turns = turns; depth = Some depth; fill = 0; memory = no_memory }

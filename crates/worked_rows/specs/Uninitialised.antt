@@ -9,4 +9,4 @@ unit = unit_of [] (function (codes "u0") (Some uint) [] (variable (codes "x") ui
 
 -- with this fill number
 abbrev pub filled : ℕ → Case
-filled k = record { unit = unit; name = codes "u0"; arguments = []; turns = 100; fill = k; memory = no_memory }
+filled k = record { unit = unit; name = codes "u0"; arguments = []; turns = 100; depth = Some 256; fill = k; memory = no_memory }

@@ -9,7 +9,7 @@ ghost use Rattle.correspondence.specs.Outcome.{Turns, Depth};
 ghost use Rattle.simpl_lang.specs.Command.{Div, Signed, Shift, Pointer, Tag, Wrap};
 ghost use Rattle.simpl_gen.specs.CRun.{plain};
 ghost use Rattle.worked_rows.specs.Trees.{uint, value, char_value, minus};
-ghost use Rattle.worked_rows.specs.Claims.{Returns, Leaves, Holds, Undefined, Stops, words, numbers};
+ghost use Rattle.worked_rows.specs.Claims.{Returns, Leaves, Holds, Undefined, Stops, ReturnsInC, StopsInC, words, numbers};
 ghost use Rattle.worked_rows.specs.Nodes as N;
 ghost use Rattle.worked_rows.specs.Sum as S;
 ghost use Rattle.worked_rows.specs.Midpoint as Mid;
@@ -140,10 +140,15 @@ pub fn struct_copy()
     ensures by_a_caller_watched { Leaves numbers (Cp.copying (codes "bc")) None 4096 Cp.copied }
 {}
 
-/// A call asks a turn and a level of the nested calls: at 256 levels 256 nested calls return, and one more is too deep.
+/// A call asks a turn, and then a level of the nested calls.
 pub fn recursion()
-    ensures without_turns { Stops plain (Rec.even 1 0) Turns }
-    ensures of_zero { Returns plain (Rec.even 0 0) (Some (value (pos 1))) }
-    ensures at_the_limit { Returns numbers (Rec.even 256 1000) (Some (value (pos 1))) }
-    ensures too_deep { Stops numbers (Rec.even 257 1000) Depth }
+    ensures without_turns { Stops plain (Rec.even 1 0 256) Turns }
+    ensures without_depth { Stops plain (Rec.even 1 1 0) Depth }
+    ensures without_either { Stops plain (Rec.even 1 0 0) Turns }
+    ensures of_zero { Returns plain (Rec.even 0 0 0) (Some (value (pos 1))) }
+    ensures of_three { Returns numbers (Rec.even 3 3 3) (Some (value (pos 0))) }
+    ensures too_deep { Stops numbers (Rec.even 4 4 3) Depth }
+    ensures out_of_turns { Stops numbers (Rec.even 4 3 4) Turns }
+    ensures at_the_limit { ReturnsInC numbers (Rec.even 256 1000 256) (Some (value (pos 1))) }
+    ensures past_the_limit { StopsInC numbers (Rec.even 257 1000 256) Depth }
 {}

@@ -4,6 +4,6 @@ use Rattle.worked_rows.proofs.char_sum.Goals as goal
 
 pub returns : goal.returns
 returns c = record {
-  plainly = Computed.returns _ _ _ refl refl;
-  at_numbers = Computed.returns _ _ _ refl refl;
+  plainly = Computed.returns _ _ _ refl refl refl refl;
+  at_numbers = Computed.returns _ _ _ refl refl refl refl;
 }

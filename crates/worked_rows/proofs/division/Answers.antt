@@ -4,10 +4,10 @@ use Rattle.worked_rows.proofs.division.Goals as goal
 
 pub returns : goal.returns
 returns c = record {
-  least_by_minus_one = Computed.undefined _ _ _ refl;
-  least_modulo_minus_one = Computed.undefined _ _ _ refl;
-  by_zero = Computed.undefined _ _ _ refl;
-  modulo_zero = Computed.undefined _ _ _ refl;
-  of_negative = Computed.returns _ _ _ refl refl;
-  rest_of_negative = Computed.returns _ _ _ refl refl;
+  least_by_minus_one = Computed.undefined _ _ _ refl refl;
+  least_modulo_minus_one = Computed.undefined _ _ _ refl refl;
+  by_zero = Computed.undefined _ _ _ refl refl;
+  modulo_zero = Computed.undefined _ _ _ refl refl;
+  of_negative = Computed.returns _ _ _ refl refl refl refl;
+  rest_of_negative = Computed.returns _ _ _ refl refl refl refl;
 }

@@ -4,8 +4,8 @@ use Rattle.worked_rows.proofs.midpoint.Goals as goal
 
 pub returns : goal.returns
 returns c = record {
-  wraps = Computed.returns _ _ _ refl refl;
-  watched = Computed.undefined _ _ _ refl;
-  by_difference = Computed.returns _ _ _ refl refl;
-  by_difference_watched = Computed.returns _ _ _ refl refl;
+  wraps = Computed.returns _ _ _ refl refl refl refl;
+  watched = Computed.undefined _ _ _ refl refl;
+  by_difference = Computed.returns _ _ _ refl refl refl refl;
+  by_difference_watched = Computed.returns _ _ _ refl refl refl refl;
 }

@@ -4,8 +4,8 @@ use Rattle.worked_rows.proofs.reversal.Goals as goal
 
 pub returns : goal.returns
 returns c = record {
-  bytes = Computed.leaves _ _ _ _ _ refl refl refl;
-  watched = Computed.returns _ _ _ refl refl;
-  first = Computed.holds _ _ _ _ _ refl refl;
-  second = Computed.holds _ _ _ _ _ refl refl;
+  bytes = Computed.leaves _ _ _ _ _ refl refl refl refl refl refl;
+  watched = Computed.returns _ _ _ refl refl refl refl;
+  first = Computed.holds _ _ _ _ _ refl refl refl refl;
+  second = Computed.holds _ _ _ _ _ refl refl refl refl;
 }

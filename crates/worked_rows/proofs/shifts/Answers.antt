@@ -4,14 +4,14 @@ use Rattle.worked_rows.proofs.shifts.Goals as goal
 
 pub returns : goal.returns
 returns c = record {
-  signed_left = Computed.undefined _ _ _ refl;
-  signed_left_fits = Computed.returns _ _ _ refl refl;
-  negative_left = Computed.undefined _ _ _ refl;
-  unsigned_left = Computed.returns _ _ _ refl refl;
-  unsigned_left_wraps = Computed.returns _ _ _ refl refl;
-  by_width = Computed.undefined _ _ _ refl;
-  by_negative = Computed.undefined _ _ _ refl;
-  right_of_negative = Computed.returns _ _ _ refl refl;
-  right_by_width_less_one = Computed.returns _ _ _ refl refl;
-  right_by_width = Computed.undefined _ _ _ refl;
+  signed_left = Computed.undefined _ _ _ refl refl;
+  signed_left_fits = Computed.returns _ _ _ refl refl refl refl;
+  negative_left = Computed.undefined _ _ _ refl refl;
+  unsigned_left = Computed.returns _ _ _ refl refl refl refl;
+  unsigned_left_wraps = Computed.returns _ _ _ refl refl refl refl;
+  by_width = Computed.undefined _ _ _ refl refl;
+  by_negative = Computed.undefined _ _ _ refl refl;
+  right_of_negative = Computed.returns _ _ _ refl refl refl refl;
+  right_by_width_less_one = Computed.returns _ _ _ refl refl refl refl;
+  right_by_width = Computed.undefined _ _ _ refl refl;
 }

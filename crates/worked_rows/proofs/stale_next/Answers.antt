@@ -4,6 +4,6 @@ use Rattle.worked_rows.proofs.stale_next.Goals as goal
 
 pub returns : goal.returns
 returns c = record {
-  plainly = Computed.undefined _ _ _ refl;
-  watched = Computed.undefined _ _ _ refl;
+  plainly = Computed.undefined _ _ _ refl refl;
+  watched = Computed.undefined _ _ _ refl refl;
 }

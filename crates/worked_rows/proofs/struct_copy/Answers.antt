@@ -4,9 +4,9 @@ use Rattle.worked_rows.proofs.struct_copy.Goals as goal
 
 pub returns : goal.returns
 returns c = record {
-  bytes = Computed.leaves _ _ _ _ _ refl refl refl;
-  source = Computed.holds _ _ _ _ _ refl refl;
-  target = Computed.holds _ _ _ _ _ refl refl;
-  by_a_caller = Computed.leaves _ _ _ _ _ refl refl refl;
-  by_a_caller_watched = Computed.leaves _ _ _ _ _ refl refl refl;
+  bytes = Computed.leaves _ _ _ _ _ refl refl refl refl refl refl;
+  source = Computed.holds _ _ _ _ _ refl refl refl refl;
+  target = Computed.holds _ _ _ _ _ refl refl refl refl;
+  by_a_caller = Computed.leaves _ _ _ _ _ refl refl refl refl refl refl;
+  by_a_caller_watched = Computed.leaves _ _ _ _ _ refl refl refl refl refl refl;
 }

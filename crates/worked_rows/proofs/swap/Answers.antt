@@ -4,8 +4,8 @@ use Rattle.worked_rows.proofs.swap.Goals as goal
 
 pub returns : goal.returns
 returns c = record {
-  first = Computed.holds _ _ _ _ _ refl refl;
-  second = Computed.holds _ _ _ _ _ refl refl;
-  bytes = Computed.leaves _ _ _ _ _ refl refl refl;
-  with_itself = Computed.leaves _ _ _ _ _ refl refl refl;
+  first = Computed.holds _ _ _ _ _ refl refl refl refl;
+  second = Computed.holds _ _ _ _ _ refl refl refl refl;
+  bytes = Computed.leaves _ _ _ _ _ refl refl refl refl refl refl;
+  with_itself = Computed.leaves _ _ _ _ _ refl refl refl refl refl refl;
 }

@@ -4,7 +4,7 @@ use Rattle.worked_rows.proofs.uninitialised.Goals as goal
 
 pub returns : goal.returns
 returns c = record {
-  zero = Computed.returns _ _ _ refl refl;
-  seven = Computed.returns _ _ _ refl refl;
-  modulo_width = Computed.returns _ _ _ refl refl;
+  zero = Computed.returns _ _ _ refl refl refl refl;
+  seven = Computed.returns _ _ _ refl refl refl refl;
+  modulo_width = Computed.returns _ _ _ refl refl refl refl;
 }
