@@ -3,3 +3,4 @@ pub mod CEnd
 pub mod SimplEnd
 pub mod ProgramEnd
 pub mod Computed
+pub mod ComputedProgram

@@ -2,15 +2,14 @@
 -- turns, at a limit of nested calls and with a fill number; in C, and in the Simpl that is generated for it.
 use Rattle.std.specs.Prelude.{◌≡◌, ℕ, zero, suc, ◌+◌, ◌-◌, List, [], ◌∷◌, Option, Some, None, nat_lt, if◌then◌else◌, get_or, length}
 use Rattle.correspondence.specs.Outcome.{Limit, Done, Failed, Stopped, Ends}
-use Rattle.c_values.specs.Name.{Name}
+use Rattle.c_values.specs.Name.{Name, same_name}
 use Rattle.c_values.specs.Types.{CType}
 use Rattle.c_values.specs.Value.{Value, nothing}
-use Rattle.c_values.specs.Layout.{Layout}
+use Rattle.c_values.specs.Layout.{GlobalVar}
 use Rattle.c_values.specs.Choice.{Fill}
 use Rattle.c_memory.specs.Memory.{Tag, Memory}
 use Rattle.c_memory.specs.Heap.{Heap, OnBytes, OnTypes, read_heap}
-use Rattle.ac_expr.specs.Sort.{Level, Bytes, Words, Numbers}
-use Rattle.ac_expr.specs.Evaluation.{State}
+use Rattle.ac_expr.specs.Sort.{Level, Words, Numbers}
 use Rattle.ac_expr.specs.Signature.{Invocation}
 use Rattle.simpl_lang.specs.Command.{GuardKind}
 use Rattle.simpl_lang.specs.Exec.{Returned, function_runs}
@@ -44,8 +43,13 @@ tag a t = record { address = a; type = t }
 abbrev pub call : TypedUnit → Name → List Value → Memory → Case
 call u f vs m = record { unit = u; name = f; arguments = vs; turns = 100; depth = Some 256; fill = 0; memory = m }
 
+-- the values that globals begin with
+abbrev pub initial : List GlobalVar → Name → Value
+initial [] x = nothing
+initial (v ∷ vs) x = if same_name v.name x then v.initial else initial vs x
+
 abbrev pub invocation : Case → Invocation
-invocation c = record { name = c.name; arguments = c.arguments; state = record { heap = OnBytes c.memory; globals = λ x. nothing } }
+invocation c = record { name = c.name; arguments = c.arguments; state = record { heap = OnBytes c.memory; globals = initial c.unit.globals } }
 
 -- the ends of the call's runs, each function watched by its level
 abbrev pub ends : (Name → Level) → Case → Ends Returned GuardKind

@@ -15,3 +15,9 @@ pub mod StaleNext
 pub mod Uninitialised
 pub mod StructCopy
 pub mod Recursion
+pub mod Globals
+pub mod Statements
+pub mod ExpressionClaims
+pub mod Edges
+pub mod Programs
+pub mod Generation
