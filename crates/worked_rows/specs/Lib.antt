@@ -14,6 +14,7 @@ pub mod Reversal
 pub mod StaleNext
 pub mod Uninitialised
 pub mod StructCopy
+pub mod Casts
 pub mod Recursion
 pub mod Globals
 pub mod Statements

@@ -1,11 +1,12 @@
 -- struct p{unsigned char a; unsigned b;}; void cp(struct p *d, struct p *s){*d=*s;}
 -- void bc(struct p *d, unsigned *s){cp(d, (struct p *)s);}
-use Rattle.std.specs.Prelude.{ℕ, List, [], ◌∷◌, None, pos, codes}
+use Rattle.std.specs.Prelude.{ℕ, List, [], ◌∷◌, None, pos, codes, if◌then◌else◌}
 use Rattle.c_values.specs.Types.{UChar, CType, Integer, Ptr, Struct}
-use Rattle.c_values.specs.Name.{Name}
+use Rattle.c_values.specs.Name.{Name, same_name}
 use Rattle.c_values.specs.Value.{Value as V, Parts, more, no_values}
 use Rattle.c_values.specs.Layout.{StructDef}
 use Rattle.c_memory.specs.Memory.{Memory}
+use Rattle.ac_expr.specs.Sort.{Level, Bytes, Numbers}
 use Rattle.c_types.specs.Typed.{Expr, Local, Value, Convert, Place, Through, Here, ToPlace, Assign, NoResult, Call, TypedUnit}
 use Rattle.worked_rows.specs.Trees.{uint, value, char_value, variable, function, unit_of}
 use Rattle.worked_rows.specs.Claims.{Case, call, bytes_from, zeros, tag}
@@ -38,6 +39,10 @@ memory = record {
 
 abbrev pub copying : Name → Case
 copying f = call unit f (value (pos 4104) ∷ value (pos 4096) ∷ []) memory
+
+-- the second function converts a pointer, so it is on bytes
+abbrev pub levels : Name → Level
+levels x = if same_name x (codes "bc") then Bytes else Numbers
 
 -- the copy keeps the padding where it goes
 abbrev pub copied : List ℕ

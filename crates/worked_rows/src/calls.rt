@@ -22,6 +22,7 @@ ghost use Rattle.worked_rows.specs.Uninitialised as Un;
 ghost use Rattle.worked_rows.specs.StructCopy as Cp;
 ghost use Rattle.worked_rows.specs.Recursion as Rec;
 ghost use Rattle.worked_rows.specs.Globals as G;
+ghost use Rattle.worked_rows.specs.Casts as Ca;
 
 /// An unsigned sum wraps, which numbers watch and words don't.
 pub fn unsigned_sum()
@@ -134,7 +135,7 @@ pub fn struct_copy()
     ensures source { Holds numbers (Cp.copying (codes "cp")) Cp.p 4096 Cp.one_and_two }
     ensures target { Holds numbers (Cp.copying (codes "cp")) Cp.p 4104 Cp.one_and_two }
     ensures by_a_caller { Leaves plain (Cp.copying (codes "bc")) None 4096 Cp.copied }
-    ensures by_a_caller_watched { Leaves numbers (Cp.copying (codes "bc")) None 4096 Cp.copied }
+    ensures by_a_caller_watched { Leaves Cp.levels (Cp.copying (codes "bc")) None 4096 Cp.copied }
 {}
 
 /// A call asks a turn, and then a level of the nested calls.
@@ -156,4 +157,9 @@ pub fn global_array()
     ensures first { Returns plain (G.putting (pos 0) (minus 1)) (Some (value (minus 1))) }
     ensures past_the_end { Undefined plain (G.putting (pos 4) (pos 7)) Bounds }
     ensures negative { Undefined plain (G.putting (minus 1) (pos 7)) Bounds }
+{}
+
+/// What a pointer to unsigned points to can be read as chars on bytes, and by a caller on bytes too.
+pub fn cast_on_bytes()
+    ensures of_42 { Leaves Ca.levels Ca.of_42 (Some (char_value (pos 42))) 4096 (42 ∷ 0 ∷ 0 ∷ 0 ∷ []) }
 {}
