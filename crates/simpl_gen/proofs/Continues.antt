@@ -45,7 +45,7 @@ mutual
   statement_continues t (C.For init test step a) d e h fs gs k m =
       then_continues _ _ _ _ (statements_continue t init d e h fs gs k m)
       (and_next_continues _ _ (loop_continues _ _ _
-          (λ fs' gs' k' n. then_continues _ _ _ _ (statement_continues t a d e h fs' gs' k' n) (turned_continues _ _ (stepped_continues _ _ (statement_continues t step d e h fs' gs' k')))) fs gs k))
+      (λ fs' gs' k' n. then_continues _ _ _ _ (statement_continues t a d e h fs' gs' k' n) (turned_continues _ _ (stepped_continues _ _ (statement_continues t step d e h fs' gs' k')))) fs gs k))
   statement_continues t (C.Switch n i x hs) d e h fs gs k m =
       then_continues _ _ _ _ (continues_itself _) (λ v. then_continues _ _ _ _ (groups_continue t _ _ hs d e h fs gs k m) (λ f. continues_itself _))
   statement_continues t C.Break d e h fs gs k m = continues_itself _

@@ -95,7 +95,7 @@ mutual
       loop_once _ _ (tested_after_first_once t (C.While_true e)) (λ gs hs x. then_once _ _ turned_later_once (statement_once t q a depth gs hs x.1)) fs h _
   statement_once t q (C.For init test step a) depth fs h m =
       then_once _ _ (and_next_once _ (loop_once _ _ (tested_once t test)
-          (λ gs hs n. then_once _ _ (turned_once _ (stepped_once _ (statement_once t q step depth gs hs))) (statement_once t q a depth gs hs n)) fs h))
+      (λ gs hs n. then_once _ _ (turned_once _ (stepped_once _ (statement_once t q step depth gs hs))) (statement_once t q a depth gs hs n)) fs h))
       (statements_once t q init depth fs h m)
   statement_once t q (C.Switch n i e gs) depth fs h m =
       then_once _ _ (λ v. then_once _ _ switched_once (groups_once t q _ _ gs depth fs h m)) (given_once _)

@@ -17,12 +17,12 @@ p = Local (codes "p") (Ptr uint)
 
 abbrev pub first_byte : TypedFn
 first_byte = function (codes "b0") (Some char) (variable (codes "p") (Ptr uint) ∷ []) (variable (codes "c") (Ptr char) ∷ [])
-    ( Assign (ToLocal (codes "c") (Ptr char)) (Convert (Ptr char) p)
+    (Assign (ToLocal (codes "c") (Ptr char)) (Convert (Ptr char) p)
     ∷ Return (Value (Through char (Local (codes "c") (Ptr char)) Here char)) ∷ [])
 
 abbrev pub calls_it : TypedFn
 calls_it = function (codes "b1") (Some char) (variable (codes "p") (Ptr uint) ∷ []) (variable (codes "r") char ∷ [])
-    ( Declare (codes "r") char
+    (Declare (codes "r") char
     ∷ Call 1 (codes "b0") (p ∷ []) (Assigned char (ToLocal (codes "r") char))
     ∷ Return (Local (codes "r") char) ∷ [])
 

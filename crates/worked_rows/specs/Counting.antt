@@ -23,17 +23,17 @@ count_up = set (codes "c") (Compute Add UInt c (unsigned_literal 1))
 
 abbrev pub while_below : TypedFn
 while_below = function (codes "cnt") (Some uint) (variable (codes "p") pointer ∷ variable (codes "n") uint ∷ []) (variable (codes "c") uint ∷ [])
-    ( set (codes "c") (unsigned_literal 0)
+    (set (codes "c") (unsigned_literal 0)
     ∷ While (Compare Less UInt (Value (v_of (to_node (codes "p")))) n)
-      (Block (body (count_up ∷ Assign (ToLocal (codes "p") pointer) (Value (next_of (to_node (codes "p")))) ∷ [])))
+    (Block (body (count_up ∷ Assign (ToLocal (codes "p") pointer) (Value (next_of (to_node (codes "p")))) ∷ [])))
     ∷ Return c ∷ [])
 
 abbrev pub with_continue : TypedFn
 with_continue = function (codes "dw") (Some uint) (variable (codes "n") uint ∷ []) (variable (codes "c") uint ∷ [])
-    ( set (codes "c") (unsigned_literal 0)
+    (set (codes "c") (unsigned_literal 0)
     ∷ DoWhile 1
-      (Block (body (set (codes "n") (Compute Subtract UInt n (unsigned_literal 1)) ∷ If (Equate Equal uint n (unsigned_literal 3)) Continue Empty ∷ count_up ∷ [])))
-      (Compare Greater UInt n (unsigned_literal 1))
+    (Block (body (set (codes "n") (Compute Subtract UInt n (unsigned_literal 1)) ∷ If (Equate Equal uint n (unsigned_literal 3)) Continue Empty ∷ count_up ∷ [])))
+    (Compare Greater UInt n (unsigned_literal 1))
     ∷ Return c ∷ [])
 
 abbrev pub unit : TypedUnit

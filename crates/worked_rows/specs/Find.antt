@@ -12,11 +12,11 @@ i = Local (codes "i") int
 abbrev pub unit : TypedUnit
 unit = unit_of [] (function (codes "find") (Some int)
     (variable (codes "a") (Ptr uint) ∷ variable (codes "n") int ∷ variable (codes "k") uint ∷ []) (variable (codes "i") int ∷ [])
-    ( Declare (codes "i") int
+    (Declare (codes "i") int
     ∷ For (body (Assign (ToLocal (codes "i") int) (literal 0) ∷ []))
-      (While_true (Compare Less Int i (Local (codes "n") int)))
-      (Assign (ToLocal (codes "i") int) (Compute Add Int i (literal 1)))
-      (Block (body (If (Equate Equal uint (Value (Through uint (Move Plus uint (Local (codes "a") (Ptr uint)) i) Here uint)) (Local (codes "k") uint)) (Return i) Empty ∷ [])))
+    (While_true (Compare Less Int i (Local (codes "n") int)))
+    (Assign (ToLocal (codes "i") int) (Compute Add Int i (literal 1)))
+    (Block (body (If (Equate Equal uint (Value (Through uint (Move Plus uint (Local (codes "a") (Ptr uint)) i) Here uint)) (Local (codes "k") uint)) (Return i) Empty ∷ [])))
     ∷ Return (Negate Int (literal 1)) ∷ []) ∷ [])
 
 -- 5, 7 and 9 from 4096 on

@@ -13,7 +13,7 @@ n = Local (codes "n") uint
 -- at zero the number, else what the other function gives for one less
 abbrev pub parity : Name → Name → ℕ → TypedFn
 parity f other at_zero = function f (Some uint) (variable (codes "n") uint ∷ []) (variable (codes "r") uint ∷ [])
-    ( Declare (codes "r") uint
+    (Declare (codes "r") uint
     ∷ If (Equate Equal uint n (unsigned_literal 0)) (Return (unsigned_literal at_zero)) Empty
     ∷ Call 1 other (Compute Subtract UInt n (unsigned_literal 1) ∷ []) (Assigned uint (ToLocal (codes "r") uint))
     ∷ Return (Local (codes "r") uint) ∷ [])

@@ -15,12 +15,12 @@ set x e = Assign (ToLocal x pointer) e
 
 abbrev pub unit : TypedUnit
 unit = unit_of (node_struct ∷ []) (function (codes "rev") (Some pointer) (variable (codes "p") pointer ∷ []) (variable (codes "r") pointer ∷ variable (codes "q") pointer ∷ [])
-    ( set (codes "r") (ConvertNull pointer (literal 0))
+    (set (codes "r") (ConvertNull pointer (literal 0))
     ∷ While p (Block (body
-      ( set (codes "q") (Value (next_of p))
-      ∷ Assign (ToPlace (next_of p)) (to_node (codes "r"))
-      ∷ set (codes "r") p
-      ∷ set (codes "p") (to_node (codes "q")) ∷ [])))
+    (set (codes "q") (Value (next_of p))
+    ∷ Assign (ToPlace (next_of p)) (to_node (codes "r"))
+    ∷ set (codes "r") p
+    ∷ set (codes "p") (to_node (codes "q")) ∷ [])))
     ∷ Return (to_node (codes "r")) ∷ []) ∷ [])
 
 -- a list of 1 and 2, at 4096 and 4104

@@ -11,7 +11,7 @@ p = to_node (codes "p")
 
 abbrev pub unit : TypedUnit
 unit = unit_of (node_struct ∷ []) (function (codes "st") (Some uint) (variable (codes "p") pointer ∷ []) []
-    ( Assign (ToPlace (v_of (Value (next_of p)))) (unsigned_literal 1)
+    (Assign (ToPlace (v_of (Value (next_of p)))) (unsigned_literal 1)
     ∷ Assign (ToPlace (next_of p)) (ConvertNull pointer (literal 0))
     ∷ Return (Value (v_of (Value (next_of p)))) ∷ []) ∷ [])
 

@@ -25,10 +25,10 @@ behind x = Through p (pointer x) Here p
 
 abbrev pub unit : TypedUnit
 unit = unit_of (p_struct ∷ [])
-    ( function (codes "cp") None (variable (codes "d") (Ptr p) ∷ variable (codes "s") (Ptr p) ∷ []) []
-      (Assign (ToPlace (behind (codes "d"))) (Value (behind (codes "s"))) ∷ [])
+    (function (codes "cp") None (variable (codes "d") (Ptr p) ∷ variable (codes "s") (Ptr p) ∷ []) []
+    (Assign (ToPlace (behind (codes "d"))) (Value (behind (codes "s"))) ∷ [])
     ∷ function (codes "bc") None (variable (codes "d") (Ptr p) ∷ variable (codes "s") (Ptr uint) ∷ []) []
-      (Call 1 (codes "cp") (pointer (codes "d") ∷ Convert (Ptr p) (Local (codes "s") (Ptr uint)) ∷ []) NoResult ∷ []) ∷ [])
+    (Call 1 (codes "cp") (pointer (codes "d") ∷ Convert (Ptr p) (Local (codes "s") (Ptr uint)) ∷ []) NoResult ∷ []) ∷ [])
 
 -- (1, 2) at 4096 and (3, 4) at 4104, with padding of their own
 abbrev pub memory : Memory

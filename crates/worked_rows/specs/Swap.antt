@@ -15,7 +15,7 @@ behind x = Through uint (Local x pointer) Here uint
 
 abbrev pub unit : TypedUnit
 unit = unit_of [] (function (codes "swap") None (variable (codes "p") pointer ∷ variable (codes "q") pointer ∷ []) (variable (codes "t") uint ∷ [])
-    ( Assign (ToLocal (codes "t") uint) (Value (behind (codes "p")))
+    (Assign (ToLocal (codes "t") uint) (Value (behind (codes "p")))
     ∷ Assign (ToPlace (behind (codes "p"))) (Value (behind (codes "q")))
     ∷ Assign (ToPlace (behind (codes "q"))) (Local (codes "t") uint) ∷ []) ∷ [])
 

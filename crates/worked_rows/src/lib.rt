@@ -10,8 +10,14 @@ mod generation;
 mod programs;
 mod statements;
 
-pub use calls::{cast_on_bytes, char_sum, counting, division, find, global_array, midpoint, null_test, recursion, reversal, shifts, stale_next, struct_copy, swap, uninitialised, unsigned_sum};
-pub use expressions::{arithmetic_at_its_limits, conversions, division_at_its_limits, evaluation_order, places, shifts_at_their_limits};
+pub use calls::{
+    cast_on_bytes, char_sum, counting, division, find, global_array, midpoint, null_test,
+    recursion, reversal, shifts, stale_next, struct_copy, swap, uninitialised, unsigned_sum,
+};
+pub use expressions::{
+    arithmetic_at_its_limits, conversions, division_at_its_limits, evaluation_order, places,
+    shifts_at_their_limits,
+};
 pub use generation::{guards_of_null_test, reasons, returned_constant};
 pub use programs::{midpoints, sums};
 pub use statements::{ends_of_functions, loops, switches};
