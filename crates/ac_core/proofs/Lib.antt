@@ -1,1 +1,4 @@
 pub mod Spaced
+pub mod FirstForm
+pub mod Commands
+pub mod Complete

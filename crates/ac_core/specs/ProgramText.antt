@@ -177,8 +177,12 @@ abbrev mutual
 abbrev pub binder_text : Binder → List ℕ
 binder_text b = form b.name (kind_text b.kind ∷ [])
 
+-- a function's name, level, parameters and results
+abbrev pub signature_text : FinalFn → List ℕ
+signature_text f = f.name ++ spaced (level_text f.level ∷ row (map binder_text f.params) ∷ row (map kind_text f.results) ∷ [])
+
 abbrev pub function_text : FinalFn → List ℕ
-function_text f = form f.name (level_text f.level ∷ row (map binder_text f.params) ∷ row (map kind_text f.results) ∷ program_text f.body ∷ [])
+function_text f = form (signature_text f) (program_text f.body ∷ [])
 
 -- the programs of a unit, one line
 abbrev pub unit_text : FinalUnit → List ℕ

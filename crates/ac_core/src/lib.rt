@@ -1,4 +1,15 @@
 //! From C text to programs that are proved exact.
 #![tactic(auto)]
 
+mod answer;
+mod first_path;
 mod program_text;
+mod status;
+mod top;
+mod words;
+
+pub use status::Status;
+pub use top::autocorres;
+
+#[cfg(test)]
+mod tests;

@@ -4,7 +4,7 @@ ghost use Rattle.std.specs.Prelude.{◌≡◌, ◌++◌, List, map, pos, codes, 
 ghost use Rattle.std.specs.Fmt.{decimal};
 ghost use Rattle.ac_expr.specs.Code.{exp_of, level_of, kind_of};
 ghost use Rattle.monad_lang.specs.Code.{mon_of, binder_of, final_fn_of};
-ghost use Rattle.ac_core.specs.ProgramText.{exp_text, spaced, row, kind_text, level_text, binder_text, program_text, then_texts, function_text, unit_text};
+ghost use Rattle.ac_core.specs.ProgramText.{exp_text, spaced, row, kind_text, level_text, binder_text, program_text, then_texts, signature_text, function_text, unit_text};
 ghost use Rattle.ac_core.specs.Code.{final_unit_of};
 
 use ac_expr::{Exp, Kind, Level};
@@ -31,16 +31,23 @@ fn push_function(out: &mut Vec<u8>, function: &FinalFn) -> Result<(), AllocError
     ensures { OnOk result (out.new.items ≡ out.old.items ++ function_text (final_fn_of function.now)) }
 {
     push(out, "(")?;
-    push(out, &function.name)?;
+    push_signature(out, function)?;
+    push(out, " ")?;
+    push_program(out, &function.body)?;
+    push(out, ")")
+}
+
+// The name, the level, the parameters and the results.
+fn push_signature(out: &mut Vec<u8>, function: &FinalFn) -> Result<(), AllocError>
+    ensures { OnOk result (out.new.items ≡ out.old.items ++ signature_text (final_fn_of function.now)) }
+{
+    push_name(out, &function.name)?;
     push(out, " ")?;
     push_level(out, function.level)?;
     push(out, " ")?;
     push_binders(out, &function.params)?;
     push(out, " ")?;
-    push_kinds(out, &function.results)?;
-    push(out, " ")?;
-    push_program(out, &function.body)?;
-    push(out, ")")
+    push_kinds(out, &function.results)
 }
 
 fn push_level(out: &mut Vec<u8>, level: Level) -> Result<(), AllocError>
@@ -81,9 +88,9 @@ fn push_binder(out: &mut Vec<u8>, binder: &Binder) -> Result<(), AllocError>
     ensures { OnOk result (out.new.items ≡ out.old.items ++ binder_text (binder_of binder.now)) }
 {
     push(out, "(")?;
-    push(out, &binder.name)?;
+    push_name(out, &binder.name)?;
     push(out, " ")?;
-    push_kind(out, binder.kind)?;
+    push_kind(out, &binder.kind)?;
     push(out, ")")
 }
 
@@ -94,7 +101,7 @@ fn push_kinds(out: &mut Vec<u8>, kinds: &[Kind]) -> Result<(), AllocError>
         return push(out, "()");
     };
     push(out, "(")?;
-    push_kind(out, *first)?;
+    push_kind(out, first)?;
     push_more_kinds(out, rest)?;
     push(out, ")")
 }
@@ -106,18 +113,18 @@ fn push_more_kinds(out: &mut Vec<u8>, kinds: &[Kind]) -> Result<(), AllocError>
 {
     for kind in kinds {
         push(out, " ")?;
-        push_kind(out, *kind)?;
+        push_kind(out, kind)?;
     }
     Ok(())
 }
 
-fn push_kind(out: &mut Vec<u8>, kind: Kind) -> Result<(), AllocError>
-    ensures { OnOk result (out.new.items ≡ out.old.items ++ kind_text (kind_of kind)) }
+fn push_kind(out: &mut Vec<u8>, kind: &Kind) -> Result<(), AllocError>
+    ensures { OnOk result (out.new.items ≡ out.old.items ++ kind_text (kind_of kind.now)) }
 {
     let (head, width) = match kind {
-        Kind::Word(width) => ("(w ", width),
-        Kind::Nat(width) => ("(nat ", width),
-        Kind::Int(width) => ("(int ", width),
+        Kind::Word(width) => ("(w ", *width),
+        Kind::Nat(width) => ("(nat ", *width),
+        Kind::Int(width) => ("(int ", *width),
         Kind::Bool => return push(out, "bool"),
     };
     push(out, head)?;
@@ -176,7 +183,7 @@ fn push_names(out: &mut Vec<u8>, names: &[String]) -> Result<(), AllocError>
         return push(out, "()");
     };
     push(out, "(")?;
-    push(out, first)?;
+    push_name(out, first)?;
     push_more_names(out, rest)?;
     push(out, ")")
 }
@@ -188,7 +195,7 @@ fn push_more_names(out: &mut Vec<u8>, names: &[String]) -> Result<(), AllocError
 {
     for name in names {
         push(out, " ")?;
-        push(out, name)?;
+        push_name(out, name)?;
     }
     Ok(())
 }
@@ -209,7 +216,7 @@ fn push_exp(out: &mut Vec<u8>, exp: &Exp) -> Result<(), AllocError>
     ensures { OnOk result (out.new.items ≡ out.old.items ++ exp_text (exp_of exp.now)) }
 {
     match exp {
-        Exp::Var(name) => push(out, name),
+        Exp::Var(name) => push_name(out, name),
         Exp::Number(number) => push_number(out, *number),
         Exp::Add(a, b) => {
             push(out, "(add ")?;
@@ -234,6 +241,12 @@ fn push_number(out: &mut Vec<u8>, number: u64) -> Result<(), AllocError>
     ensures { OnOk result (out.new.items ≡ out.old.items ++ decimal number) }
 {
     out.extend_from_slice(Buffer::new().format(number).as_bytes())
+}
+
+fn push_name(out: &mut Vec<u8>, name: &String) -> Result<(), AllocError>
+    ensures { OnOk result (out.new.items ≡ out.old.items ++ string_bytes name.now) }
+{
+    push(out, name.as_str())
 }
 
 fn push(out: &mut Vec<u8>, text: &str) -> Result<(), AllocError>

@@ -1,0 +1,16 @@
+pub mod Modulus
+pub mod Objects
+pub mod Frame
+pub mod RoundTrip
+pub mod Loaded
+pub mod Padding
+pub mod Roots
+pub mod OnePath
+pub mod Covered
+pub mod LoadedParts
+pub mod StoredParts
+pub mod Views
+pub mod Cells
+pub mod Places
+pub mod Elsewhere
+pub mod Wrapped

@@ -1,0 +1,10 @@
+pub mod Formed
+pub mod Leads
+pub mod Geometry
+pub mod Placed
+pub mod Laid
+pub mod Parts
+pub mod SameType
+pub mod Height
+pub mod Shaped
+pub mod Replaced

@@ -1,0 +1,5 @@
+pub mod Count
+pub mod Shelf
+pub mod Sink
+pub mod MemoryShelf
+pub mod MemorySink

@@ -1,0 +1,19 @@
+//! The outside: files that are read by name, and a sink that is written to. Each counts its faults, and may
+//! tell what it has and what it took, so that a caller's contract can say what was read and written, and that
+//! an error had its cause outside.
+#![tactic(auto)]
+
+mod memory_shelf;
+mod memory_sink;
+mod outside;
+mod reading;
+mod writing;
+
+pub use memory_shelf::{MemoryShelf, sound_shelf_never_fails};
+pub use memory_sink::{MemorySink, sink_with_room_never_fails};
+pub use outside::{Failed, Shelf, Sink};
+pub use reading::{ReadTrouble, read_whole};
+pub use writing::write_whole;
+
+#[cfg(test)]
+mod tests;

@@ -1,0 +1,146 @@
+-- Which command the words stand for, and whether they stand for one.
+use Rattle.std.proofs.Common.{◌≡◌, ℕ, suc, Bool, true, false, not, cond, ◌&&◌, ◌||◌, List, [], ◌∷◌, length, map, drop, leb, eqb, ◌≤◌, ◌-◌, take, Option, Some, None, is_some, refl, sym, ap, ◌∙◌, arith}
+use Rattle.std.specs.Prelude.{codes}
+use Rattle.std.specs.List.{list_any, list_all}
+use Rattle.std.proofs.lemmas.List.{drop-map, length-map}
+use Rattle.std.proofs.lemmas.List.Folds.{list_all-map}
+use Rattle.std.proofs.lemmas.Bool.{le-leb, ne_eqb}
+use Rattle.std.proofs.lemmas.Bool.Decides.{nat_tests}
+use Rattle.std.proofs.lemmas.Grind.{common_steps}
+use Rattle.c_values.specs.Name.{Name, same_name}
+use Rattle.ac_core.specs.Words.{Command, Show, Print, Translate, Check, Run, Prove, Sample, Trial, are_options, is_last_target, is_count, is_digit, has_options, has_files, has_count, where_holds, with_options, check_of, of_three, sample_of, trial_of, command_of, plain_show}
+
+pub list_any-map : {X : Type 0} (p : X → Bool) → {Y : Type 0} (h : Y → X) (ys : List Y) → list_any p (map h ys) ≡ list_any (λ y. p (h y)) ys
+list_any-map p h [] = refl
+list_any-map p h (y ∷ ys) = ap (λ b. p (h y) || b) (list_any-map p h ys)
+
+-- each form is one where its words are
+
+is_some-where_holds : (b : Bool) (c : Command) → is_some (where_holds b c) ≡ b
+is_some-where_holds true c = refl
+is_some-where_holds false c = refl
+
+pub is_some-with_options : (make : Name → List Name → Command) (ws : List Name) → is_some (with_options make ws) ≡ has_options ws
+is_some-with_options make [] = refl
+is_some-with_options make (file ∷ ws) = is_some-where_holds (are_options ws) (make file ws)
+
+two_more : (w x : Name) (ws : List Name) → has_files 2 (w ∷ x ∷ ws) ≡ is_last_target ws
+two_more w x ws = ap (λ b. b && is_last_target ws) (le-leb 2 (suc (suc (length ws))) (omega arith))
+
+three_more : (w x y : Name) (ws : List Name) → has_files 3 (w ∷ x ∷ y ∷ ws) ≡ is_last_target ws
+three_more w x y ws = ap (λ b. b && is_last_target ws) (le-leb 3 (suc (suc (suc (length ws)))) (omega arith))
+
+pub is_some-check_of : (ws : List Name) → is_some (check_of ws) ≡ has_files 2 ws
+is_some-check_of [] = refl
+is_some-check_of (w ∷ []) = refl
+is_some-check_of (w ∷ x ∷ ws) = is_some-where_holds (is_last_target ws) (Check w x ws) ∙ sym (two_more w x ws)
+
+pub is_some-of_three : (make : Name → Name → Name → List Name → Command) (ws : List Name) → is_some (of_three make ws) ≡ has_files 3 ws
+is_some-of_three make [] = refl
+is_some-of_three make (w ∷ []) = refl
+is_some-of_three make (w ∷ x ∷ []) = refl
+is_some-of_three make (w ∷ x ∷ y ∷ ws) = is_some-where_holds (is_last_target ws) (make w x y ws) ∙ sym (three_more w x y ws)
+
+and-true : (b : Bool) → (b && true) ≡ b
+and-true true = refl
+and-true false = refl
+
+not_one : (n : ℕ) → false ≡ eqb (suc (suc n)) 1
+not_one n = grind (arith, nat_tests)
+
+pub is_some-sample_of : (ws : List Name) → is_some (sample_of ws) ≡ (eqb (length ws) 1 && has_count ws)
+is_some-sample_of [] = refl
+is_some-sample_of (n ∷ []) = is_some-where_holds (is_count n) (Sample n) ∙ sym (and-true (is_count n))
+is_some-sample_of (n ∷ w ∷ ws) = ap (λ b. b && has_count (n ∷ w ∷ ws)) (not_one (length ws))
+
+pub is_some-trial_of : (ws : List Name) → is_some (trial_of ws) ≡ has_count ws
+is_some-trial_of [] = refl
+is_some-trial_of (n ∷ ws) = is_some-where_holds (is_count n && is_last_target ws) (Trial n ws)
+
+-- only `show` with a file and no more is a plain one
+
+not_where_holds : (b : Bool) (c : Command) → plain_show (Some c) ≡ None → plain_show (where_holds b c) ≡ None
+not_where_holds true c h = h
+not_where_holds false c h = refl
+
+not_either : (b : Bool) (c d : Option Command) → plain_show c ≡ None → plain_show d ≡ None → plain_show (cond b c d) ≡ None
+not_either true c d g h = g
+not_either false c d g h = h
+
+not_with_options : (make : Name → List Name → Command) → ((file : Name) (ws : List Name) → plain_show (Some (make file ws)) ≡ None) → (ws : List Name) → plain_show (with_options make ws) ≡ None
+not_with_options make h [] = refl
+not_with_options make h (file ∷ ws) = not_where_holds (are_options ws) (make file ws) (h file ws)
+
+not_check_of : (ws : List Name) → plain_show (check_of ws) ≡ None
+not_check_of [] = refl
+not_check_of (w ∷ []) = refl
+not_check_of (w ∷ x ∷ ws) = not_where_holds (is_last_target ws) (Check w x ws) refl
+
+not_of_three : (make : Name → Name → Name → List Name → Command) → ((w x y : Name) (ws : List Name) → plain_show (Some (make w x y ws)) ≡ None) → (ws : List Name) → plain_show (of_three make ws) ≡ None
+not_of_three make h [] = refl
+not_of_three make h (w ∷ []) = refl
+not_of_three make h (w ∷ x ∷ []) = refl
+not_of_three make h (w ∷ x ∷ y ∷ ws) = not_where_holds (is_last_target ws) (make w x y ws) (h w x y ws)
+
+not_sample_of : (ws : List Name) → plain_show (sample_of ws) ≡ None
+not_sample_of [] = refl
+not_sample_of (n ∷ []) = not_where_holds (is_count n) (Sample n) refl
+not_sample_of (n ∷ w ∷ ws) = refl
+
+not_trial_of : (ws : List Name) → plain_show (trial_of ws) ≡ None
+not_trial_of [] = refl
+not_trial_of (n ∷ ws) = not_where_holds (is_count n && is_last_target ws) (Trial n ws) refl
+
+not_shown : (w : Name) (ws : List Name) → plain_show (with_options Show ws) ≡ None → plain_show (command_of (w ∷ ws)) ≡ None
+not_shown w ws h =
+    not_either (same_name w (codes "show")) _ _ h
+    (not_either (same_name w (codes "print")) _ _ (not_with_options Print (λ _ _. refl) ws)
+    (not_either (same_name w (codes "translate")) _ _ (not_with_options Translate (λ _ _. refl) ws)
+    (not_either (same_name w (codes "check")) _ _ (not_check_of ws)
+    (not_either (same_name w (codes "run")) _ _ (not_of_three Run (λ _ _ _ _. refl) ws)
+    (not_either (same_name w (codes "prove")) _ _ (not_of_three Prove (λ _ _ _ _. refl) ws)
+    (not_either (same_name w (codes "sample")) _ _ (not_sample_of ws)
+    (not_either (same_name w (codes "trial")) _ _ (not_trial_of ws) refl)))))))
+
+-- fewer than two words, or more
+shows_none-words : (ws : List Name) → (length ws ≡ 2 → ⊥) → plain_show (command_of ws) ≡ None
+shows_none-words [] h = refl
+shows_none-words (w ∷ []) h = not_shown w [] refl
+shows_none-words (w ∷ x ∷ []) h = absurd (h refl)
+shows_none-words (w ∷ x ∷ y ∷ ws) h = not_shown w (x ∷ y ∷ ws) (not_where_holds (are_options (y ∷ ws)) (Show x (y ∷ ws)) refl)
+
+pub shows_none : {X : Type 0} (f : X → Name) (xs : List X) → (length xs ≡ 2 → ⊥) → plain_show (command_of (map f xs)) ≡ None
+shows_none f xs h = shows_none-words (map f xs) (λ e. h (sym (length-map xs f) ∙ e))
+
+-- a form is told by the first word
+pub is_form_of : {X : Type 0} (f : X → Name) (xs : List X) (x : X) (rest : List X) (w : Name) (form : List Name → Bool) (answer : Bool) →
+    xs ≡ x ∷ rest → f x ≡ w → ((ws : List Name) → is_some (command_of (w ∷ ws)) ≡ form ws) → answer ≡ form (map f rest) → answer ≡ is_some (command_of (map f xs))
+is_form_of f xs x rest w form answer e h law a =
+    a ∙ sym (law (map f rest)) ∙ ap (λ v. is_some (command_of (v ∷ map f rest))) (sym h) ∙ ap (λ ys. is_some (command_of (map f ys))) (sym e)
+
+-- so many files, where the list has them
+pub has_files-drop : {X : Type 0} (f : X → Name) (xs : List X) (n : ℕ) → n ≤ length xs → is_last_target (map f (take (length xs - n) (drop n xs))) ≡ has_files n (map f xs)
+has_files-drop f xs n h =
+    let all : take (length xs - n) (drop n xs) ≡ drop n xs = grind (arith, common_steps) in
+    let long : leb n (length (map f xs)) ≡ true = le-leb n (length (map f xs)) (omega (arith, length-map xs f, h)) in
+    ap (λ ys. is_last_target (map f ys)) all ∙ ap is_last_target (sym (drop-map f n xs)) ∙ ap (λ b. b && is_last_target (drop n (map f xs))) (sym long)
+
+and-false : (a b : Bool) → b ≡ false → (a && (false || b)) ≡ b
+and-false true b h = refl
+and-false false b h = sym h
+
+not_zero : (n : ℕ) → eqb (suc n) 0 ≡ false
+not_zero n = grind (arith, nat_tests)
+
+of_digits : (digits short zero alone : Bool) → short ≡ true → zero ≡ false → ((digits && short) && (not zero || alone)) ≡ digits
+of_digits true short zero alone h k = cc
+of_digits false short zero alone h k = refl
+
+-- a count that begins with `0`, and any other
+pub is_count-zero : (cs : List ℕ) → is_count (48 ∷ cs) ≡ eqb (length cs) 0
+is_count-zero [] = refl
+is_count-zero (c ∷ cs) = and-false (list_all is_digit (48 ∷ c ∷ cs) && leb (length (48 ∷ c ∷ cs)) 9) (eqb (length (c ∷ cs)) 0) (not_zero (length cs))
+
+pub is_count-other : (word : Name) (c : ℕ) (cs : List ℕ) (answer : Bool) → word ≡ c ∷ cs → (c ≡ 48 → ⊥) → length word ≤ 9 → answer ≡ list_all is_digit word → answer ≡ is_count word
+is_count-other word c cs answer e h le a =
+    a ∙ ap (list_all is_digit) e ∙ sym (of_digits (list_all is_digit (c ∷ cs)) _ _ _ (le-leb (length (c ∷ cs)) 9 (omega (arith, le, ap length e))) (ne_eqb c 48 h)) ∙ ap is_count (sym e)

@@ -1,0 +1,78 @@
+-- What an answer and its sink leave open: a call that ends, and a text that can be shown.
+use Rattle.std.proofs.Common.{◌≡◌, ℕ, ◌<◌, ◌≤◌, List, length, Option, Some, None, Bool, true, false, ◌⊎◌, inl, inr, refl, sym, ap, ◌∙◌, subst, arith, IfSome}
+use Rattle.c_values.specs.Name.{Name}
+use Rattle.c_parse.specs.FirstForm.{Function, IsFirstForm}
+use Rattle.ac_base.specs.Count.{Rose}
+use Rattle.ac_base.specs.Sink.{grown, TakesPart}
+use Rattle.ac_core.specs.Words.{command_of, plain_show}
+use Rattle.ac_core.specs.Answer.{source_limit, ShowsNothing, Reads, IsTextAnswer, IsFileAnswer, IsUnshown, IsAnswerTo, IsAnswer, Writes, IsCutShort, EndsWith}
+use Rattle.ac_core.specs.declared.status.Status.{Status}
+use Rattle.ac_core.specs.declared.status.Status.TheVariants.{Done, No, Words, Source, Text, ReadFault, WriteFault, Limit, Memory, NotYet}
+
+module _ (words : List Name) (contents : Name → Option (List ℕ)) (before after : Name → ℕ) (taken taken' : Option (List ℕ)) (sink_before sink_after : ℕ) where
+  nothing_to : (shown : Option Name) (status : Status) (lines : List ℕ) → IsAnswerTo shown words contents before after status lines → (status ≡ WriteFault → ⊥) × (status ≡ Memory → ⊥)
+  nothing_to (Some file) Done lines h = (λ e. cc, λ e. cc)
+  nothing_to (Some file) No lines h = (λ e. cc, λ e. cc)
+  nothing_to (Some file) Words lines h = (λ e. cc, λ e. cc)
+  nothing_to (Some file) Source lines h = (λ e. cc, λ e. cc)
+  nothing_to (Some file) Text lines h = (λ e. cc, λ e. cc)
+  nothing_to (Some file) ReadFault lines h = (λ e. cc, λ e. cc)
+  nothing_to (Some file) WriteFault lines h = absurd h.answer
+  nothing_to (Some file) Limit lines h = (λ e. cc, λ e. cc)
+  nothing_to (Some file) Memory lines h = absurd h.answer
+  nothing_to (Some file) NotYet lines h = (λ e. cc, λ e. cc)
+  nothing_to None Done lines h = absurd h
+  nothing_to None No lines h = absurd h
+  nothing_to None Words lines h = (λ e. cc, λ e. cc)
+  nothing_to None Source lines h = absurd h
+  nothing_to None Text lines h = absurd h
+  nothing_to None ReadFault lines h = absurd h
+  nothing_to None WriteFault lines h = absurd h
+  nothing_to None Limit lines h = absurd h
+  nothing_to None Memory lines h = absurd h
+  nothing_to None NotYet lines h = (λ e. cc, λ e. cc)
+
+  -- an answer whose lines were all taken
+  pub written : (status : Status) (lines : List ℕ) → IsAnswer words contents before after status lines → taken' ≡ grown taken lines → EndsWith words contents before after taken taken' sink_before sink_after status
+  written Done lines h e = record { lines = lines; answer = h; whole = e }
+  written No lines h e = record { lines = lines; answer = h; whole = e }
+  written Words lines h e = record { lines = lines; answer = h; whole = e }
+  written Source lines h e = record { lines = lines; answer = h; whole = e }
+  written Text lines h e = record { lines = lines; answer = h; whole = e }
+  written ReadFault lines h e = record { lines = lines; answer = h; whole = e }
+  written WriteFault lines h e = absurd ((nothing_to _ WriteFault lines h).0 refl)
+  written Limit lines h e = record { lines = lines; answer = h; whole = e }
+  written Memory lines h e = absurd ((nothing_to _ Memory lines h).1 refl)
+  written NotYet lines h e = record { lines = lines; answer = h; whole = e }
+
+  module _ (file text : List ℕ) (unit : Function) (shows : plain_show (command_of words) ≡ Some file) (is_text : contents file ≡ Some text)
+      (within : length text ≤ source_limit) (is_unit : IsFirstForm text unit) (readable : Rose (before file) (after file) → ⊥) where
+    of_file : (status : Status) (lines : List ℕ) → IsAnswer words contents before after status lines → IsFileAnswer file (Some text) (before file) (after file) status lines
+    of_file status lines h =
+        subst (λ c. IsFileAnswer file c (before file) (after file) status lines) is_text
+        (subst (λ (s : Option Name). IsAnswerTo s words contents before after status lines) shows h)
+
+    is_done : (status : Status) (lines : List ℕ) → IsFileAnswer file (Some text) (before file) (after file) status lines → status ≡ Done
+    is_done Done lines h = refl
+    is_done No lines h = absurd h.answer
+    is_done Words lines h = absurd h.answer
+    is_done Source lines h = absurd h.answer
+    is_done Text lines h = absurd h.answer
+    is_done ReadFault lines h = absurd (readable h.0)
+    is_done WriteFault lines h = absurd h.answer
+    is_done Limit lines h = absurd (omega (arith, h.0, within))
+    is_done Memory lines h = absurd h.answer
+    is_done NotYet lines h = absurd (h.answer.no_unit unit (subst (λ t. IsFirstForm t unit) (sym h.is_text) is_unit))
+
+    -- where the sink doesn't fail either, the text is shown, or memory was short
+    pub shown : (Rose sink_before sink_after → ⊥) → (status : Status) → EndsWith words contents before after taken taken' sink_before sink_after status → (status ≡ Done) ⊎ (status ≡ Memory)
+    shown sound Done h = inl refl
+    shown sound No h = inl (is_done No h.lines (of_file No h.lines h.answer))
+    shown sound Words h = inl (is_done Words h.lines (of_file Words h.lines h.answer))
+    shown sound Source h = inl (is_done Source h.lines (of_file Source h.lines h.answer))
+    shown sound Text h = inl (is_done Text h.lines (of_file Text h.lines h.answer))
+    shown sound ReadFault h = inl (is_done ReadFault h.lines (of_file ReadFault h.lines h.answer))
+    shown sound WriteFault h = absurd (sound h.fault)
+    shown sound Limit h = inl (is_done Limit h.lines (of_file Limit h.lines h.answer))
+    shown sound Memory h = inr refl
+    shown sound NotYet h = inl (is_done NotYet h.lines (of_file NotYet h.lines h.answer))

@@ -1,0 +1,23 @@
+use Rattle.std.proofs.Common.{sym, subst}
+use Rattle.c_parse.specs.FirstUnit.{unit_of}
+use Rattle.c_parse.specs.FirstForm.{IsFirstForm}
+use Rattle.monad_lang.specs.Program.{FinalUnit}
+use Rattle.ac_core.specs.Code.{final_unit_of}
+use Rattle.ac_core.specs.Exact.{IsExact}
+use Rattle.ac_core.specs.FirstForm.{typed_unit_of, levels}
+use Rattle.ac_core.specs.Answer.{AreInNumbers}
+use Rattle.ac_core.proofs.FirstForm.{first_form_exact, first_form_numbers}
+use Rattle.ac_core.proofs.answer.show_text.Goals as goal
+
+pub returns-in_ok-write_program-in-Some : goal.returns-in_ok-write_program-in-Some
+returns-in_ok-write_program-in-Some c =
+    let unit = unit_of c.in-Some.unit in
+    let form : IsFirstForm c.args.text.now unit = rw c.in-Some.is at c.in_ok-first_form.ensures.found in
+    record {
+      unit = unit;
+      programs = final_unit_of c.in_ok-programs-in-Some.programs;
+      is_unit = form;
+      exact = subst (λ (programs : FinalUnit). IsExact (typed_unit_of unit) levels programs) (sym c.in_ok-programs-in-Some.ensures) (first_form_exact unit form.operands);
+      numbers = subst (λ (programs : FinalUnit). AreInNumbers programs.functions) (sym c.in_ok-programs-in-Some.ensures) (first_form_numbers unit, tt);
+      written = c.in_ok-write_program-in-Some.ensures;
+    }

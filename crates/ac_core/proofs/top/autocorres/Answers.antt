@@ -1,0 +1,18 @@
+use Rattle.std.proofs.Common.{map, ap, ◌∙◌}
+use Rattle.std.specs.Prelude.{string_bytes}
+use Rattle.ac_base.specs.Sink.{grown}
+use Rattle.ac_core.specs.Answer.{EndsWith}
+use Rattle.ac_core.proofs.Complete.{written, shown}
+use Rattle.ac_core.proofs.top.autocorres.Goals as goal
+
+pub returns-in-Ok-write_whole-clause-ends : goal.returns-in-Ok-write_whole-clause-ends
+returns-in-Ok-write_whole-clause-ends g c =
+    written _ _ _ _ _ _ _ _ c.in-Ok.answer.status c.in-Ok.answer.lines.items c.in-Ok.ensures.answer
+    (c.in-Ok-write_whole.ensures.ok ∙ ap (grown (g.K.Sink.taken c.args.sink.now)) c.deref.ensures.value)
+
+pub returns-in-Ok-write_whole-clause-complete : goal.returns-in-Ok-write_whole-clause-complete
+returns-in-Ok-write_whole-clause-complete g c = λ file text unit shows is_text within is_unit readable sound.
+    let ends : EndsWith (map string_bytes c.args.words.now) (g.H.Shelf.contents c.args.shelf.now) (g.H.Shelf.faults c.args.shelf.now) (g.H.Shelf.faults c.answer_to.new.shelf)
+    (g.K.Sink.taken c.args.sink.now) (g.K.Sink.taken c.write_whole.new.sink) (g.K.Sink.faults c.args.sink.now) (g.K.Sink.faults c.write_whole.new.sink) c.in-Ok.answer.status =
+    returns-in-Ok-write_whole-clause-ends g c in
+    shown _ _ _ _ _ _ _ _ file text unit shows is_text within is_unit readable sound c.in-Ok.answer.status ends

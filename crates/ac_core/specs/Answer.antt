@@ -1,0 +1,96 @@
+-- What the program answers: the status that it ends with, and the lines that it writes where the sink doesn't fail, each
+-- with its cause. The order of work decides: the words, the file read whole, and then its text.
+use Rattle.std.specs.Prelude.{◌≡◌, ℕ, ◌<◌, ◌≤◌, List, [], ◌∷◌, ◌++◌, length, Option, Some, None, is_some, true, codes}
+use Rattle.c_values.specs.Name.{Name}
+use Rattle.c_parse.specs.FirstForm.{Function, IsFirstForm}
+use Rattle.monad_lang.specs.Program.{FinalUnit, FinalFn}
+use Rattle.monad_lang.specs.Form.{is_numbers}
+use Rattle.ac_base.specs.Count.{Rose}
+use Rattle.ac_base.specs.Shelf.{AreWhole, IsLonger}
+use Rattle.ac_base.specs.Sink.{grown, TakesPart}
+use Rattle.ac_core.specs.Words.{command_of, plain_show}
+use Rattle.ac_core.specs.FirstForm.{typed_unit_of, levels}
+use Rattle.ac_core.specs.Exact.{IsExact}
+use Rattle.ac_core.specs.ProgramText.{unit_text}
+use Rattle.ac_core.specs.declared.status.Status.{Status}
+use Rattle.ac_core.specs.declared.status.Status.TheVariants.{Done, No, Words, Source, Text, ReadFault, WriteFault, Limit, Memory, NotYet}
+
+-- bytes of C text that are read
+abbrev pub source_limit : ℕ
+source_limit = 262144
+
+-- each program is in numbers form
+abbrev pub AreInNumbers : List FinalFn → Type 0
+AreInNumbers [] = Unit {0}
+AreInNumbers (f ∷ fs) = (is_numbers f.body ≡ true) × AreInNumbers fs
+
+-- The text is of the first form, and what is written is the text of programs in numbers form that are exact against its
+-- C function.
+pub record ShowsExact (text lines : List ℕ) : Type 0 where
+  pub unit : Function
+  pub programs : FinalUnit
+  pub is_unit : IsFirstForm text unit
+  pub exact : IsExact (typed_unit_of unit) levels programs
+  pub numbers : AreInNumbers programs.functions
+  pub written : lines ≡ unit_text programs
+
+-- the text is of no form that is shown so far
+pub record ShowsNothing (text lines : List ℕ) : Type 0 where
+  pub no_unit : (unit : Function) → IsFirstForm text unit → ⊥
+  pub written : lines ≡ codes "not yet\n"
+
+-- the answer to a text
+abbrev pub IsTextAnswer : List ℕ → Status → List ℕ → Type 0
+IsTextAnswer text Done lines = ShowsExact text lines
+IsTextAnswer text NotYet lines = ShowsNothing text lines
+IsTextAnswer text _ lines = ⊥
+
+-- the text was read whole, and this is the answer to it; what a shelf doesn't tell may be any text
+pub record Reads (contents : Option (List ℕ)) (status : Status) (lines : List ℕ) : Type 0 where
+  pub text : List ℕ
+  pub is_text : AreWhole contents text
+  pub within : length text ≤ source_limit
+  pub answer : IsTextAnswer text status lines
+
+-- The answer to a file: of its text; or it couldn't be read, its count of faults having risen in this call; or it is longer
+-- than C text may be.
+abbrev pub IsFileAnswer : Name → Option (List ℕ) → ℕ → ℕ → Status → List ℕ → Type 0
+IsFileAnswer file contents before after ReadFault lines = Rose before after × (lines ≡ codes "read fault: " ++ (file ++ codes "\n"))
+IsFileAnswer file contents before after Limit lines = IsLonger contents source_limit × (lines ≡ codes "limit: source\n")
+IsFileAnswer file contents before after status lines = Reads contents status lines
+
+-- the answer to words that don't ask for what is built: of a form, or of none
+abbrev pub IsUnshown : List Name → Status → List ℕ → Type 0
+IsUnshown words NotYet lines = (is_some (command_of words) ≡ true) × (lines ≡ codes "not yet\n")
+IsUnshown words Words lines = (command_of words ≡ None) × (lines ≡ codes "words: no command of this form\n")
+IsUnshown words _ lines = ⊥
+
+-- the answer to words: of the file that they name to be shown, or of words that don't ask for what is built
+abbrev pub IsAnswerTo : Option Name → List Name → (Name → Option (List ℕ)) → (Name → ℕ) → (Name → ℕ) → Status → List ℕ → Type 0
+IsAnswerTo (Some file) words contents before after status lines = IsFileAnswer file (contents file) (before file) (after file) status lines
+IsAnswerTo None words contents before after status lines = IsUnshown words status lines
+
+-- The answer where the sink doesn't fail. `before` and `after` are a name's counts of faults.
+abbrev pub IsAnswer : List Name → (Name → Option (List ℕ)) → (Name → ℕ) → (Name → ℕ) → Status → List ℕ → Type 0
+IsAnswer words = IsAnswerTo (plain_show (command_of words)) words
+
+-- all lines of the answer were taken
+pub record Writes (words : List Name) (contents : Name → Option (List ℕ)) (before after : Name → ℕ) (taken taken' : Option (List ℕ)) (status : Status) : Type 0 where
+  pub lines : List ℕ
+  pub answer : IsAnswer words contents before after status lines
+  pub whole : taken' ≡ grown taken lines
+
+-- the sink's count of faults rose, and of the answer's lines the first bytes were taken, and not all
+pub record IsCutShort (words : List Name) (contents : Name → Option (List ℕ)) (before after : Name → ℕ) (taken taken' : Option (List ℕ)) (sink_before sink_after : ℕ) : Type 0 where
+  pub status : Status
+  pub lines : List ℕ
+  pub answer : IsAnswer words contents before after status lines
+  pub fault : Rose sink_before sink_after
+  pub part : TakesPart taken lines taken'
+
+-- How a call ends: with the answer and all its lines; or the sink failed under them; or memory was short, for which there is
+-- no cause, and then nothing was written.
+abbrev pub EndsWith : List Name → (Name → Option (List ℕ)) → (Name → ℕ) → (Name → ℕ) → Option (List ℕ) → Option (List ℕ) → ℕ → ℕ → Status → Type 0
+EndsWith words contents before after taken taken' sink_before sink_after WriteFault = IsCutShort words contents before after taken taken' sink_before sink_after
+EndsWith words contents before after taken taken' sink_before sink_after Memory = taken' ≡ taken
+EndsWith words contents before after taken taken' sink_before sink_after status = Writes words contents before after taken taken' status

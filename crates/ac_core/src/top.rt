@@ -1,0 +1,48 @@
+//! The top call.
+
+ghost use Rattle.std.specs.Prelude.{◌≡◌, ◌≤◌, ◌⊎◌, ℕ, List, map, length, Some, None, string_bytes};
+ghost use Rattle.ac_base.specs.Count.{Rose};
+ghost use Rattle.c_parse.specs.FirstForm.{Function, IsFirstForm};
+ghost use Rattle.ac_core.specs.Words.{command_of, plain_show};
+ghost use Rattle.ac_core.specs.Answer.{EndsWith, source_limit};
+
+use crate::Status;
+use crate::answer::answer_to;
+use ac_base::{Failed, Shelf, Sink, write_whole};
+use std::alloc::Global;
+
+/// Does what the words ask for: reads the files that they name from the shelf, and writes the answer, or the line of a
+/// fault, to the sink.
+///
+/// So far `show FILE` is built, for a text that is one function of unsigned parameters which returns a sum of them and
+/// of constants.
+pub fn autocorres<H: Shelf, K: Sink>(
+    alloc: Global,
+    words: &[String],
+    shelf: &mut H,
+    sink: &mut K,
+) -> Status
+    // Each status with its cause, and what was written. Where programs were written, they are exact against the C.
+    ensures ends { EndsWith (map string_bytes words.now) (H.contents shelf.old) (H.faults shelf.old) (H.faults shelf.new)
+        (K.taken sink.old) (K.taken sink.new) (K.faults sink.old) (K.faults sink.new) result }
+
+    // A text that can be shown is shown, where neither its file nor the sink fails, unless memory runs out.
+    ensures complete { (file text : List ℕ) (unit : Function) → plain_show (command_of (map string_bytes words.now)) ≡ Some file →
+        H.contents shelf.old file ≡ Some text → length text ≤ source_limit → IsFirstForm text unit →
+        ¬ Rose (H.faults shelf.old file) (H.faults shelf.new file) → ¬ Rose (K.faults sink.old) (K.faults sink.new) →
+        (result ≡ Status.Done) ⊎ (result ≡ Status.Memory) }
+
+    // The shelf isn't asked for anything where nothing is to be shown.
+    ensures unasked { plain_show (command_of (map string_bytes words.now)) ≡ None → shelf.new ≡ shelf.old }
+    ensures contents { (name : List ℕ) → H.contents shelf.new name ≡ H.contents shelf.old name }
+    ensures counts { (name : List ℕ) → H.faults shelf.old name ≤ H.faults shelf.new name }
+    ensures sink_count { K.faults sink.old ≤ K.faults sink.new }
+{
+    let Ok(answer) = answer_to(alloc, words, shelf) else {
+        return Status::Memory;
+    };
+    match write_whole(sink, &answer.lines) {
+        Ok(()) => answer.status,
+        Err(Failed) => Status::WriteFault,
+    }
+}

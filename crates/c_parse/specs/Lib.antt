@@ -1,0 +1,5 @@
+pub mod Lexeme
+pub mod Name
+pub mod Operand
+pub mod FirstForm
+pub mod FirstUnit

@@ -1,0 +1,4 @@
+int difference(int a, int b)
+{
+    return a - b;
+}

@@ -1,0 +1,4 @@
+unsigned sum(unsigned a, unsigned b, unsigned c)
+{
+    return a + b + c;
+}
