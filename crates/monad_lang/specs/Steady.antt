@@ -25,7 +25,7 @@ abbrev pub CallInRange : FinalUnit → Mon → Env → State → Type 0
 CallInRange u (Call f es) env s = TakesThem (final_fn u.functions f) (values_of u.layout env s es)
 CallInRange u _ env s = Unit {0}
 
--- each call that a run reaches has arguments that are values of the called function's kinds
+-- each call of the program itself that a run reaches has arguments that are values of the called function's kinds
 abbrev pub IsInRange : FinalUnit → Choice → Mon → Env → Option ℕ → List Runs → State → Type 0
 IsInRange u p m env depth fs s = AtEach u.layout p (CallInRange u) m env depth fs s
 
@@ -48,8 +48,8 @@ Alike f g = Unit {0}
 abbrev pub state_with : Heap → (Name → Value) → State
 state_with h g = record { heap = h; globals = g }
 
--- Each write that a run reaches has a covered root and indices in range, and from a memory and from its view the program
--- fails alike, gives the same values with memories whose views are the typed heaps, and stops alike.
+-- Each write of the program itself that a run reaches has a covered root and indices in range, and from a well-tagged memory
+-- and from its view the program fails alike, gives the same values with memories whose views are the typed heaps, and stops alike.
 pub record IsSteady (l : Layout) (p : Choice) (m : Mon) (env : Env) (depth : Option ℕ) (fs : List Runs) (memory : Memory) (globals : Name → Value) : Type 0 where
   pub covered_on_bytes : AtEach l p (WriteCovered l) m env depth fs (state_with (OnBytes memory) globals)
   pub covered_on_types : AtEach l p (WriteCovered l) m env depth fs (state_with (OnTypes (view l memory)) globals)
