@@ -1,11 +1,10 @@
 -- What a level watches beside the six hard kinds adds undefined steps, and changes no value.
-use Rattle.std.proofs.Common.{Bool, true, false, List, [], ◌∷◌, ℤ, Result, Ok, Err}
+use Rattle.std.proofs.Common.{Bool, true, false, List, [], ◌∷◌, ℤ, Ok, Err}
 use Rattle.std.specs.Prelude.{not, ◌||◌, if◌then◌else◌}
 use Rattle.c_values.specs.Types.{IntType, is_signed}
 use Rattle.c_values.specs.Number.{is_of_type}
 use Rattle.c_values.specs.Value as V
 use Rattle.c_values.specs.Layout.{Layout}
-use Rattle.c_values.specs.Path.{Step}
 use Rattle.c_memory.specs.Heap.{is_tagged}
 use Rattle.c_memory.specs.Tags.{is_pointer_ok}
 use Rattle.ac_expr.specs.Sort.{Level, Bytes, Words, Numbers, is_lifted}

@@ -1,6 +1,6 @@
 use Rattle.simpl_lang.specs.Command.{Tag, Wrap}
 use Rattle.simpl_gen.proofs.WatchedRun.{watched_same}
-use Rattle.simpl_gen.proofs.laws.watching_keeps_ends.Goals as goal
+use Rattle.simpl_gen.proofs.run_laws.watching_keeps_ends.Goals as goal
 
 pub returns : goal.returns
 returns c = record {
