@@ -1,8 +1,7 @@
 -- Sorts, kinds and levels, and which expressions are well-sorted.
-use Rattle.std.specs.Prelude.{ℕ, ◌==◌, nat_lt, ◌^◌, Bool, true, false, not, ◌&&◌, ◌||◌, List, [], ◌∷◌, Option, Some, None, is_some, if◌then◌else◌}
+use Rattle.std.specs.Prelude.{ℕ, ◌==◌, nat_lt, ◌^◌, Bool, true, false, not, ◌&&◌, ◌||◌, Option, Some, None, if◌then◌else◌}
 use Rattle.c_values.specs.Name.{Name}
-use Rattle.c_values.specs.Types.{CType, Integer, Ptr, same_type, address_width}
-use Rattle.c_values.specs.Word.{Word}
+use Rattle.c_values.specs.Types.{CType, same_type, address_width}
 use Rattle.c_values.specs.Number.{NumberOp, Neg}
 use Rattle.c_values.specs.Layout.{Layout, Shape, Incomplete, Scalar as WordShape, Record, Row, type_of, shape_of, is_object}
 use Rattle.c_values.specs.Path.{Spot, member_spot}

@@ -1,6 +1,6 @@
 -- A run that watches for more faults than another, and does the same where it meets none of these; put together.
 use Rattle.std.proofs.Common.{◌≡◌, ℕ, zero, suc, Option, Some, None, Bool, true, false, List, [], ◌∷◌, ◌⊎◌, inl, inr, refl}
-use Rattle.correspondence.specs.Outcome.{Limit, Turns, Depth, Outcome, Done, Failed, Stopped, Ends, done, stop, Then, goes_on, fails, stops, choose, continued, loop}
+use Rattle.correspondence.specs.Outcome.{Limit, Outcome, Done, Failed, Stopped, Ends, done, Then, goes_on, fails, stops, choose, continued, loop}
 use Rattle.correspondence.specs.Bound.{Functions, called, below}
 use Rattle.correspondence.specs.Corresponds.{Corresponds, Paired}
 

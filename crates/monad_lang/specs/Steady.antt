@@ -1,5 +1,5 @@
 -- Programs in range, and programs that do the same on bytes and on the typed heaps that view them.
-use Rattle.std.specs.Prelude.{◌≡◌, ℕ, true, List, [], ◌∷◌, Option, Some, None}
+use Rattle.std.specs.Prelude.{◌≡◌, ℕ, true, List, Option, Some, None}
 use Rattle.correspondence.specs.Corresponds.{Corresponds}
 use Rattle.c_values.specs.Name.{Name}
 use Rattle.c_values.specs.Value.{Value, word_in}
@@ -7,12 +7,12 @@ use Rattle.c_values.specs.Layout.{Layout, shape_of}
 use Rattle.c_values.specs.Path.{in_range}
 use Rattle.c_values.specs.Choice.{Choice}
 use Rattle.c_memory.specs.Memory.{Memory}
-use Rattle.c_memory.specs.TypedHeap.{TypedHeap, view}
+use Rattle.c_memory.specs.TypedHeap.{view}
 use Rattle.c_memory.specs.Heap.{Heap, OnBytes, OnTypes, is_tagged}
 use Rattle.ac_expr.specs.Evaluation.{Env, State, value, steps}
 use Rattle.ac_expr.specs.Signature.{kinds_of, values_of}
 use Rattle.ac_expr.specs.View.{AreOfKinds}
-use Rattle.monad_lang.specs.Program.{Place, Stored, Written, Global, Mon, Write, Call, FinalFn, FinalUnit, final_fn}
+use Rattle.monad_lang.specs.Program.{Written, Mon, Write, Call, FinalFn, FinalUnit, final_fn}
 use Rattle.monad_lang.specs.Run.{Answer, Failure, Runs, runs}
 use Rattle.monad_lang.specs.Reach.{AtEach}
 

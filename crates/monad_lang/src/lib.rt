@@ -1,8 +1,8 @@
 //! Monadic programs over expressions: what they do, which are well-formed, and their forms.
 #![tactic(auto)]
 
-mod laws;
 mod program;
+mod run_laws;
 
-pub use laws::{programs_continue, programs_end_once};
 pub use program::{Binder, FinalFn, FinalUnit, Mon};
+pub use run_laws::{programs_continue, programs_end_once};

@@ -1,5 +1,5 @@
 -- C statements at a larger bound, and with a deeper limit of nested calls.
-use Rattle.std.proofs.Common.{ℕ, ◌≤◌, Bool, true, false, Option, Some, None, List, ◌⊎◌, inl, inr, ℤ}
+use Rattle.std.proofs.Common.{ℕ, ◌≤◌, Bool, Option, Some, None, List, ◌⊎◌, ℤ}
 use Rattle.correspondence.specs.Outcome.{Ends}
 use Rattle.correspondence.specs.OneEnd.{Continues, Deeper, AllContinue}
 use Rattle.correspondence.proofs.Continues.{continues_itself, then_continues, choose_continues, loop_continues, called_continues, below_continues}
@@ -11,7 +11,7 @@ use Rattle.ac_expr.specs.Signature.{Invocation}
 use Rattle.simpl_lang.specs.Command as K
 use Rattle.simpl_lang.specs.Exec.{Machine}
 use Rattle.c_types.specs.Typed as C
-use Rattle.simpl_gen.specs.CRun.{Flow, Next, Broken, Continued, Returning, Runs, Setting, Ended, and_next, tested, turned, stepped, tested_after_first, statement, statements, groups, function_runs, bodies, functions_below, c_runs}
+use Rattle.simpl_gen.specs.CRun.{Flow, Next, Broken, Continued, Returning, Runs, Setting, Ended, and_next, turned, stepped, statement, statements, groups, function_runs, bodies, functions_below, c_runs}
 
 and_next_continues : (r r' : Machine → Ended) → ((m : Machine) → Continues (r m) (r' m)) → (f : Flow) → Continues (and_next r f) (and_next r' f)
 and_next_continues r r' h (Next m) = h m

@@ -12,9 +12,9 @@ use Rattle.ac_expr.specs.Sort.{Level}
 use Rattle.ac_expr.specs.Signature.{Invocation}
 use Rattle.ac_expr.proofs.Picked.{picked_once}
 use Rattle.simpl_lang.specs.Command as K
-use Rattle.simpl_lang.specs.Exec.{Machine, Returned}
+use Rattle.simpl_lang.specs.Exec.{Machine}
 use Rattle.c_types.specs.Typed as C
-use Rattle.simpl_gen.specs.CRun.{Flow, Next, Broken, Continued, Returning, Runs, Setting, Ended, and_next, assigned, used, and_use, tested, turned, stepped, later, tested_after_first, turned_later, switched, statement, statements, groups, ended, function_runs, bodies, functions_below, c_runs}
+use Rattle.simpl_gen.specs.CRun.{Flow, Next, Broken, Continued, Returning, Runs, Setting, Ended, and_next, assigned, used, tested, turned, stepped, later, tested_after_first, turned_later, switched, statement, statements, groups, ended, function_runs, bodies, functions_below, c_runs}
 
 and_next_once : (rest : Machine → Ended) → ((m : Machine) → OneEnd (rest m)) → (f : Flow) → OneEnd (and_next rest f)
 and_next_once rest h (Next m) = h m

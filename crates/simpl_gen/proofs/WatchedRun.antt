@@ -1,5 +1,5 @@
 -- A C run that is watched by levels does what the plain run does, where it meets no extra undefined step.
-use Rattle.std.proofs.Common.{◌≡◌, ℕ, Bool, true, false, Option, Some, None, List, ◌⊎◌, inl, inr, ℤ, Ok, Err, refl, sym, subst}
+use Rattle.std.proofs.Common.{◌≡◌, ℕ, Bool, true, false, Option, Some, None, List, ◌⊎◌, inr, ℤ, refl, sym, subst}
 use Rattle.correspondence.specs.Outcome.{Failed, Ends, Then, given}
 use Rattle.correspondence.specs.Corresponds.{Corresponds}
 use Rattle.correspondence.proofs.Watches.{Watches, AllWatch, watches_itself, watches_same, then_watches, choose_watches, loop_watches, called_watches, below_watches}
@@ -10,10 +10,10 @@ use Rattle.c_values.specs.Layout.{Layout}
 use Rattle.ac_expr.specs.Sort.{Level, Bytes}
 use Rattle.ac_expr.specs.Signature.{Invocation}
 use Rattle.simpl_lang.specs.Command as K
-use Rattle.simpl_lang.specs.Exec.{Machine, Returned}
+use Rattle.simpl_lang.specs.Exec.{Machine}
 use Rattle.c_types.specs.Typed as C
-use Rattle.simpl_gen.specs.CValue.{Known, value}
-use Rattle.simpl_gen.specs.CRun.{Flow, Next, Broken, Continued, Returning, Runs, Setting, Ended, context, and_next, assigned, used, tested, turned, stepped, tested_after_first, statement, statements, groups, function_runs, bodies, functions_below, c_runs, plain}
+use Rattle.simpl_gen.specs.CValue.{Known}
+use Rattle.simpl_gen.specs.CRun.{Flow, Next, Broken, Continued, Returning, Runs, Setting, Ended, context, and_next, assigned, used, tested, turned, stepped, tested_after_first, statement, statements, groups, function_runs, bodies, c_runs, plain}
 use Rattle.simpl_gen.proofs.WatchedValue.{IsExtra, tag, wrap, Watched, same, extra, bind_watched, accessible_watched, value_watched, located_watched, values_watched}
 
 -- the same setting, where only the six hard kinds are watched

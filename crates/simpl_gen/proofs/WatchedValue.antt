@@ -1,11 +1,10 @@
 -- What a level watches beside the six hard kinds adds undefined steps, and changes no value.
-use Rattle.std.proofs.Common.{Bool, true, false, List, [], ◌∷◌, ℤ, Result, Ok, Err}
+use Rattle.std.proofs.Common.{◌≡◌, Bool, true, false, List, [], ◌∷◌, ℤ, Ok, Err}
 use Rattle.std.specs.Prelude.{not, ◌||◌, if◌then◌else◌}
 use Rattle.c_values.specs.Types.{IntType, is_signed}
 use Rattle.c_values.specs.Number.{is_of_type}
 use Rattle.c_values.specs.Value as V
 use Rattle.c_values.specs.Layout.{Layout}
-use Rattle.c_values.specs.Path.{Step}
 use Rattle.c_memory.specs.Heap.{is_tagged}
 use Rattle.c_memory.specs.Tags.{is_pointer_ok}
 use Rattle.ac_expr.specs.Sort.{Level, Bytes, Words, Numbers, is_lifted}
@@ -115,3 +114,8 @@ mutual
 pub values_watched : (c : Context) (es : List C.Expr) → Watched (values c es) (values (plainly c) es)
 values_watched c [] = same
 values_watched c (e ∷ es) = bind_watched _ _ _ _ (value_watched c e) (λ v. bind_watched _ _ _ _ (values_watched c es) (λ vs. same))
+
+-- A value that is watched is the plain value.
+pub keeps_value : {A : Type 0} (r s : Known A) (a : A) → Watched r s → r ≡ Ok a → s ≡ Ok a
+keeps_value _ _ a same e = e
+keeps_value {A} _ _ a (extra {k} x) e = absurd (let h : ◌≡◌ {A = Known A} (Err k) (Ok a) = e in cc)

@@ -1,7 +1,7 @@
 -- What C statements and functions do (C99 6.8), as the set of a run's ends. A statement ends by going on, by break, by
 -- continue or by return; or it is undefined, with the kind of its first undefined step; or it stops at a bound. There are
 -- no exceptions and there is no Simpl in this.
-use Rattle.std.specs.Prelude.{ℕ, Bool, true, false, ◌||◌, List, [], ◌∷◌, Option, Some, None, Result, Ok, Err, ℤ, pos, ◌⊎◌, if◌then◌else◌}
+use Rattle.std.specs.Prelude.{ℕ, Bool, true, false, ◌||◌, List, [], ◌∷◌, Option, Some, None, Ok, ℤ, ◌⊎◌, if◌then◌else◌}
 use Rattle.std.proofs.Common.{inl, inr}
 use Rattle.std.specs.Ordering.{int_eq}
 use Rattle.correspondence.specs.Outcome.{Turns, Ends, done, fault, stop, given, Then, choose, loop}
@@ -14,7 +14,6 @@ use Rattle.c_values.specs.Path.{upd}
 use Rattle.c_values.specs.Choice.{Choice, picked}
 use Rattle.c_memory.specs.Heap.{write_heap}
 use Rattle.ac_expr.specs.Sort.{Level, Bytes}
-use Rattle.ac_expr.specs.Evaluation.{Env, State}
 use Rattle.ac_expr.specs.Signature.{Invocation, bound, no_env}
 use Rattle.simpl_lang.specs.Command as K
 use Rattle.simpl_lang.specs.Exec.{Machine, machine_with, with_local, Returned}

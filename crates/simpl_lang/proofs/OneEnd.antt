@@ -1,5 +1,5 @@
 -- Under a fill number a command has exactly one end.
-use Rattle.std.proofs.Common.{ℕ, Bool, Option, Some, None, List, [], ◌∷◌}
+use Rattle.std.proofs.Common.{ℕ, Option, Some, None, List, [], ◌∷◌}
 use Rattle.correspondence.specs.Outcome.{Ends}
 use Rattle.correspondence.specs.OneEnd.{OneEnd, HaveOneEnd}
 use Rattle.correspondence.proofs.OneEnd.{done_once, fault_once, stop_once, choose_once, then_once, loop_once, called_once, below_once}

@@ -1,6 +1,6 @@
 //! Simpl: commands with guards and exceptions, what they do, and which units are well-formed.
 #![tactic(auto)]
 
-mod laws;
+mod run_laws;
 
-pub use laws::{commands_continue, commands_end_once};
+pub use run_laws::{commands_continue, commands_end_once};

@@ -1,5 +1,5 @@
 -- Claims about calls, from the computed end.
-use Rattle.std.proofs.Common.{◌≡◌, ℕ, Bool, true, false, List, [], length, Option, Some, None, refl, sym, subst}
+use Rattle.std.proofs.Common.{◌≡◌, ℕ, Bool, true, false, List, [], length, Option, None, refl, subst}
 use Rattle.correspondence.specs.Outcome.{Limit, Outcome, Done, Failed, Stopped}
 use Rattle.c_values.specs.Name.{Name}
 use Rattle.c_values.specs.Types.{CType}

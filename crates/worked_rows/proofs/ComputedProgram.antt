@@ -1,5 +1,5 @@
 -- Claims about programs, from the computed end.
-use Rattle.std.proofs.Common.{◌≡◌, Bool, true, false, List, [], Some, refl, subst}
+use Rattle.std.proofs.Common.{◌≡◌, true, false, List, [], Some, refl, subst}
 use Rattle.std.specs.Prelude.{codes}
 use Rattle.correspondence.specs.Outcome.{Outcome, Done, Failed, Stopped}
 use Rattle.c_values.specs.Value.{Value, nothing}

@@ -1,7 +1,7 @@
 -- One end of a run, computed: where nothing is chosen, each of the words that runs are put together by has one, which is
 -- an end of the run. A case of a test waits until the test is known.
 use Rattle.std.proofs.Common.{ℕ, zero, suc, Option, Some, None, Bool, true, false, List, [], ◌∷◌, ◌⊎◌, inl, inr, Result, Ok, Err, refl}
-use Rattle.correspondence.specs.Outcome.{Limit, Turns, Depth, Outcome, Done, Failed, Stopped, Ends, done, given, Then, goes_on, fails, stops, choose, continued, loop}
+use Rattle.correspondence.specs.Outcome.{Turns, Depth, Outcome, Done, Failed, Stopped, Ends, given, Then, goes_on, fails, stops, choose, continued, loop}
 use Rattle.correspondence.specs.Bound.{Functions, called, below}
 
 abbrev pub given_end : {A F : Type 0} → Result A F → Outcome A F

@@ -1,5 +1,5 @@
 -- The end of a run of a program under a fill number, computed.
-use Rattle.std.proofs.Common.{ℕ, Option, Some, None, Bool, true, false, List, [], ◌∷◌, ◌⊎◌, inl, inr, pos, refl}
+use Rattle.std.proofs.Common.{ℕ, Option, Some, None, true, false, List, [], ◌∷◌, ◌⊎◌, inl, inr, pos, refl}
 use Rattle.correspondence.specs.Outcome.{Turns, Outcome, Done, Failed, Stopped, goes_on}
 use Rattle.c_values.specs.Word.{word, unsigned, signed}
 use Rattle.c_values.specs.Value.{Value, Bits, Number, Truth}

@@ -1,5 +1,5 @@
 -- The end of a run of Simpl under a fill number, computed.
-use Rattle.std.proofs.Common.{◌≡◌, ℕ, Option, Some, None, Bool, true, false, List, [], ◌∷◌, ◌⊎◌, inl, inr, pos, refl}
+use Rattle.std.proofs.Common.{ℕ, Option, Some, None, true, false, List, [], ◌∷◌, ◌⊎◌, inl, inr, pos, refl}
 use Rattle.correspondence.specs.Outcome.{Turns, Outcome, Done, Failed, Stopped, Ends, goes_on}
 use Rattle.c_values.specs.Name.{with_name}
 use Rattle.c_values.specs.Word.{word}

@@ -1,6 +1,6 @@
 -- unsigned char b0(unsigned *p){unsigned char *c=(unsigned char *)p; return *c;}
 -- unsigned char b1(unsigned *p){unsigned char r; r=b0(p); return r;}
-use Rattle.std.specs.Prelude.{List, [], ◌∷◌, Some, pos, codes}
+use Rattle.std.specs.Prelude.{[], ◌∷◌, Some, pos, codes}
 use Rattle.c_values.specs.Name.{Name}
 use Rattle.c_values.specs.Types.{UChar, CType, Integer, Ptr}
 use Rattle.c_memory.specs.Memory.{Memory}

@@ -1,5 +1,5 @@
 -- unsigned char g(unsigned char a, unsigned char b){return a+b;}
-use Rattle.std.specs.Prelude.{List, [], ◌∷◌, Some, pos, codes}
+use Rattle.std.specs.Prelude.{[], ◌∷◌, Some, pos, codes}
 use Rattle.c_values.specs.Types.{Int, UChar, CType, Integer}
 use Rattle.c_types.specs.Typed.{Local, Convert, Compute, Add, Return, TypedUnit}
 use Rattle.worked_rows.specs.Trees.{int, char_value, variable, function, unit_of}

@@ -1,6 +1,6 @@
 -- What is said of a call of a C function: how its run ends, from a memory whose bytes and tags are given, at a number of
 -- turns, at a limit of nested calls and with a fill number; in C, and in the Simpl that is generated for it.
-use Rattle.std.specs.Prelude.{◌≡◌, ℕ, zero, suc, ◌+◌, ◌-◌, List, [], ◌∷◌, Option, Some, None, nat_lt, if◌then◌else◌, get_or, length}
+use Rattle.std.specs.Prelude.{◌≡◌, ℕ, zero, suc, ◌+◌, ◌-◌, List, [], ◌∷◌, Option, Some, nat_lt, if◌then◌else◌, get_or, length}
 use Rattle.correspondence.specs.Outcome.{Limit, Done, Failed, Stopped, Ends}
 use Rattle.c_values.specs.Name.{Name, same_name}
 use Rattle.c_values.specs.Types.{CType}

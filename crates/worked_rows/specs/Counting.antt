@@ -1,6 +1,6 @@
 -- unsigned cnt(struct node *p, unsigned n){unsigned c=0; while(p->v<n){c=c+1; p=p->next;} return c;}
 -- unsigned dw(unsigned n){unsigned c=0; do { n=n-1; if(n==3) continue; c=c+1; } while(n>1); return c;}
-use Rattle.std.specs.Prelude.{ℕ, List, [], ◌∷◌, Some, pos, codes}
+use Rattle.std.specs.Prelude.{ℕ, [], ◌∷◌, Some, pos, codes}
 use Rattle.c_values.specs.Name.{Name}
 use Rattle.c_values.specs.Types.{UInt}
 use Rattle.c_memory.specs.Memory.{Memory}

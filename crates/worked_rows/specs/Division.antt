@@ -1,5 +1,5 @@
 -- int d(int a,int b){return a/b;} int m(int a,int b){return a%b;}
-use Rattle.std.specs.Prelude.{List, [], ◌∷◌, Some, pos, ℤ, codes}
+use Rattle.std.specs.Prelude.{[], ◌∷◌, Some, ℤ, codes}
 use Rattle.c_values.specs.Name.{Name}
 use Rattle.c_values.specs.Types.{Int}
 use Rattle.c_types.specs.Typed.{Arithmetic, Local, Compute, Divide, Remainder, Return, TypedFn, TypedUnit}

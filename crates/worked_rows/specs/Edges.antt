@@ -1,7 +1,6 @@
 -- Expressions at the edges of their definitions.
-use Rattle.std.specs.Prelude.{ℕ, List, [], ◌∷◌, ℤ, pos, codes}
-use Rattle.c_values.specs.Name.{Name}
-use Rattle.c_values.specs.Types.{Target, Ilp32, Lp64, IntType, Char, SChar, UChar, Short, UShort, Int, UInt, Long, ULong, LLong, ULLong, CType, Integer, Ptr, Struct, Array, width_of}
+use Rattle.std.specs.Prelude.{ℕ, [], ◌∷◌, ℤ, pos, codes}
+use Rattle.c_values.specs.Types.{Ilp32, Lp64, IntType, Int, Integer, Ptr, Struct, Array, width_of}
 use Rattle.c_values.specs.Word.{word}
 use Rattle.c_values.specs.Value as V
 use Rattle.c_values.specs.Layout.{StructDef}
@@ -9,10 +8,10 @@ use Rattle.c_values.specs.Name.{with_name}
 use Rattle.c_memory.specs.Heap.{OnBytes}
 use Rattle.ac_expr.specs.Sort.{Level, Bytes}
 use Rattle.ac_expr.specs.Signature.{no_env}
-use Rattle.c_types.specs.Typed.{Arithmetic, Divide, Direction, Relation, Expr, Constant, Local, Value, Convert, Negate, Compute, Shift, Compare, And, Or, Choose, Move, Minus, Through, InGlobal, Member, Element, Here, Path}
+use Rattle.c_types.specs.Typed.{Arithmetic, Divide, Direction, Relation, Expr, Constant, Local, Value, Convert, Negate, Compute, Shift, Compare, Move, Minus, Through, Member, Element, Here}
 use Rattle.simpl_gen.specs.CValue.{Context}
-use Rattle.worked_rows.specs.Trees.{int, uint, minus, value}
-use Rattle.worked_rows.specs.Claims.{no_memory, bytes_from, zeros}
+use Rattle.worked_rows.specs.Trees.{int, value}
+use Rattle.worked_rows.specs.Claims.{bytes_from, zeros}
 use Rattle.worked_rows.specs.ExpressionClaims.{alone}
 
 -- under ILP32, where the hard kinds alone are watched

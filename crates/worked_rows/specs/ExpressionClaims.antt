@@ -1,10 +1,8 @@
 -- What is said of an expression: its value, or its first undefined step, in C; and that the generated expression has the
 -- value and its guards hold, or that the first guard that fails is of that kind.
-use Rattle.std.specs.Prelude.{◌≡◌, ℕ, Bool, List, [], ◌∷◌, Option, Some, None, Ok, Err, if◌then◌else◌}
-use Rattle.c_values.specs.Types.{Target, Ilp32, Lp64}
+use Rattle.std.specs.Prelude.{◌≡◌, List, [], ◌∷◌, Option, Some, None, Ok, Err, if◌then◌else◌}
+use Rattle.c_values.specs.Types.{Target}
 use Rattle.c_values.specs.Value.{Value}
-use Rattle.c_values.specs.Layout.{StructDef}
-use Rattle.c_memory.specs.Memory.{Memory}
 use Rattle.c_memory.specs.Heap.{OnBytes}
 use Rattle.ac_expr.specs.Sort.{Level}
 use Rattle.ac_expr.specs.Evaluation as E

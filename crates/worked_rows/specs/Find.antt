@@ -1,6 +1,6 @@
 -- int find(unsigned *a, int n, unsigned k){int i; for(i=0;i<n;i++){if(a[i]==k)return i;} return -1;}
-use Rattle.std.specs.Prelude.{ℕ, List, [], ◌∷◌, Some, pos, codes}
-use Rattle.c_values.specs.Types.{Int, CType, Ptr}
+use Rattle.std.specs.Prelude.{ℕ, [], ◌∷◌, Some, pos, codes}
+use Rattle.c_values.specs.Types.{Int, Ptr}
 use Rattle.c_memory.specs.Memory.{Memory}
 use Rattle.c_types.specs.Typed.{Expr, Local, Value, Through, Here, Negate, Compute, Add, Compare, Less, Equate, Equal, Move, Plus, ToLocal, While_true, Empty, Block, Declare, Assign, If, For, Return, TypedUnit}
 use Rattle.worked_rows.specs.Trees.{int, uint, value, literal, body, variable, function, unit_of}

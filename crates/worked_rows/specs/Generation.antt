@@ -1,6 +1,6 @@
 -- unsigned f(void){return 7;} and the Simpl that is generated for it; and the guards of `p && p->x > 3`.
-use Rattle.std.specs.Prelude.{List, [], ◌∷◌, Some, true, false, pos, codes}
-use Rattle.c_values.specs.Types.{CType, Struct}
+use Rattle.std.specs.Prelude.{List, [], ◌∷◌, Some, false, pos, codes}
+use Rattle.c_values.specs.Types.{Struct}
 use Rattle.c_values.specs.Word.{word}
 use Rattle.ac_expr.specs.Expression.{Exp, Var, WordLit, TruthLit, Not, Eq, Imp, PtrOk, Tagged}
 use Rattle.simpl_lang.specs.Command.{Pointer, Tag, Unreached, Condition, Simpl, Skip, Throw, Set, Seq, Guard, Catch}

@@ -1,6 +1,6 @@
 -- int g[4]; int put(int i, int v){g[i]=v; return g[i];}
-use Rattle.std.specs.Prelude.{List, [], ◌∷◌, Some, ℤ, pos, codes}
-use Rattle.c_values.specs.Types.{Ilp32, Array}
+use Rattle.std.specs.Prelude.{[], ◌∷◌, Some, ℤ, pos, codes}
+use Rattle.c_values.specs.Types.{Array}
 use Rattle.c_values.specs.Value.{Parts, more, no_values}
 use Rattle.c_types.specs.Typed.{Local, Value, Place, InGlobal, Element, Here, ToPlace, Assign, Return, TypedUnit}
 use Rattle.worked_rows.specs.Trees.{int, value, variable, function, layout}

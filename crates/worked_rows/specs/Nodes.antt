@@ -1,5 +1,5 @@
 -- struct node{unsigned v; struct node *next;};
-use Rattle.std.specs.Prelude.{ℕ, List, [], ◌∷◌, pos, codes}
+use Rattle.std.specs.Prelude.{ℕ, [], ◌∷◌, pos, codes}
 use Rattle.c_values.specs.Name.{Name}
 use Rattle.c_values.specs.Types.{CType, Ptr, Struct}
 use Rattle.c_values.specs.Value.{Value, Parts, more, no_values}

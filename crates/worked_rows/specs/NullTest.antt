@@ -1,5 +1,5 @@
 -- struct s{int x;}; int h(struct s *p){return p && p->x > 3;}
-use Rattle.std.specs.Prelude.{ℕ, List, [], ◌∷◌, Some, pos, codes}
+use Rattle.std.specs.Prelude.{List, [], ◌∷◌, Some, pos, codes}
 use Rattle.c_values.specs.Types.{Int, CType, Ptr, Struct}
 use Rattle.c_values.specs.Layout.{StructDef}
 use Rattle.c_memory.specs.Memory.{Tag, Memory}

@@ -1,5 +1,5 @@
 -- The monadic programs of three small texts, as they are shown, and what is said of their runs.
-use Rattle.std.specs.Prelude.{◌≡◌, ℕ, List, [], ◌∷◌, Some, ℤ, pos, codes}
+use Rattle.std.specs.Prelude.{◌≡◌, List, [], ◌∷◌, Some, pos, codes}
 use Rattle.correspondence.specs.Outcome.{Done, Failed, Ends}
 use Rattle.c_values.specs.Name.{Name}
 use Rattle.c_values.specs.Types.{Ilp32}
@@ -11,7 +11,7 @@ use Rattle.c_memory.specs.Heap.{OnTypes}
 use Rattle.ac_expr.specs.Expression.{Exp, Var, NumberLit, Arith, WordBinary, Between}
 use Rattle.ac_expr.specs.Sort.{Level, Words, Numbers, Kind, WordKind, NatKind}
 use Rattle.ac_expr.specs.Signature.{Binder}
-use Rattle.monad_lang.specs.Program.{Mon, Ret, Bind, Guard, FinalFn, FinalUnit}
+use Rattle.monad_lang.specs.Program.{Mon, Ret, Bind, Guard, FinalUnit}
 use Rattle.monad_lang.specs.Run.{Answer, Failure, program_runs}
 
 abbrev pub guard_then : Exp → Mon → Mon

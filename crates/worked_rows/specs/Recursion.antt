@@ -1,6 +1,6 @@
 -- unsigned od(unsigned n){unsigned r; if(n==0)return 0; r=ev(n-1); return r;}
 -- unsigned ev(unsigned n){unsigned r; if(n==0)return 1; r=od(n-1); return r;}
-use Rattle.std.specs.Prelude.{ℕ, List, [], ◌∷◌, Some, pos, codes}
+use Rattle.std.specs.Prelude.{ℕ, [], ◌∷◌, Some, pos, codes}
 use Rattle.c_values.specs.Name.{Name}
 use Rattle.c_values.specs.Types.{UInt}
 use Rattle.c_types.specs.Typed.{Expr, Local, Compute, Subtract, Equate, Equal, ToLocal, Assigned, Empty, Declare, Call, If, Return, TypedFn, TypedUnit}

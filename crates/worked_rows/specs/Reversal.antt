@@ -1,5 +1,5 @@
 -- struct node *rev(struct node *p){struct node *r=0; while(p){struct node *q=p->next; p->next=r; r=p; p=q;} return r;}
-use Rattle.std.specs.Prelude.{List, [], ◌∷◌, Some, pos, codes}
+use Rattle.std.specs.Prelude.{[], ◌∷◌, Some, pos, codes}
 use Rattle.c_values.specs.Name.{Name}
 use Rattle.c_memory.specs.Memory.{Memory}
 use Rattle.c_types.specs.Typed.{Expr, Value, ConvertNull, ToLocal, ToPlace, Statement, Block, Assign, While, Return, TypedUnit}

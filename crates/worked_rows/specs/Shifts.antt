@@ -1,7 +1,7 @@
 -- int s(int x,int n){return x<<n;} unsigned u(unsigned x,int n){return x<<n;} int r(int x,int n){return x>>n;}
-use Rattle.std.specs.Prelude.{List, [], ◌∷◌, Some, ℤ, codes}
+use Rattle.std.specs.Prelude.{[], ◌∷◌, Some, ℤ, codes}
 use Rattle.c_values.specs.Name.{Name}
-use Rattle.c_values.specs.Types.{IntType, Int, UInt, CType, Integer}
+use Rattle.c_values.specs.Types.{IntType, Int, UInt, Integer}
 use Rattle.c_types.specs.Typed.{Direction, Left, Right, Local, Shift, Return, TypedFn, TypedUnit}
 use Rattle.worked_rows.specs.Trees.{int, value, variable, function, unit_of}
 use Rattle.worked_rows.specs.Claims.{Case, call, no_memory}

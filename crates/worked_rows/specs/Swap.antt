@@ -1,5 +1,5 @@
 -- void swap(unsigned *p, unsigned *q){unsigned t=*p; *p=*q; *q=t;}
-use Rattle.std.specs.Prelude.{ℕ, List, [], ◌∷◌, None, pos, codes}
+use Rattle.std.specs.Prelude.{ℕ, [], ◌∷◌, None, pos, codes}
 use Rattle.c_values.specs.Name.{Name}
 use Rattle.c_values.specs.Types.{CType, Ptr}
 use Rattle.c_memory.specs.Memory.{Memory}

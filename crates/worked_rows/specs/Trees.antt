@@ -1,11 +1,11 @@
 -- Short words for the typed trees of the rows, which are written by hand. The target is ILP32 throughout.
-use Rattle.std.specs.Prelude.{ℕ, List, [], ◌∷◌, Option, false, ℤ, pos, neg_ℤ, codes}
+use Rattle.std.specs.Prelude.{ℕ, List, [], ◌∷◌, Option, false, ℤ, pos, neg_ℤ}
 use Rattle.c_values.specs.Name.{Name}
-use Rattle.c_values.specs.Types.{Target, Ilp32, IntType, Int, UInt, CType, Integer, Ptr, Struct}
+use Rattle.c_values.specs.Types.{Ilp32, Int, UInt, CType, Integer}
 use Rattle.c_values.specs.Word.{word}
 use Rattle.c_values.specs.Value.{Value as V, Bits}
-use Rattle.c_values.specs.Layout.{Layout, StructDef, Member}
-use Rattle.c_types.specs.Typed.{Expr, Constant, Local, Value, Convert, ConvertNull, Compute, Add, Place, Through, Path, Here, Member as In, Target as T, ToLocal, ToPlace, Statement, Assign, If, Empty, Return, Statements, no_statements, next, Variable, TypedFn, TypedUnit}
+use Rattle.c_values.specs.Layout.{Layout, StructDef}
+use Rattle.c_types.specs.Typed.{Expr, Constant, Convert, Statement, Statements, no_statements, next, Variable, TypedFn, TypedUnit}
 
 abbrev pub int : CType
 int = Integer Int

@@ -1,5 +1,5 @@
 use Rattle.simpl_lang.proofs.OneEnd.{execs_once, functions_once, call_once}
-use Rattle.simpl_lang.proofs.laws.commands_end_once.Goals as goal
+use Rattle.simpl_lang.proofs.run_laws.commands_end_once.Goals as goal
 
 pub returns : goal.returns
 returns c = record {

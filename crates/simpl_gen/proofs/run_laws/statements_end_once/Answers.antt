@@ -1,5 +1,5 @@
 use Rattle.simpl_gen.proofs.OneEnd.{picks_once, statement_once, functions_once, call_once}
-use Rattle.simpl_gen.proofs.laws.statements_end_once.Goals as goal
+use Rattle.simpl_gen.proofs.run_laws.statements_end_once.Goals as goal
 
 pub returns : goal.returns
 returns c = record {

@@ -1,5 +1,5 @@
 use Rattle.monad_lang.proofs.Continues.{runs_continue, functions_continue, program_continues}
-use Rattle.monad_lang.proofs.laws.programs_continue.Goals as goal
+use Rattle.monad_lang.proofs.run_laws.programs_continue.Goals as goal
 
 pub returns : goal.returns
 returns c = record {

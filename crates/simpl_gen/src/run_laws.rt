@@ -1,16 +1,18 @@
 //! Laws of C runs, as contracts of functions that do nothing.
 
-ghost use Rattle.std.specs.Prelude.{◌≡◌, ℕ, Option, ◌≤◌};
+ghost use Rattle.std.specs.Prelude.{◌≡◌, ℕ, Option, ◌≤◌, Ok};
 ghost use Rattle.correspondence.specs.Outcome.{Failed};
 ghost use Rattle.correspondence.specs.Corresponds.{Corresponds};
 ghost use Rattle.correspondence.specs.OneEnd.{OneEnd, Continues, Deeper};
 ghost use Rattle.c_values.specs.Name.{Name};
+ghost use Rattle.c_values.specs.Value.{Value};
 ghost use Rattle.c_values.specs.Choice.{Choice, Fill};
-ghost use Rattle.ac_expr.specs.Sort.{Level};
+ghost use Rattle.ac_expr.specs.Sort.{Level, Bytes};
 ghost use Rattle.ac_expr.specs.Signature.{Invocation};
 ghost use Rattle.simpl_lang.specs.Exec.{Machine};
 ghost use Rattle.simpl_lang.specs.Command.{GuardKind, Tag, Wrap};
-ghost use Rattle.c_types.specs.Typed.{Statement, TypedUnit};
+ghost use Rattle.c_types.specs.Typed.{Expr, Statement, TypedUnit};
+ghost use Rattle.simpl_gen.specs.CValue.{Context, value};
 ghost use Rattle.simpl_gen.specs.CRun.{Setting, statement, functions_below, c_runs, plain};
 
 /// Under a fill number a call has exactly one end, and so has a statement that calls the functions of a unit: at every
@@ -29,8 +31,10 @@ pub fn statements_continue()
 
 /// What a function's level watches beside the six hard kinds changes nothing but that it is undefined: where the watched
 /// run meets neither an uncovered root nor an unsigned result that doesn't fit, it has exactly the ends of the plain run,
-/// stops and other faults included. So it is where the watched run isn't undefined at all.
+/// stops and other faults included. So it is where the watched run isn't undefined at all. And an expression that has a
+/// value has that value plainly.
 pub fn watching_keeps_ends()
+    ensures values { (c : Context) (e : Expr) (v : Value) → value c e ≡ Ok v → value (record { layout = c.layout; level = Bytes; locals = c.locals; state = c.state }) e ≡ Ok v }
     ensures met_no_extra { (u : TypedUnit) (levels : Name → Level) (p : Choice) (n : ℕ) (depth : Option ℕ) (c : Invocation) → (c_runs u levels p n depth c (Failed Tag) → ⊥) → (c_runs u levels p n depth c (Failed Wrap) → ⊥) → Corresponds (λ a b. a ≡ b) (λ f g. f ≡ g) (c_runs u levels p n depth c) (c_runs u plain p n depth c) }
     ensures defined { (u : TypedUnit) (levels : Name → Level) (p : Choice) (n : ℕ) (depth : Option ℕ) (c : Invocation) → ((k : GuardKind) → c_runs u levels p n depth c (Failed k) → ⊥) → Corresponds (λ a b. a ≡ b) (λ f g. f ≡ g) (c_runs u levels p n depth c) (c_runs u plain p n depth c) }
 {}

@@ -1,5 +1,5 @@
 use Rattle.simpl_gen.proofs.Continues.{statement_continues, functions_continue, call_continues}
-use Rattle.simpl_gen.proofs.laws.statements_continue.Goals as goal
+use Rattle.simpl_gen.proofs.run_laws.statements_continue.Goals as goal
 
 pub returns : goal.returns
 returns c = record {

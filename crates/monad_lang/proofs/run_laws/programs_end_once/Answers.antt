@@ -1,5 +1,5 @@
 use Rattle.monad_lang.proofs.OneEnd.{runs_once, functions_once, program_once}
-use Rattle.monad_lang.proofs.laws.programs_end_once.Goals as goal
+use Rattle.monad_lang.proofs.run_laws.programs_end_once.Goals as goal
 
 pub returns : goal.returns
 returns c = record {

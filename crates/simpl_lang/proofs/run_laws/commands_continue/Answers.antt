@@ -1,5 +1,5 @@
 use Rattle.simpl_lang.proofs.Continues.{execs_continue, functions_continue, call_continues}
-use Rattle.simpl_lang.proofs.laws.commands_continue.Goals as goal
+use Rattle.simpl_lang.proofs.run_laws.commands_continue.Goals as goal
 
 pub returns : goal.returns
 returns c = record {

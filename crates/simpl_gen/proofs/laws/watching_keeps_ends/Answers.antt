@@ -1,9 +1,0 @@
-use Rattle.simpl_lang.specs.Command.{Tag, Wrap}
-use Rattle.simpl_gen.proofs.WatchedRun.{watched_same}
-use Rattle.simpl_gen.proofs.laws.watching_keeps_ends.Goals as goal
-
-pub returns : goal.returns
-returns c = record {
-  met_no_extra = watched_same;
-  defined = λ u levels p n depth a none. watched_same u levels p n depth a (none Tag) (none Wrap);
-}
