@@ -8,3 +8,6 @@ pub mod SameType
 pub mod Height
 pub mod Shaped
 pub mod Replaced
+pub mod Modulo
+pub mod WordValues
+pub mod WordResults

@@ -1,5 +1,5 @@
 -- The target and the types of the C subset (C99 6.2.5). `char` is unsigned; an enum type is `int`.
-use Rattle.std.specs.Prelude.{ℕ, ◌==◌, Bool, true, false, ◌&&◌, List, [], ◌∷◌}
+use Rattle.std.specs.Prelude.{ℕ, ◌==◌, Bool, true, false, ◌&&◌}
 use Rattle.c_values.specs.Name.{Name, same_name}
 
 pub data Target : Type 0 where

@@ -2,3 +2,4 @@
 #![tactic(auto)]
 
 pub mod layout_laws;
+pub mod word_laws;
