@@ -11,3 +11,4 @@ pub mod Replaced
 pub mod Modulo
 pub mod WordValues
 pub mod WordResults
+pub mod Wrapping
