@@ -11,3 +11,4 @@ pub mod CodeTypes
 pub mod CodeWord
 pub mod CodeNumber
 pub mod SignAndMagnitude
+pub mod CodeValue

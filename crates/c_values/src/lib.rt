@@ -4,6 +4,7 @@
 pub mod layout_laws;
 mod numbers;
 mod types;
+mod values;
 pub mod views;
 pub mod word_laws;
 mod word_operations;
@@ -11,6 +12,7 @@ mod words;
 
 pub use numbers::{Number, NumberOp, number_op};
 pub use types::{CType, IntType, Target, width_of};
+pub use values::{GlobalVar, PathStep, Value};
 pub use views::{fits, int, nat};
 pub use word_operations::{ShiftOp, UnaryOp, WordOp, WordTest, cast, word_op, word_shift, word_test, word_unary};
 pub use words::Word;
