@@ -12,3 +12,5 @@ pub mod CodeWord
 pub mod CodeNumber
 pub mod SignAndMagnitude
 pub mod CodeValue
+pub mod CodeLayout
+pub mod StructTable

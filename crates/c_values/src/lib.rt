@@ -2,7 +2,9 @@
 #![tactic(auto)]
 
 pub mod layout_laws;
+mod layouts;
 mod numbers;
+mod places;
 mod types;
 mod values;
 pub mod views;
@@ -10,6 +12,7 @@ pub mod word_laws;
 mod word_operations;
 mod words;
 
+pub use layouts::StructDef;
 pub use numbers::{Number, NumberOp, number_op};
 pub use types::{CType, IntType, Target, width_of};
 pub use values::{GlobalVar, PathStep, Value};

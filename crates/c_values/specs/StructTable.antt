@@ -1,0 +1,48 @@
+-- A table of where the members of structs lie, against the shapes of the structs.
+use Rattle.std.specs.Prelude.{◌≡◌, ℕ, ◌<◌, ◌≤◌, Bool, true, min, List, [], ◌∷◌, length, ◌+◌, String, string_bytes, Option, Some, None, slice_get, IfSome}
+use Rattle.std.specs.declared.alloc.Global.{Global}
+use Rattle.std.specs.declared.hash.FoldHasher.{FoldHasher}
+use Rattle.std.specs.declared.hash.BuildHasherDefault.{BuildHasherDefault}
+use Rattle.std.specs.HashMap.{HashMap, get_by_text}
+use Rattle.c_values.specs.declared.layouts.StructDef as D
+use Rattle.c_values.specs.declared.places.Places as P
+use Rattle.c_values.specs.declared.places.Extent as E
+use Rattle.c_values.specs.Name.{Name}
+use Rattle.c_values.specs.Layout.{Shape, Incomplete, Scalar, Record, Row, Fields, no_fields, field, size, alignment, is_complete, are_complete, largest_size}
+
+abbrev pub Table : Type 0
+Table = HashMap (String Global) P.Places (BuildHasherDefault FoldHasher)
+
+abbrev pub offsets : Fields → List ℕ
+offsets no_fields = []
+offsets (field at s fs) = at ∷ offsets fs
+
+-- the places of a struct are those of the shape
+pub record DescribesStruct (e : P.Places) (bytes align : ℕ) (fs : Fields) : Type 0 where
+  pub size : e.size ≡ bytes
+  pub alignment : e.alignment ≡ align
+  pub offsets : e.offsets.items ≡ offsets fs
+  pub complete : are_complete fs ≡ true
+
+abbrev pub DescribesShape : Option P.Places → Shape → Type 0
+DescribesShape None Incomplete = Unit {0}
+DescribesShape (Some e) (Record x bytes align fs) = DescribesStruct e bytes align fs
+DescribesShape _ _ = ⊥
+
+-- each struct is where its name is
+pub record Describes (table : Table) (structs : Name → Shape) : Type 0 where
+  pub at : (x : Name) → DescribesShape (get_by_text table x) (structs x)
+
+-- the struct of this name stands at this place
+abbrev pub IsNamed : List D.StructDef → Name → ℕ → Type 0
+IsNamed ds x k = IfSome (slice_get ds k) (λ d. string_bytes d.name ≡ x) × (k < length ds)
+
+-- each struct's position is its place in the list
+pub record Finds (table : Table) (ds : List D.StructDef) : Type 0 where
+  pub at : (x : Name) → IfSome (get_by_text table x) (λ e. IsNamed ds x e.position)
+
+-- what is known of a shape, the size growing no more past the largest of an object
+pub record Measures (e : E.Extent) (s : Shape) : Type 0 where
+  pub complete : e.complete ≡ is_complete s
+  pub size : e.size ≡ min (size s) (largest_size + 1)
+  pub alignment : e.alignment ≡ alignment s
