@@ -12,3 +12,4 @@ pub mod Modulo
 pub mod WordValues
 pub mod WordResults
 pub mod Wrapping
+pub mod Narrowing

@@ -1,5 +1,5 @@
 -- A table of where the members of structs lie, against the shapes of the structs.
-use Rattle.std.specs.Prelude.{◌≡◌, ℕ, ◌<◌, ◌≤◌, Bool, true, min, List, [], ◌∷◌, length, ◌+◌, String, string_bytes, Option, Some, None, slice_get, IfSome}
+use Rattle.std.specs.Prelude.{◌≡◌, ℕ, ◌<◌, ◌≤◌, Bool, true, false, min, List, [], ◌∷◌, length, ◌+◌, String, string_bytes, Option, Some, None, slice_get, IfSome}
 use Rattle.std.specs.declared.alloc.Global.{Global}
 use Rattle.std.specs.declared.hash.FoldHasher.{FoldHasher}
 use Rattle.std.specs.declared.hash.BuildHasherDefault.{BuildHasherDefault}
@@ -8,6 +8,7 @@ use Rattle.c_values.specs.declared.layouts.StructDef as D
 use Rattle.c_values.specs.declared.places.Places as P
 use Rattle.c_values.specs.declared.places.Extent as E
 use Rattle.c_values.specs.Name.{Name}
+use Rattle.c_values.specs.Types.{CType, Array}
 use Rattle.c_values.specs.Layout.{Shape, Incomplete, Scalar, Record, Row, Fields, no_fields, field, size, alignment, is_complete, are_complete, largest_size}
 
 abbrev pub Table : Type 0
@@ -46,3 +47,7 @@ pub record Measures (e : E.Extent) (s : Shape) : Type 0 where
   pub complete : e.complete ≡ is_complete s
   pub size : e.size ≡ min (size s) (largest_size + 1)
   pub alignment : e.alignment ≡ alignment s
+
+abbrev pub is_array : CType → Bool
+is_array (Array t n) = true
+is_array _ = false

@@ -1,6 +1,7 @@
 //! Values, types and layouts of the C subset: what words, numbers, types, structs and their places in memory are.
 #![tactic(auto)]
 
+mod extents;
 pub mod layout_laws;
 mod layouts;
 mod numbers;

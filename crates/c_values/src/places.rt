@@ -1,13 +1,8 @@
-//! Where the members of structs lie, and how large types are.
+//! Where the members of structs lie, and how much memory types take.
 
-ghost use Rattle.std.specs.Prelude.{◌≡◌, ℕ, ◌+◌, ◌*◌, ◌<◌, ◌≤◌, true, min};
-ghost use Rattle.c_values.specs.Name.{Name};
-ghost use Rattle.c_values.specs.Layout.{Shape, shape_from, aligned, largest_size};
-ghost use Rattle.c_values.specs.CodeTypes.{target_of, type_of};
+ghost use Rattle.std.specs.Prelude.{◌≤◌};
 
 use std::collections::HashMap;
-
-use crate::types::{CType, Target, address_width, width_of};
 
 /// The bytes of the largest object.
 pub(crate) const LARGEST: u32 = 65536;
@@ -22,6 +17,7 @@ pub(crate) struct Places {
     pub(crate) alignment: u32,
     /// Of each member.
     pub(crate) offsets: Vec<u32>,
+    ghost small: { size ≤ 65536 },
     ghost some: { 1 ≤ alignment },
     ghost few: { alignment ≤ 8 },
 }
