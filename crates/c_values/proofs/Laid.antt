@@ -12,7 +12,7 @@ pointer_formed : (t : Target) (u : CType) → IsFormed (Scalar u (address_width 
 pointer_formed Ilp32 u = record { whole = refl; bytes = inr (inr (inl refl)) }
 pointer_formed Lp64 u = record { whole = refl; bytes = inr (inr (inr refl)) }
 
-integer_formed : (t : Target) (i : IntType) → IsFormed (Scalar (Integer i) (width_of t i))
+pub integer_formed : (t : Target) (i : IntType) → IsFormed (Scalar (Integer i) (width_of t i))
 integer_formed t Char = record { whole = refl; bytes = inl refl }
 integer_formed t SChar = record { whole = refl; bytes = inl refl }
 integer_formed t UChar = record { whole = refl; bytes = inl refl }

@@ -13,3 +13,4 @@ pub mod WordValues
 pub mod WordResults
 pub mod Wrapping
 pub mod Narrowing
+pub mod PlacingMembers

@@ -1,5 +1,5 @@
 -- A table of where the members of structs lie, against the shapes of the structs.
-use Rattle.std.specs.Prelude.{◌≡◌, ℕ, ◌<◌, ◌≤◌, Bool, true, false, min, List, [], ◌∷◌, length, ◌+◌, String, string_bytes, Option, Some, None, slice_get, IfSome}
+use Rattle.std.specs.Prelude.{◌≡◌, ℕ, ◌<◌, ◌≤◌, Bool, true, false, nat_le, min, List, [], ◌∷◌, length, ◌+◌, String, string_bytes, Option, Some, None, slice_get, IfSome}
 use Rattle.std.specs.declared.alloc.Global.{Global}
 use Rattle.std.specs.declared.hash.FoldHasher.{FoldHasher}
 use Rattle.std.specs.declared.hash.BuildHasherDefault.{BuildHasherDefault}
@@ -51,3 +51,8 @@ pub record Measures (e : E.Extent) (s : Shape) : Type 0 where
 abbrev pub is_array : CType → Bool
 is_array (Array t n) = true
 is_array _ = false
+
+-- where the members of a struct of this shape lie, at its place; none where it is larger than an object may be
+abbrev pub IsPlacement : Option P.Places → Shape → ℕ → Type 0
+IsPlacement None s k = nat_le (size s) largest_size ≡ false
+IsPlacement (Some e) s k = DescribesShape (Some e) s × (e.position ≡ k)

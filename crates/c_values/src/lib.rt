@@ -6,6 +6,7 @@ pub mod layout_laws;
 mod layouts;
 mod numbers;
 mod places;
+mod placing;
 mod types;
 mod values;
 pub mod views;
