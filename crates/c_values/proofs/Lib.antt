@@ -14,3 +14,4 @@ pub mod WordResults
 pub mod Wrapping
 pub mod Narrowing
 pub mod PlacingMembers
+pub mod Tabulating

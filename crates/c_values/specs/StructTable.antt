@@ -1,5 +1,5 @@
 -- A table of where the members of structs lie, against the shapes of the structs.
-use Rattle.std.specs.Prelude.{◌≡◌, ℕ, ◌<◌, ◌≤◌, Bool, true, false, nat_le, min, List, [], ◌∷◌, length, ◌+◌, String, string_bytes, Option, Some, None, slice_get, IfSome}
+use Rattle.std.specs.Prelude.{◌≡◌, ℕ, ◌<◌, ◌≤◌, Bool, true, false, nat_le, min, List, [], ◌∷◌, length, map, ◌+◌, String, string_bytes, Option, Some, None, slice_get, IfSome}
 use Rattle.std.specs.declared.alloc.Global.{Global}
 use Rattle.std.specs.declared.hash.FoldHasher.{FoldHasher}
 use Rattle.std.specs.declared.hash.BuildHasherDefault.{BuildHasherDefault}
@@ -8,8 +8,9 @@ use Rattle.c_values.specs.declared.layouts.StructDef as D
 use Rattle.c_values.specs.declared.places.Places as P
 use Rattle.c_values.specs.declared.places.Extent as E
 use Rattle.c_values.specs.Name.{Name}
-use Rattle.c_values.specs.Types.{CType, Array}
-use Rattle.c_values.specs.Layout.{Shape, Incomplete, Scalar, Record, Row, Fields, no_fields, field, size, alignment, is_complete, are_complete, largest_size}
+use Rattle.c_values.specs.Types.{Target, CType, Array}
+use Rattle.c_values.specs.Layout.{Shape, Incomplete, Scalar, Record, Row, Fields, no_fields, field, size, alignment, is_complete, are_complete, largest_size, shapes_after, IsLayout}
+use Rattle.c_values.specs.CodeLayout.{struct_def_of}
 
 abbrev pub Table : Type 0
 Table = HashMap (String Global) P.Places (BuildHasherDefault FoldHasher)
@@ -56,3 +57,9 @@ is_array _ = false
 abbrev pub IsPlacement : Option P.Places → Shape → ℕ → Type 0
 IsPlacement None s k = nat_le (size s) largest_size ≡ false
 IsPlacement (Some e) s k = DescribesShape (Some e) s × (e.position ≡ k)
+
+-- the table of a layout's structs
+pub record IsTabled (t : Target) (ds : List D.StructDef) (table : Table) : Type 0 where
+  pub layout : IsLayout (record { target = t; structs = map struct_def_of ds })
+  pub describes : Describes table (shapes_after t (λ x. Incomplete) (map struct_def_of ds))
+  pub finds : Finds table ds

@@ -1,9 +1,10 @@
-//! Layouts: where the members of structs lie.
+//! Layouts: structs in the order of their definition, and where their members lie.
 
-ghost use Rattle.std.specs.Prelude.{◌≡◌, true, [], map, IfOk, IfErr};
-ghost use Rattle.c_values.specs.Layout.{are_built, Incomplete};
-ghost use Rattle.c_values.specs.CodeTypes.{target_of};
-ghost use Rattle.c_values.specs.CodeLayout.{struct_def_of, IsFirstLarge};
+ghost use Rattle.std.specs.Prelude.{◌≡◌};
+ghost use Rattle.c_values.specs.declared.layouts.LayoutFault.TheVariants.{Memory};
+
+use std::alloc::{AllocError, AllocFailed};
+use thiserror::Error;
 
 use crate::types::CType;
 
@@ -12,4 +13,31 @@ use crate::types::CType;
 pub struct StructDef {
     pub name: String,
     pub members: Vec<(String, CType)>,
+}
+
+/// Why there is no layout.
+#[derive(Debug, Clone, Copy, PartialEq, Eq, Error)]
+pub enum LayoutFault {
+    /// The struct at this place is the first of more than 65,536 bytes.
+    #[error("struct {0} has more than 65,536 bytes")]
+    Large(usize),
+    /// There is no memory for the layout.
+    #[error("out of memory")]
+    Memory,
+}
+
+impl From<AllocError> for LayoutFault {
+    ghost from_gives = { λ _ fault. fault ≡ Memory };
+
+    fn from(_: AllocError) -> Self {
+        LayoutFault::Memory
+    }
+}
+
+impl<T: Drop> From<AllocFailed<T>> for LayoutFault {
+    ghost from_gives = { λ _ fault. fault ≡ Memory };
+
+    fn from(_: AllocFailed<T>) -> Self {
+        LayoutFault::Memory
+    }
 }

@@ -7,6 +7,7 @@ mod layouts;
 mod numbers;
 mod places;
 mod placing;
+mod tabulation;
 mod types;
 mod values;
 pub mod views;
@@ -14,7 +15,7 @@ pub mod word_laws;
 mod word_operations;
 mod words;
 
-pub use layouts::StructDef;
+pub use layouts::{LayoutFault, StructDef};
 pub use numbers::{Number, NumberOp, number_op};
 pub use types::{CType, IntType, Target, width_of};
 pub use values::{GlobalVar, PathStep, Value};
