@@ -15,3 +15,4 @@ pub mod Wrapping
 pub mod Narrowing
 pub mod PlacingMembers
 pub mod Tabulating
+pub mod Defined

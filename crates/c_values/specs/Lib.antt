@@ -14,3 +14,4 @@ pub mod SignAndMagnitude
 pub mod CodeValue
 pub mod CodeLayout
 pub mod StructTable
+pub mod LayoutCode

@@ -15,7 +15,7 @@ pub mod word_laws;
 mod word_operations;
 mod words;
 
-pub use layouts::{LayoutFault, StructDef};
+pub use layouts::{Layout, LayoutFault, StructDef, align_of, is_object, size_of};
 pub use numbers::{Number, NumberOp, number_op};
 pub use types::{CType, IntType, Target, width_of};
 pub use values::{GlobalVar, PathStep, Value};
