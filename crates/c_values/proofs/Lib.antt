@@ -16,3 +16,5 @@ pub mod Narrowing
 pub mod PlacingMembers
 pub mod Tabulating
 pub mod Defined
+pub mod Steps
+pub mod Members

@@ -119,7 +119,7 @@ module _ (shape : CType → Shape) where
       let next : aligned end (alignment s) + size s ≡ offset + e.size = subst₂ (λ x y. x + y ≡ offset + e.size) at' (exact_size e.size (size s) offset measured.size small) refl in
       subst (λ n. Placing all rest n align' after) next
       (subst₂ (λ a l. Placing all rest (aligned end (alignment s) + size s) a l) (sym (wider ∙ ap (max align) measured.alignment)) (sym (longer ∙ ap (λ x. before ++ x ∷ []) at'))
-          (placing_more all rest m end align before h))
+      (placing_more all rest m end align before h))
 
   pub placing_too_large : AllAligned shape → (d : StructDef) (rest : List Member) (m : Member) (end align : ℕ) (before : List ℕ) → Placing d.members (m ∷ rest) end align before →
       (e : E.Extent) (offset : ℕ) → Measures e (shape m.type) → offset ≡ aligned end e.alignment → 65536 < offset + e.size → leb (size (struct_shape shape d)) largest_size ≡ false

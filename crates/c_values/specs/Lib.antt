@@ -15,3 +15,4 @@ pub mod CodeValue
 pub mod CodeLayout
 pub mod StructTable
 pub mod LayoutCode
+pub mod PartOf

@@ -1,18 +1,17 @@
 //! Layouts: structs in the order of their definition, and where their members lie.
 
 ghost use Rattle.std.specs.Prelude.{◌≡◌, ℕ, true, [], map, IfOk, OnOk, Err};
-ghost use Rattle.c_values.specs.Layout.{is_object, size_of, align_of};
+ghost use Rattle.c_values.specs.Layout.{IsLayout, is_object, size_of, align_of};
 ghost use Rattle.c_values.specs.CodeTypes.{type_of};
 ghost use Rattle.c_values.specs.declared.layouts.LayoutFault.TheVariants.{Memory};
-
-use std::alloc::{AllocError, AllocFailed};
-use std::marker::Model;
-use thiserror::Error;
 
 use crate::extents::extent;
 use crate::places::{Extent, LARGEST, Table};
 use crate::tabulation::tabulate;
 use crate::types::{CType, Target};
+use std::alloc::{AllocError, AllocFailed};
+use std::marker::Model;
+use thiserror::Error;
 
 /// A struct with a body: its name, and its members with their types in order.
 #[derive(Debug, Drop)]
@@ -77,7 +76,10 @@ impl Model for Layout {
 
 impl Layout {
     ghost use Rattle.c_values.specs.Layout.{Incomplete, are_built, are_small};
+    ghost use Rattle.std.specs.Prelude.{None, Some, pos, IfNone, IfSome};
+    ghost use Rattle.c_values.specs.Types.{Struct};
     ghost use Rattle.c_values.specs.Layout.{shape_of};
+    ghost use Rattle.c_values.specs.Path.{step_spot, Field};
     ghost use Rattle.c_values.specs.CodeTypes.{target_of, type_of};
     ghost use Rattle.c_values.specs.CodeLayout.{struct_def_of, IsFirstLarge};
     ghost use Rattle.c_values.specs.StructTable.{Measures};
@@ -104,7 +106,8 @@ impl Layout {
 
     /// The target.
     pub fn target(&self) -> Target
-        ensures { target_of result ≡ self.now.target }
+        ensures value { target_of result ≡ self.now.target }
+        ensures layout { IsLayout self.now }
     {
         self.target
     }
@@ -116,9 +119,25 @@ impl Layout {
         &self.structs
     }
 
+    // The offset and the type of a struct's member.
+    pub(crate) fn member(&self, name: &str, k: u32) -> Option<(u32, &CType)>
+        ensures none { IfNone result (step_spot (shape_of self.now (Struct name.now)) (Field k) ≡ None) }
+        ensures some { IfSome result (λ m. step_spot (shape_of self.now (Struct name.now)) (Field k)
+            ≡ Some (record { offset = pos m.0; shape = shape_of self.now (type_of m.1.now) })) }
+    {
+        let places = self.table.get(name)?;
+        let k = k as usize;
+        if k >= places.offsets.len() {
+            return None;
+        }
+        let (_, ty) = &self.structs[places.position].members[k];
+        Some((places.offsets[k], ty))
+    }
+
     // What memory an object of a type takes.
     fn extent(&self, t: &CType) -> Extent
-        ensures { Measures result (shape_of self.now (type_of t.now)) }
+        ensures measures { Measures result (shape_of self.now (type_of t.now)) }
+        ensures layout { IsLayout self.now }
     {
         extent(self.target, &self.table, t)
     }
@@ -135,7 +154,8 @@ pub fn is_object(l: &Layout, t: &CType) -> bool
 /// The bytes of an object of a type.
 pub fn size_of(l: &Layout, t: &CType) -> u32
     requires { is_object l.now (type_of t.now) ≡ true }
-    ensures { result ≡ size_of l.now (type_of t.now) }
+    ensures value { result ≡ size_of l.now (type_of t.now) }
+    ensures layout { IsLayout l.now }
 {
     l.extent(t).size
 }

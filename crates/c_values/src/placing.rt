@@ -7,12 +7,11 @@ ghost use Rattle.c_values.specs.CodeTypes.{target_of};
 ghost use Rattle.c_values.specs.CodeLayout.{struct_def_of};
 ghost use Rattle.c_values.specs.StructTable.{Describes, IsPlacement};
 
-use std::alloc::{AllocError, Global};
-
 use crate::extents::extent;
 use crate::layouts::StructDef;
 use crate::places::{LARGEST, Places, Table};
 use crate::types::Target;
+use std::alloc::{AllocError, Global};
 
 /// Where a struct's members lie, by the places of the structs before it; none where it is larger than an object may be.
 pub(crate) fn places(

@@ -7,13 +7,12 @@ ghost use Rattle.c_values.specs.CodeLayout.{struct_def_of, IsFirstLarge};
 ghost use Rattle.c_values.specs.StructTable.{IsTabled};
 ghost use Rattle.c_values.specs.declared.layouts.LayoutFault.TheVariants.{Large};
 
-use std::alloc::Global;
-use std::collections::HashMap;
-
 use crate::layouts::{LayoutFault, StructDef};
 use crate::places::Table;
 use crate::placing::places;
 use crate::types::Target;
+use std::alloc::Global;
+use std::collections::HashMap;
 
 /// The table of structs, each made of those before it.
 pub(crate) fn tabulate(

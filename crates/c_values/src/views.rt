@@ -52,8 +52,8 @@ pub fn fits(target: Target, op: NumberOp, ty: IntType, a: Word, b: Word) -> bool
     requires second { b.width ≡ width_of (target_of target) (int_type_of ty) }
     ensures { result ≡ is_of_type (target_of target) (int_type_of ty)
         (number_op (number_op_of op)
-            (if is_signed (int_type_of ty) then signed a else unsigned a)
-            (if is_signed (int_type_of ty) then signed b else unsigned b)) }
+        (if is_signed (int_type_of ty) then signed a else unsigned a)
+        (if is_signed (int_type_of ty) then signed b else unsigned b)) }
 {
     match number_op(op, value_of(ty, a), value_of(ty, b)) {
         Some(exact) => is_of_type(target, ty, exact),

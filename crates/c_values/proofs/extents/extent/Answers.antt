@@ -16,8 +16,8 @@ loop-element-preserved c =
     record {
       few = rw c.product-count.ensures (min-le_right (l.count * n) 65537);
       narrows = λ structs.
-        let whole = shape_from target structs (type_of c.args.t.now) in
-        let element = shape_from target structs (type_of c.in-Array.inner.value) in
-        let before = subst (λ (t : CType). Narrows l.some l.count (shape_from target structs t) whole) (ap type_of c.in-Array.is) (l.invariant.narrows structs) in
-        rw (c.deref-element.ensures, c.product-count.ensures) (subst (λ (b : Bool). Narrows b (min (l.count * n) 65537) element whole) some (narrows_element l.some l.count n element whole before));
+          let whole = shape_from target structs (type_of c.args.t.now) in
+          let element = shape_from target structs (type_of c.in-Array.inner.value) in
+          let before = subst (λ (t : CType). Narrows l.some l.count (shape_from target structs t) whole) (ap type_of c.in-Array.is) (l.invariant.narrows structs) in
+          rw (c.deref-element.ensures, c.product-count.ensures) (subst (λ (b : Bool). Narrows b (min (l.count * n) 65537) element whole) some (narrows_element l.some l.count n element whole before));
     }

@@ -34,14 +34,14 @@ loop-ty-preserved c = record {
   some = search rules;
   few = search rules;
   placing = λ structs d.
-    let l = c.loop-ty in
-    let shape = shape_from (target_of c.args.target) structs in
-    let items = c.args.definition.now.members.items in
-    let rest = map member_of (drop (l.ty-index + 1) items) in
-    let next = next_members items l.ty-index c.loop-ty-item.result (search rules) (rw c.deref-ty-items.ensures.value at c.loop-ty-item.is) in
-    let before = subst (λ (ms : List Member). Placing shape (map member_of items) ms l.end l.alignment l.offsets.items) next (l.invariant.placing structs d) in
-    placing_step shape (map member_of items) rest (member_of c.loop-ty-item.result) l.end l.alignment l.offsets.items before
-    c.extent-member.result c.aligned-offset.result c.max-alignment.result c.push.new.self.items (c.extent-member.ensures structs d) c.aligned-offset.ensures.value c.if-offset-member-gt-LARGEST.false c.max-alignment.ensures c.in_ok-push.ensures.items;
+      let l = c.loop-ty in
+      let shape = shape_from (target_of c.args.target) structs in
+      let items = c.args.definition.now.members.items in
+      let rest = map member_of (drop (l.ty-index + 1) items) in
+      let next = next_members items l.ty-index c.loop-ty-item.result (search rules) (rw c.deref-ty-items.ensures.value at c.loop-ty-item.is) in
+      let before = subst (λ (ms : List Member). Placing shape (map member_of items) ms l.end l.alignment l.offsets.items) next (l.invariant.placing structs d) in
+      placing_step shape (map member_of items) rest (member_of c.loop-ty-item.result) l.end l.alignment l.offsets.items before
+      c.extent-member.result c.aligned-offset.result c.max-alignment.result c.push.new.self.items (c.extent-member.ensures structs d) c.aligned-offset.ensures.value c.if-offset-member-gt-LARGEST.false c.max-alignment.ensures c.in_ok-push.ensures.items;
 }
 
 pub returns : goal.returns

@@ -44,7 +44,7 @@ loop-position-preserved c =
     let complete = members_complete t all l.position inv.structs (struct_def_of d) seen_in seen inv.done in
     let placed = subst (λ found. IsPlacement found s l.position) c.in-Some.is (c.in_ok-found.ensures inv.structs inv.describes complete) in
     let looked : (y : Name) → get_by_text c.insert.new.self y ≡ cond (bytes_eq x y) (Some e) (get_by_text l.table y) =
-        λ y. rw (← c.in_ok-name-in-Some.ensures.cases) (hash_map_updates_text (string_bytes c.in_ok-name-in-Some.name) l.table c.insert.new.self (Some e) c.in_ok-insert-in-Some.ensures.updates y)
+    λ y. rw (← c.in_ok-name-in-Some.ensures.cases) (hash_map_updates_text (string_bytes c.in_ok-name-in-Some.name) l.table c.insert.new.self (Some e) c.in_ok-insert-in-Some.ensures.updates y)
     in
     record {
       structs = after t all l.position inv.structs (struct_def_of d) seen_in seen inv.done;
