@@ -1,13 +1,14 @@
 -- Offsets step by step.
 use Rattle.std.proofs.Common.{◌≡◌, ℕ, zero, suc, ◌+◌, ◌*◌, ◌<◌, ◌≤◌, Bool, true, false, cond, ◌&&◌, ltb, leb, List, [], ◌∷◌, length, get_or, map, ℤ, pos, ◌+ℤ◌, refl, sym, ap, ◌∙◌, subst, arith}
 use Rattle.std.proofs.lemmas.Bool.{false≢true, and_parts, and_from, lt-ltb}
-
 use Rattle.std.specs.Prelude.{Option, Some, None}
 use Rattle.std.specs.Option.{option_map}
-use Rattle.c_values.specs.Types.{CType, Array}
-use Rattle.c_values.specs.Layout.{Layout, IsLayout, Shape, Row, size, shape_of, size_of, is_complete, is_object, largest_size}
-use Rattle.c_values.specs.Path.{Step, Index, Spot, spot, step_spot, step_in_range, in_range, spot_offset, further, offset_of}
+use Rattle.c_values.specs.Types.{CType, Struct, Array}
+use Rattle.c_values.specs.Name.{Name}
+use Rattle.c_values.specs.Layout.{Layout, IsLayout, Shape, Incomplete, Scalar, Record, Row, type_of, size, shape_of, size_of, is_complete, is_object, largest_size}
+use Rattle.c_values.specs.Path.{Step, Field, Index, Spot, spot, step_spot, step_in_range, in_range, spot_offset, further, offset_of}
 use Rattle.c_values.specs.PartOf.{IsPart}
+use Rattle.c_values.proofs.Laid.{shape_type}
 use Rattle.c_values.proofs.Parts.{part_of, formed_complete}
 
 either_none : (b : Bool) (o : Option ℤ) → o ≡ None → cond b o None ≡ None
@@ -56,3 +57,25 @@ to_part l t p o u h object r e =
 
 pub to_element : (l : Layout) (u : CType) (n i : ℕ) → IsLayout l → is_object l (Array u n) ≡ true → i < n → IsPart l (Array u n) (Index (pos i)) (i * size_of l u) u
 to_element l u n i h object small = to_part l (Array u n) (Index (pos i)) (i * size_of l u) u h object (lt-ltb i n small) refl
+
+field_in_range : (s : Shape) (k : ℕ) → step_in_range s (Field k) ≡ true
+field_in_range Incomplete k = refl
+field_in_range (Scalar u w) k = refl
+field_in_range (Record x n align fs) k = refl
+field_in_range (Row e n) k = refl
+
+pub to_member : (l : Layout) (x : Name) (k o : ℕ) (u : CType) → IsLayout l → is_object l (Struct x) ≡ true →
+    step_spot (shape_of l (Struct x)) (Field k) ≡ Some (record { offset = pos o; shape = shape_of l u }) → IsPart l (Struct x) (Field k) o u
+to_member l x k o u h object e = to_part l (Struct x) (Field k) o u h object (field_in_range (shape_of l (Struct x)) k) e
+
+no_element : (s : Shape) (x : Name) (i : ℤ) → type_of s ≡ Struct x → step_spot s (Index i) ≡ None
+no_element Incomplete x i e = refl
+no_element (Scalar u w) x i e = refl
+no_element (Record y n align fs) x i e = refl
+no_element (Row e' n) x i e = absurd cc
+
+-- a struct has no elements
+pub struct_index : (l : Layout) (x : Name) (i : ℤ) (path : List Step) → IsLayout l → is_object l (Struct x) ≡ true → offset_of l (Struct x) (Index i ∷ path) ≡ None
+struct_index l x i path h object =
+    nowhere l (Struct x) (Index i) path
+    (no_element (shape_of l (Struct x)) x i (shape_type l h (Struct x) (and_parts (is_complete (shape_of l (Struct x))) (leb (size_of l (Struct x)) largest_size) object).0))
