@@ -9,6 +9,8 @@ mod offsets;
 mod places;
 mod placing;
 mod tabulation;
+#[cfg(test)]
+mod tests;
 mod types;
 mod values;
 pub mod views;
