@@ -1,3 +1,6 @@
 pub mod Tree
 pub mod Operators
 pub mod Spells
+pub mod Choice
+pub mod Build
+pub mod Stack

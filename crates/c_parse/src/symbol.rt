@@ -1,5 +1,4 @@
 //! What is still to come: the symbols of the parser's stack.
-use c_lex::{Keyword, Punct};
 use crate::operator::{BinaryOperator, StepOperator, UnaryOperator};
 
 /// What an expression is wanted for, which says what may follow its operands.
@@ -162,10 +161,22 @@ pub enum Production {
 /// What the parser still expects, the next first.
 #[derive(Clone, Copy, Debug, PartialEq, Eq)]
 pub enum Symbol {
-    /// This punctuator.
-    Mark(Punct),
-    /// This keyword.
-    Word(Keyword),
+    /// `(`
+    LeftParenthesis,
+    /// `)`
+    RightParenthesis,
+    /// `]`
+    RightBracket,
+    /// `{`
+    LeftBrace,
+    /// `}`
+    RightBrace,
+    /// `;`
+    Semicolon,
+    /// `:`
+    Colon,
+    /// `while`
+    While,
     /// A name that no typedef made.
     Identifier,
     /// The name of a declarator outside functions.
