@@ -29,7 +29,7 @@ use Rattle.c_parse.specs.Build.{Value, Tok, OfExp, OfType, OfWord, OfWords, OfMe
 use Rattle.c_parse.specs.Stack.{State, go, run, advance, settle, finish, is_type, made_behind, next_behind, ended, noted}
 
 -- settling is what the next token would do first
-settled : (ns next : List Name) (stack : List Symbol) (vs : Option (List Value)) (x : Lexeme) (t : List Lexeme) → run (settle ns next stack vs) (x ∷ t) ≡ run (advance ns next x stack vs) t
+pub settled : (ns next : List Name) (stack : List Symbol) (vs : Option (List Value)) (x : Lexeme) (t : List Lexeme) → run (settle ns next stack vs) (x ∷ t) ≡ run (advance ns next x stack vs) t
 unfolding choice_of go
 settled ns next stack None x t = refl
 settled ns next [] (Some vs) x t = refl
@@ -37,18 +37,18 @@ settled ns next (symbol.End p ∷ stack) (Some vs) x t = settled ns next stack (
 settled ns next (s ∷ stack) (Some vs) x t = refl
 
 -- a symbol that is complete goes away
-passes : (ns next : List Name) (s : Symbol) (stack : List Symbol) (vs ws : List Value) (x : Lexeme) (t : List Lexeme) (before : List Production) → choice_of s (is_type ns x.kind) x.kind ≡ Pass before → acts before (Some vs) ≡ Some ws → go ns next (s ∷ stack) vs (x ∷ t) ≡ go (made_behind s ns next) (next_behind s ns next) stack ws (x ∷ t)
+pub passes : (ns next : List Name) (s : Symbol) (stack : List Symbol) (vs ws : List Value) (x : Lexeme) (t : List Lexeme) (before : List Production) → choice_of s (is_type ns x.kind) x.kind ≡ Pass before → acts before (Some vs) ≡ Some ws → go ns next (s ∷ stack) vs (x ∷ t) ≡ go (made_behind s ns next) (next_behind s ns next) stack ws (x ∷ t)
 unfolding go
 passes ns next s stack vs ws x t before e f =
     settled ns next (s ∷ stack) (Some vs) x t ∙ rw (e, advance, f) (sym (settled (made_behind s ns next) (next_behind s ns next) stack (Some ws) x t))
 
 -- a production ends
-ended_by : (ns next : List Name) (p : Production) (stack : List Symbol) (vs ws : List Value) (t : List Lexeme) → act p vs ≡ Some ws → go ns next (symbol.End p ∷ stack) vs t ≡ go ns next stack ws t
+pub ended_by : (ns next : List Name) (p : Production) (stack : List Symbol) (vs ws : List Value) (t : List Lexeme) → act p vs ≡ Some ws → go ns next (symbol.End p ∷ stack) vs t ≡ go ns next stack ws t
 unfolding go
 ended_by ns next p stack vs ws t e = ap (λ o. run (settle ns next stack o) t) e
 
 -- the level of an expression
-abbrev rank : Exp → ℕ
+abbrev pub rank : Exp → ℕ
 rank (tree.Variable a n) = 15
 rank (tree.Number a value decimal unsigned longs) = 14
 rank (tree.Character a value) = 14
@@ -63,14 +63,14 @@ rank (tree.Cast a ty e) = 11
 rank (tree.Binary op x y) = level op
 rank (tree.Conditional c x y) = 0
 
-weaken : (l r : ℕ) → nat_le (suc l) r ≡ true → nat_le l r ≡ true
+pub weaken : (l r : ℕ) → nat_le (suc l) r ≡ true → nat_le l r ≡ true
 weaken l r h = let a = leb-true (suc l) r h in le-leb l r (omega arith)
 
-same_level : (l : ℕ) → nat_le l l ≡ true
+pub same_level : (l : ℕ) → nat_le l l ≡ true
 same_level l = le-leb l l (omega arith)
 
 -- an expression is no looser than it spells
-rank_least : {ns : List Name} {b : Bool} {l : ℕ} {e : Exp} {s t : List Lexeme} → SpellsExp ns b l e s t → nat_le l (rank e) ≡ true
+pub rank_least : {ns : List Name} {b : Bool} {l : ℕ} {e : Exp} {s t : List Lexeme} → SpellsExp ns b l e s t → nat_le l (rank e) ≡ true
 rank_least (looser {l = l} {e = e} d) = weaken l (rank e) (rank_least d)
 rank_least (variable p) = refl
 rank_least number_constant = refl
@@ -87,7 +87,7 @@ rank_least (binary {op = op} d f) = same_level (level op)
 rank_least (conditional d f g) = refl
 
 -- how tight an expression must be for a token behind it to go on with it
-abbrev needs_kind : Kind → ℕ
+abbrev pub needs_kind : Kind → ℕ
 needs_kind (punct sign.LeftBracket) = 13
 needs_kind (punct sign.Dot) = 13
 needs_kind (punct sign.Arrow) = 13
@@ -113,80 +113,80 @@ needs_kind (punct sign.AmpersandAmpersand) = 2
 needs_kind (punct sign.BarBar) = 1
 needs_kind k = 0
 
-abbrev needs : List Lexeme → ℕ
+abbrev pub needs : List Lexeme → ℕ
 needs [] = 16
 needs (x ∷ t) = needs_kind x.kind
 
 -- a type begins here
-abbrev starts : List Name → List Lexeme → Bool
+abbrev pub starts : List Name → List Lexeme → Bool
 starts ns [] = false
 starts ns (x ∷ t) = starts_type (is_type ns x.kind) x.kind
 
 
 -- a token is taken
-takes : (ns next : List Name) (s : Symbol) (stack : List Symbol) (vs ws : List Value) (x : Lexeme) (t : List Lexeme) (before : List Production) (more : List Symbol) → choice_of s (is_type ns x.kind) x.kind ≡ Take before more → acts before (Some vs) ≡ Some ws → go ns next (s ∷ stack) vs (x ∷ t) ≡ go ns (noted s x.kind next) (more ++ stack) (Tok x ∷ ws) t
+pub takes : (ns next : List Name) (s : Symbol) (stack : List Symbol) (vs ws : List Value) (x : Lexeme) (t : List Lexeme) (before : List Production) (more : List Symbol) → choice_of s (is_type ns x.kind) x.kind ≡ Take before more → acts before (Some vs) ≡ Some ws → go ns next (s ∷ stack) vs (x ∷ t) ≡ go ns (noted s x.kind next) (more ++ stack) (Tok x ∷ ws) t
 unfolding go
 takes ns next s stack vs ws x t before more e f = settled ns next (s ∷ stack) (Some vs) x t ∙ rw (e, advance, f) refl
 
-false≢true : {A : Type 0} → false ≡ true → A
+pub false≢true : {A : Type 0} → false ≡ true → A
 false≢true e = absurd cc
 
 -- Numbers.
 
-le_more : (a l : ℕ) → nat_le a l ≡ true → nat_le a (suc l) ≡ true
+pub le_more : (a l : ℕ) → nat_le a l ≡ true → nat_le a (suc l) ≡ true
 le_more a l h = let k = leb-true a l h in le-leb a (suc l) (omega arith)
 
-le_trans : (a b c : ℕ) → nat_le a b ≡ true → nat_le b c ≡ true → nat_le a c ≡ true
+pub le_trans : (a b c : ℕ) → nat_le a b ≡ true → nat_le b c ≡ true → nat_le a c ≡ true
 le_trans a b c h j = let k = leb-true a b h in let m = leb-true b c j in le-leb a c (omega arith)
 
-le_zero : (a : ℕ) → nat_le 0 a ≡ true
+pub le_zero : (a : ℕ) → nat_le 0 a ≡ true
 le_zero a = le-leb 0 a (omega arith)
 
-le_next : (a b c : ℕ) → nat_le a b ≡ true → nat_le (suc b) c ≡ true → nat_le a c ≡ true
+pub le_next : (a b c : ℕ) → nat_le a b ≡ true → nat_le (suc b) c ≡ true → nat_le a c ≡ true
 le_next a b c h j = let k = leb-true a b h in let m = leb-true (suc b) c j in le-leb a c (omega arith)
 
-not_below : (l : ℕ) → nat_le (suc l) l ≡ false
+pub not_below : (l : ℕ) → nat_le (suc l) l ≡ false
 not_below l = lt-leb (suc l) l (omega arith)
 
-below_false : (a m l : ℕ) → nat_le a m ≡ false → nat_le l m ≡ true → nat_le a l ≡ false
+pub below_false : (a m l : ℕ) → nat_le a m ≡ false → nat_le l m ≡ true → nat_le a l ≡ false
 below_false a m l h j = let k = leb-false a m h in let n = leb-true l m j in lt-leb a l (omega arith)
 
-level_small : (op : BinaryOperator) → nat_le (level op) 12 ≡ true
+pub level_small : (op : BinaryOperator) → nat_le (level op) 12 ≡ true
 level_small binary.Multiply = refl
 level_small _ = refl
 
 -- Signs.
 
-needs_sign : (op : BinaryOperator) → needs_kind (punct (binary_sign op)) ≡ level op
+pub needs_sign : (op : BinaryOperator) → needs_kind (punct (binary_sign op)) ≡ level op
 needs_sign binary.Multiply = refl
 needs_sign _ = refl
 
-unary_takes : (b : Bool) (w : Wanted) (op : UnaryOperator) → operand b w false (punct (unary_sign op)) ≡ unary_choice b w op
+pub unary_takes : (b : Bool) (w : Wanted) (op : UnaryOperator) → operand b w false (punct (unary_sign op)) ≡ unary_choice b w op
 unary_takes b w unary.Negate = refl
 unary_takes b w _ = refl
 
-binary_takes : (b : Bool) (w : Wanted) (r : ℕ) (op : BinaryOperator) → tail b w r (punct (binary_sign op)) ≡ binary_choice b w r op (punct (binary_sign op))
+pub binary_takes : (b : Bool) (w : Wanted) (r : ℕ) (op : BinaryOperator) → tail b w r (punct (binary_sign op)) ≡ binary_choice b w r op (punct (binary_sign op))
 binary_takes b w r binary.Multiply = refl
 binary_takes b w r _ = refl
 
 -- the gap between an operator and a part of a place
-needs_gap : (k : Kind) → nat_le (needs_kind k) 12 ≡ true → nat_le (needs_kind k) 10 ≡ true
+pub needs_gap : (k : Kind) → nat_le (needs_kind k) 12 ≡ true → nat_le (needs_kind k) 10 ≡ true
 needs_gap (punct sign.LeftBracket) h = h
 needs_gap (punct sign.Dot) h = h
 needs_gap (punct sign.Arrow) h = h
 needs_gap (punct sign.LeftParenthesis) h = h
 needs_gap k h = refl
 
-gap : (t : List Lexeme) → nat_le (needs t) 12 ≡ true → nat_le (needs t) 10 ≡ true
+pub gap : (t : List Lexeme) → nat_le (needs t) 12 ≡ true → nat_le (needs t) 10 ≡ true
 gap [] h = h
 gap (x ∷ t) h = needs_gap x.kind h
 
 -- The end of an expression.
 
-closes_binary : (b : Bool) (w : Wanted) (r : ℕ) (op : BinaryOperator) (k : Kind) → nat_le (least w) (level op) ≡ false → binary_choice b w r op k ≡ tail_end b w r k
+pub closes_binary : (b : Bool) (w : Wanted) (r : ℕ) (op : BinaryOperator) (k : Kind) → nat_le (least w) (level op) ≡ false → binary_choice b w r op k ≡ tail_end b w r k
 closes_binary b w r op k h = rw (h) refl
 
-closes : (b : Bool) (w : Wanted) (r m : ℕ) (k : Kind) → nat_le (needs_kind k) m ≡ true → nat_le m 12 ≡ true → nat_le (least w) m ≡ false → tail b w r k ≡ tail_end b w r k
+pub closes : (b : Bool) (w : Wanted) (r m : ℕ) (k : Kind) → nat_le (needs_kind k) m ≡ true → nat_le m 12 ≡ true → nat_le (least w) m ≡ false → tail b w r k ≡ tail_end b w r k
 closes b w r m (punct sign.LeftBracket) h i j = false≢true (le_trans 13 m 12 h i)
 closes b w r m (punct sign.Dot) h i j = false≢true (le_trans 13 m 12 h i)
 closes b w r m (punct sign.Arrow) h i j = false≢true (le_trans 13 m 12 h i)
@@ -211,7 +211,7 @@ closes b w r m (punct sign.AmpersandAmpersand) h i j = closes_binary b w r binar
 closes b w r m (punct sign.BarBar) h i j = closes_binary b w r binary.LogicalOr (punct sign.BarBar) (below_false (least w) m (level binary.LogicalOr) j h)
 closes b w r m k h i j = refl
 
-closes_zero : (b : Bool) (w : Wanted) (r : ℕ) (k : Kind) → nat_le (needs_kind k) 0 ≡ true → tail b w r k ≡ tail_end b w r k
+pub closes_zero : (b : Bool) (w : Wanted) (r : ℕ) (k : Kind) → nat_le (needs_kind k) 0 ≡ true → tail b w r k ≡ tail_end b w r k
 closes_zero b w r (punct sign.LeftBracket) h = false≢true h
 closes_zero b w r (punct sign.Dot) h = false≢true h
 closes_zero b w r (punct sign.Arrow) h = false≢true h
@@ -237,66 +237,66 @@ closes_zero b w r (punct sign.BarBar) h = false≢true h
 closes_zero b w r k h = refl
 
 -- behind an expression of some level nothing goes on with it that binds less tightly
-tail_level : (ns next : List Name) (b : Bool) (l r m : ℕ) (stack : List Symbol) (vs : List Value) (t : List Lexeme) → nat_le (needs t) m ≡ true → nat_le m 12 ≡ true → nat_le l m ≡ false → go ns next (symbol.Tail b (wanted.Level l) r ∷ stack) vs t ≡ go ns next stack vs t
+pub tail_level : (ns next : List Name) (b : Bool) (l r m : ℕ) (stack : List Symbol) (vs : List Value) (t : List Lexeme) → nat_le (needs t) m ≡ true → nat_le m 12 ≡ true → nat_le l m ≡ false → go ns next (symbol.Tail b (wanted.Level l) r ∷ stack) vs t ≡ go ns next stack vs t
 unfolding choice_of go
 tail_level ns next b l r m stack vs [] h i j = false≢true (le_trans 16 m 12 h i)
 tail_level ns next b l r m stack vs (x ∷ t) h i j = passes ns next (symbol.Tail b (wanted.Level l) r) stack vs vs x t [] (closes b (wanted.Level l) r m x.kind h i j) refl
 
-tail_nothing : (ns next : List Name) (b : Bool) (l r : ℕ) (stack : List Symbol) (vs : List Value) (t : List Lexeme) → nat_le (needs t) 0 ≡ true → go ns next (symbol.Tail b (wanted.Level l) r ∷ stack) vs t ≡ go ns next stack vs t
+pub tail_nothing : (ns next : List Name) (b : Bool) (l r : ℕ) (stack : List Symbol) (vs : List Value) (t : List Lexeme) → nat_le (needs t) 0 ≡ true → go ns next (symbol.Tail b (wanted.Level l) r ∷ stack) vs t ≡ go ns next stack vs t
 unfolding choice_of go
 tail_nothing ns next b l r stack vs [] h = false≢true h
 tail_nothing ns next b l r stack vs (x ∷ t) h = passes ns next (symbol.Tail b (wanted.Level l) r) stack vs vs x t [] (closes_zero b (wanted.Level l) r x.kind h) refl
 
-tail_sized : (ns next : List Name) (b : Bool) (r : ℕ) (e : Exp) (x0 : Lexeme) (stack : List Symbol) (vs : List Value) (t : List Lexeme) → nat_le (needs t) 10 ≡ true → go ns next (symbol.Tail b wanted.Sized r ∷ stack) (OfExp e ∷ Tok x0 ∷ vs) t ≡ go ns next stack (OfExp (tree.SizeofValue x0.from e) ∷ vs) t
+pub tail_sized : (ns next : List Name) (b : Bool) (r : ℕ) (e : Exp) (x0 : Lexeme) (stack : List Symbol) (vs : List Value) (t : List Lexeme) → nat_le (needs t) 10 ≡ true → go ns next (symbol.Tail b wanted.Sized r ∷ stack) (OfExp e ∷ Tok x0 ∷ vs) t ≡ go ns next stack (OfExp (tree.SizeofValue x0.from e) ∷ vs) t
 unfolding choice_of act go
 tail_sized ns next b r e x0 stack vs [] h = false≢true h
 tail_sized ns next b r e x0 stack vs (x ∷ t) h = passes ns next (symbol.Tail b wanted.Sized r) stack (OfExp e ∷ Tok x0 ∷ vs) (OfExp (tree.SizeofValue x0.from e) ∷ vs) x t (ends.SizeofValue ∷ []) (closes b wanted.Sized r 10 x.kind h refl refl) refl
 
 -- Steps of single symbols.
 
-takes_identifier : (ns next : List Name) (n : Name) (a z : ℕ) (K : List Symbol) (vs : List Value) (t : List Lexeme) → is_made ns n ≡ false → go ns next (symbol.Identifier ∷ K) vs (named n a z ∷ t) ≡ go ns next K (Tok (named n a z) ∷ vs) t
+pub takes_identifier : (ns next : List Name) (n : Name) (a z : ℕ) (K : List Symbol) (vs : List Value) (t : List Lexeme) → is_made ns n ≡ false → go ns next (symbol.Identifier ∷ K) vs (named n a z ∷ t) ≡ go ns next K (Tok (named n a z) ∷ vs) t
 unfolding choice_of go
 takes_identifier ns next n a z K vs t h = takes ns next symbol.Identifier K vs vs (named n a z) t [] [] (rw h refl) refl
 
-takes_variable : (ns next : List Name) (b : Bool) (w : Wanted) (n : Name) (a z : ℕ) (K : List Symbol) (vs : List Value) (t : List Lexeme) → is_made ns n ≡ false → go ns next (symbol.Expression b w ∷ K) vs (named n a z ∷ t) ≡ go ns next (symbol.Tail b w 15 ∷ K) (OfExp (tree.Variable a n) ∷ vs) t
+pub takes_variable : (ns next : List Name) (b : Bool) (w : Wanted) (n : Name) (a z : ℕ) (K : List Symbol) (vs : List Value) (t : List Lexeme) → is_made ns n ≡ false → go ns next (symbol.Expression b w ∷ K) vs (named n a z ∷ t) ≡ go ns next (symbol.Tail b w 15 ∷ K) (OfExp (tree.Variable a n) ∷ vs) t
 unfolding choice_of act go
 takes_variable ns next b w n a z K vs t h = takes ns next (symbol.Expression b w) K vs vs (named n a z) t [] (end ends.Name ∷ symbol.Tail b w 15 ∷ []) (rw h refl) refl
 
-takes_unary : (ns next : List Name) (b : Bool) (w : Wanted) (op : UnaryOperator) (a z : ℕ) (K : List Symbol) (vs : List Value) (t : List Lexeme) → nat_le (least w) 12 ≡ true → go ns next (symbol.Expression b w ∷ K) vs (mark (unary_sign op) a z ∷ t) ≡ go ns next (expression b 11 ∷ end (ends.Unary op) ∷ symbol.Tail b w 12 ∷ K) (Tok (mark (unary_sign op) a z) ∷ vs) t
+pub takes_unary : (ns next : List Name) (b : Bool) (w : Wanted) (op : UnaryOperator) (a z : ℕ) (K : List Symbol) (vs : List Value) (t : List Lexeme) → nat_le (least w) 12 ≡ true → go ns next (symbol.Expression b w ∷ K) vs (mark (unary_sign op) a z ∷ t) ≡ go ns next (expression b 11 ∷ end (ends.Unary op) ∷ symbol.Tail b w 12 ∷ K) (Tok (mark (unary_sign op) a z) ∷ vs) t
 unfolding choice_of go
 takes_unary ns next b w op a z K vs t h = takes ns next (symbol.Expression b w) K vs vs (mark (unary_sign op) a z) t [] (expression b 11 ∷ end (ends.Unary op) ∷ symbol.Tail b w 12 ∷ []) (unary_takes b w op ∙ rw h refl) refl
 
-takes_sizeof : (ns next : List Name) (b : Bool) (w : Wanted) (a z : ℕ) (K : List Symbol) (vs : List Value) (t : List Lexeme) → nat_le (least w) 12 ≡ true → go ns next (symbol.Expression b w ∷ K) vs (reserved word.Sizeof a z ∷ t) ≡ go ns next (symbol.Expression b wanted.Sized ∷ symbol.Tail b w 12 ∷ K) (Tok (reserved word.Sizeof a z) ∷ vs) t
+pub takes_sizeof : (ns next : List Name) (b : Bool) (w : Wanted) (a z : ℕ) (K : List Symbol) (vs : List Value) (t : List Lexeme) → nat_le (least w) 12 ≡ true → go ns next (symbol.Expression b w ∷ K) vs (reserved word.Sizeof a z ∷ t) ≡ go ns next (symbol.Expression b wanted.Sized ∷ symbol.Tail b w 12 ∷ K) (Tok (reserved word.Sizeof a z) ∷ vs) t
 unfolding choice_of go
 takes_sizeof ns next b w a z K vs t h = takes ns next (symbol.Expression b w) K vs vs (reserved word.Sizeof a z) t [] (symbol.Expression b wanted.Sized ∷ symbol.Tail b w 12 ∷ []) (rw h refl) refl
 
-takes_index : (ns next : List Name) (b : Bool) (w : Wanted) (r a z : ℕ) (K : List Symbol) (vs : List Value) (t : List Lexeme) → nat_le 13 r ≡ true → go ns next (symbol.Tail b w r ∷ K) vs (mark sign.LeftBracket a z ∷ t) ≡ go ns next (expression b 0 ∷ symbol.RightBracket ∷ end ends.Index ∷ symbol.Tail b w 13 ∷ K) (Tok (mark sign.LeftBracket a z) ∷ vs) t
+pub takes_index : (ns next : List Name) (b : Bool) (w : Wanted) (r a z : ℕ) (K : List Symbol) (vs : List Value) (t : List Lexeme) → nat_le 13 r ≡ true → go ns next (symbol.Tail b w r ∷ K) vs (mark sign.LeftBracket a z ∷ t) ≡ go ns next (expression b 0 ∷ symbol.RightBracket ∷ end ends.Index ∷ symbol.Tail b w 13 ∷ K) (Tok (mark sign.LeftBracket a z) ∷ vs) t
 unfolding choice_of go
 takes_index ns next b w r a z K vs t h = takes ns next (symbol.Tail b w r) K vs vs (mark sign.LeftBracket a z) t [] (expression b 0 ∷ symbol.RightBracket ∷ end ends.Index ∷ symbol.Tail b w 13 ∷ []) (rw h refl) refl
 
-takes_dot : (ns next : List Name) (b : Bool) (w : Wanted) (r a z : ℕ) (K : List Symbol) (vs : List Value) (t : List Lexeme) → nat_le 13 r ≡ true → go ns next (symbol.Tail b w r ∷ K) vs (mark sign.Dot a z ∷ t) ≡ go ns next (symbol.Identifier ∷ end ends.Member ∷ symbol.Tail b w 13 ∷ K) (Tok (mark sign.Dot a z) ∷ vs) t
+pub takes_dot : (ns next : List Name) (b : Bool) (w : Wanted) (r a z : ℕ) (K : List Symbol) (vs : List Value) (t : List Lexeme) → nat_le 13 r ≡ true → go ns next (symbol.Tail b w r ∷ K) vs (mark sign.Dot a z ∷ t) ≡ go ns next (symbol.Identifier ∷ end ends.Member ∷ symbol.Tail b w 13 ∷ K) (Tok (mark sign.Dot a z) ∷ vs) t
 unfolding choice_of go
 takes_dot ns next b w r a z K vs t h = takes ns next (symbol.Tail b w r) K vs vs (mark sign.Dot a z) t [] (symbol.Identifier ∷ end ends.Member ∷ symbol.Tail b w 13 ∷ []) (rw h refl) refl
 
-takes_arrow : (ns next : List Name) (b : Bool) (w : Wanted) (r a z : ℕ) (K : List Symbol) (vs : List Value) (t : List Lexeme) → nat_le 13 r ≡ true → go ns next (symbol.Tail b w r ∷ K) vs (mark sign.Arrow a z ∷ t) ≡ go ns next (symbol.Identifier ∷ end ends.PointerMember ∷ symbol.Tail b w 13 ∷ K) (Tok (mark sign.Arrow a z) ∷ vs) t
+pub takes_arrow : (ns next : List Name) (b : Bool) (w : Wanted) (r a z : ℕ) (K : List Symbol) (vs : List Value) (t : List Lexeme) → nat_le 13 r ≡ true → go ns next (symbol.Tail b w r ∷ K) vs (mark sign.Arrow a z ∷ t) ≡ go ns next (symbol.Identifier ∷ end ends.PointerMember ∷ symbol.Tail b w 13 ∷ K) (Tok (mark sign.Arrow a z) ∷ vs) t
 unfolding choice_of go
 takes_arrow ns next b w r a z K vs t h = takes ns next (symbol.Tail b w r) K vs vs (mark sign.Arrow a z) t [] (symbol.Identifier ∷ end ends.PointerMember ∷ symbol.Tail b w 13 ∷ []) (rw h refl) refl
 
-takes_binary : (ns next : List Name) (b : Bool) (w : Wanted) (r : ℕ) (op : BinaryOperator) (a z : ℕ) (K : List Symbol) (vs : List Value) (t : List Lexeme) → nat_le (least w) (level op) ≡ true → nat_le (level op) r ≡ true → go ns next (symbol.Tail b w r ∷ K) vs (mark (binary_sign op) a z ∷ t) ≡ go ns next (expression b (suc (level op)) ∷ end (ends.Binary op) ∷ symbol.Tail b w (level op) ∷ K) (Tok (mark (binary_sign op) a z) ∷ vs) t
+pub takes_binary : (ns next : List Name) (b : Bool) (w : Wanted) (r : ℕ) (op : BinaryOperator) (a z : ℕ) (K : List Symbol) (vs : List Value) (t : List Lexeme) → nat_le (least w) (level op) ≡ true → nat_le (level op) r ≡ true → go ns next (symbol.Tail b w r ∷ K) vs (mark (binary_sign op) a z ∷ t) ≡ go ns next (expression b (suc (level op)) ∷ end (ends.Binary op) ∷ symbol.Tail b w (level op) ∷ K) (Tok (mark (binary_sign op) a z) ∷ vs) t
 unfolding choice_of go
 takes_binary ns next b w r op a z K vs t h j = takes ns next (symbol.Tail b w r) K vs vs (mark (binary_sign op) a z) t [] (expression b (suc (level op)) ∷ end (ends.Binary op) ∷ symbol.Tail b w (level op) ∷ []) (binary_takes b w r op ∙ rw (h, j) refl) refl
 
-takes_question : (ns next : List Name) (b : Bool) (w : Wanted) (r a z : ℕ) (K : List Symbol) (vs : List Value) (t : List Lexeme) → nat_le (least w) 0 ≡ true → nat_le 1 r ≡ true → go ns next (symbol.Tail b w r ∷ K) vs (mark sign.Question a z ∷ t) ≡ go ns next (expression b 0 ∷ symbol.Colon ∷ expression b 0 ∷ end ends.Conditional ∷ symbol.Tail b w 0 ∷ K) (Tok (mark sign.Question a z) ∷ vs) t
+pub takes_question : (ns next : List Name) (b : Bool) (w : Wanted) (r a z : ℕ) (K : List Symbol) (vs : List Value) (t : List Lexeme) → nat_le (least w) 0 ≡ true → nat_le 1 r ≡ true → go ns next (symbol.Tail b w r ∷ K) vs (mark sign.Question a z ∷ t) ≡ go ns next (expression b 0 ∷ symbol.Colon ∷ expression b 0 ∷ end ends.Conditional ∷ symbol.Tail b w 0 ∷ K) (Tok (mark sign.Question a z) ∷ vs) t
 unfolding choice_of go
 takes_question ns next b w r a z K vs t h j = takes ns next (symbol.Tail b w r) K vs vs (mark sign.Question a z) t [] (expression b 0 ∷ symbol.Colon ∷ expression b 0 ∷ end ends.Conditional ∷ symbol.Tail b w 0 ∷ []) (rw (h, j) refl) refl
 
 -- A symbol whose choice is that of another one, with more behind it.
 
-abbrev never_passes : Choice → Bool
+abbrev pub never_passes : Choice → Bool
 never_passes (Pass before) = false
 never_passes choice = true
 
-expands : (ns next : List Name) (s0 s : Symbol) (more K : List Symbol) (vs : List Value) (x : Lexeme) (t : List Lexeme) (choice : Choice) → choice_of s0 (is_type ns x.kind) x.kind ≡ and_then choice more → choice_of s (is_type ns x.kind) x.kind ≡ choice → never_passes choice ≡ true → noted s0 x.kind next ≡ noted s x.kind next → go ns next (s0 ∷ K) vs (x ∷ t) ≡ go ns next (s ∷ (more ++ K)) vs (x ∷ t)
+pub expands : (ns next : List Name) (s0 s : Symbol) (more K : List Symbol) (vs : List Value) (x : Lexeme) (t : List Lexeme) (choice : Choice) → choice_of s0 (is_type ns x.kind) x.kind ≡ and_then choice more → choice_of s (is_type ns x.kind) x.kind ≡ choice → never_passes choice ≡ true → noted s0 x.kind next ≡ noted s x.kind next → go ns next (s0 ∷ K) vs (x ∷ t) ≡ go ns next (s ∷ (more ++ K)) vs (x ∷ t)
 unfolding go
 expands ns next s0 s more K vs x t Refuse e f h n = settled ns next (s0 ∷ K) (Some vs) x t ∙ rw (e, advance) (sym (settled ns next (s ∷ (more ++ K)) (Some vs) x t ∙ rw (f, advance) refl))
 expands ns next s0 s more K vs x t (Pass before) e f h n = false≢true h
@@ -306,11 +306,11 @@ expands ns next s0 s more K vs x t (Take before after) e f h n =
     let right : go ns next (s ∷ (more ++ K)) vs (x ∷ t) ≡ F (noted s x.kind next) (after ++ (more ++ K)) = settled ns next (s ∷ (more ++ K)) (Some vs) x t ∙ rw (f, advance) refl in
     left ∙ ap (λ p. F p ((after ++ more) ++ K)) n ∙ ap (λ q. F (noted s x.kind next) q) (append_assoc after more K) ∙ sym right
 
-only_if_takes : (c : Bool) (choice : Choice) → never_passes choice ≡ true → never_passes (only_if c choice) ≡ true
+pub only_if_takes : (c : Bool) (choice : Choice) → never_passes choice ≡ true → never_passes (only_if c choice) ≡ true
 only_if_takes true choice h = h
 only_if_takes false choice h = refl
 
-operand_takes : (b : Bool) (w : Wanted) (y : Bool) (k : Kind) → never_passes (operand b w y k) ≡ true
+pub operand_takes : (b : Bool) (w : Wanted) (y : Bool) (k : Kind) → never_passes (operand b w y k) ≡ true
 operand_takes b w true (name n) = refl
 operand_takes b w false (name n) = refl
 operand_takes b w y (punct sign.Minus) = only_if_takes (nat_le (least w) 12) _ refl
@@ -322,38 +322,38 @@ operand_takes b w y (punct sign.Ampersand) = only_if_takes (nat_le (least w) 12)
 operand_takes b w y (keyword word.Sizeof) = only_if_takes (nat_le (least w) 12) _ refl
 operand_takes b w y k = refl
 
-first_words_take : (b y : Bool) (k : Kind) → never_passes (words b seen.Nothing y k) ≡ true
+pub first_words_take : (b y : Bool) (k : Kind) → never_passes (words b seen.Nothing y k) ≡ true
 first_words_take b y (keyword word.Break) = refl
 first_words_take b true (name n) = refl
 first_words_take b false (name n) = refl
 first_words_take b y k = refl
 
 -- `(` and no type: an expression in parentheses
-opens_value : (ns next : List Name) (b : Bool) (w : Wanted) (K : List Symbol) (vs : List Value) (s : List Lexeme) → starts ns s ≡ false → go ns next (symbol.Open b w ∷ K) vs s ≡ go ns next (expression b 0 ∷ symbol.RightParenthesis ∷ end ends.Parenthesis ∷ symbol.Tail b w 14 ∷ K) vs s
+pub opens_value : (ns next : List Name) (b : Bool) (w : Wanted) (K : List Symbol) (vs : List Value) (s : List Lexeme) → starts ns s ≡ false → go ns next (symbol.Open b w ∷ K) vs s ≡ go ns next (expression b 0 ∷ symbol.RightParenthesis ∷ end ends.Parenthesis ∷ symbol.Tail b w 14 ∷ K) vs s
 unfolding choice_of go
 opens_value ns next b w K vs [] h = refl
 opens_value ns next b w K vs (x ∷ t) h =
     expands ns next (symbol.Open b w) (expression b 0) (symbol.RightParenthesis ∷ end ends.Parenthesis ∷ symbol.Tail b w 14 ∷ []) K vs x t (operand b (wanted.Level 0) (is_type ns x.kind) x.kind) (rw h refl) refl (operand_takes b (wanted.Level 0) (is_type ns x.kind) x.kind) refl
 
 -- `(` and a type: a cast, or the operand of `sizeof`
-opens_type : (ns next : List Name) (b : Bool) (w : Wanted) (K : List Symbol) (vs : List Value) (s : List Lexeme) → may_open_type w ≡ true → starts ns s ≡ true → go ns next (symbol.Open b w ∷ K) vs s ≡ go ns next (symbol.Words b seen.Nothing ∷ symbol.Stars false ∷ end ends.TypeName ∷ symbol.RightParenthesis ∷ (open_rest b w ++ K)) vs s
+pub opens_type : (ns next : List Name) (b : Bool) (w : Wanted) (K : List Symbol) (vs : List Value) (s : List Lexeme) → may_open_type w ≡ true → starts ns s ≡ true → go ns next (symbol.Open b w ∷ K) vs s ≡ go ns next (symbol.Words b seen.Nothing ∷ symbol.Stars false ∷ end ends.TypeName ∷ symbol.RightParenthesis ∷ (open_rest b w ++ K)) vs s
 unfolding choice_of go
 opens_type ns next b w K vs [] m h = refl
 opens_type ns next b w K vs (x ∷ t) m h =
     expands ns next (symbol.Open b w) (symbol.Words b seen.Nothing) (symbol.Stars false ∷ end ends.TypeName ∷ symbol.RightParenthesis ∷ open_rest b w) K vs x t (words b seen.Nothing (is_type ns x.kind) x.kind) (rw (h, m) refl) refl (first_words_take b (is_type ns x.kind) x.kind) refl
 
-opens_cast : (w : Wanted) → nat_le (least w) 11 ≡ true → may_open_type w ≡ true
+pub opens_cast : (w : Wanted) → nat_le (least w) 11 ≡ true → may_open_type w ≡ true
 opens_cast wanted.Sized h = refl
 opens_cast w h = h
 
-cast_rest : (b : Bool) (w : Wanted) → nat_le (least w) 11 ≡ true → open_rest b w ≡ expression b 11 ∷ end ends.Cast ∷ symbol.Tail b w 11 ∷ []
+pub cast_rest : (b : Bool) (w : Wanted) → nat_le (least w) 11 ≡ true → open_rest b w ≡ expression b 11 ∷ end ends.Cast ∷ symbol.Tail b w 11 ∷ []
 cast_rest b (wanted.Level l) h = refl
 cast_rest b wanted.Sized h = false≢true h
 cast_rest b w h = refl
 
 -- Where a type begins, and where it ends.
 
-add_starts : (q q1 : Seen) (k : Keyword) → add q k ≡ Some q1 → starts_type false (keyword k) ≡ true
+pub add_starts : (q q1 : Seen) (k : Keyword) → add q k ≡ Some q1 → starts_type false (keyword k) ≡ true
 add_starts q q1 word.Break h = absurd cc
 add_starts q q1 word.Case h = absurd cc
 add_starts q q1 word.Continue h = absurd cc
@@ -369,7 +369,7 @@ add_starts q q1 word.Typedef h = absurd cc
 add_starts q q1 word.While h = absurd cc
 add_starts q q1 k h = refl
 
-words_start : {ns : List Name} {b : Bool} {q : Seen} {ws : Words} {s t : List Lexeme} → SpellsWords ns b q ws s t → complete q ≡ false → starts ns s ≡ true
+pub words_start : {ns : List Name} {b : Bool} {q : Seen} {ws : Words} {s t : List Lexeme} → SpellsWords ns b q ws s t → complete q ≡ false → starts ns s ≡ true
 words_start (no_words h) c = absurd cc
 words_start (plain_word {q = q} {q1 = q1} {w0 = w0} h d) c = add_starts q q1 w0 h
 words_start (type_name h d) c = h
@@ -380,10 +380,10 @@ words_start (enum_tag h d) c = refl
 words_start (enum_body f d) c = refl
 words_start (tagged_enum h f d) c = refl
 
-type_starts : {ns : List Name} {b : Bool} {ty : TypeName} {s t : List Lexeme} → SpellsType ns b ty s t → starts ns s ≡ true
+pub type_starts : {ns : List Name} {b : Bool} {ty : TypeName} {s t : List Lexeme} → SpellsType ns b ty s t → starts ns s ≡ true
 type_starts (typed d f) = words_start d refl
 
-value_starts : {ns : List Name} {b : Bool} {l : ℕ} {e : Exp} {s t : List Lexeme} → SpellsExp ns b l e s t → starts ns s ≡ false
+pub value_starts : {ns : List Name} {b : Bool} {l : ℕ} {e : Exp} {s t : List Lexeme} → SpellsExp ns b l e s t → starts ns s ≡ false
 value_starts (looser d) = value_starts d
 value_starts (variable h) = h
 value_starts number_constant = refl
@@ -399,26 +399,26 @@ value_starts (cast d f) = refl
 value_starts (binary d f) = value_starts d
 value_starts (conditional d f g) = value_starts d
 
-abbrev is_brace : Kind → Bool
+abbrev pub is_brace : Kind → Bool
 is_brace (punct sign.LeftBrace) = true
 is_brace k = false
 
 -- what may follow the words of a type
-abbrev ends_words : List Name → List Lexeme → Bool
+abbrev pub ends_words : List Name → List Lexeme → Bool
 ends_words ns [] = false
 ends_words ns (x ∷ t) = not (starts_type (is_type ns x.kind) x.kind) && not (is_brace x.kind)
 
 -- a token that goes on with stars
-abbrev is_star : Kind → Bool
+abbrev pub is_star : Kind → Bool
 is_star (punct sign.Star) = true
 is_star (keyword word.Const) = true
 is_star k = false
 
-abbrev opens_brace : List Lexeme → Bool
+abbrev pub opens_brace : List Lexeme → Bool
 opens_brace [] = true
 opens_brace (x ∷ t) = is_brace x.kind
 
-ends_brace : (ns : List Name) (t : List Lexeme) → ends_words ns t ≡ true → opens_brace t ≡ false
+pub ends_brace : (ns : List Name) (t : List Lexeme) → ends_words ns t ≡ true → opens_brace t ≡ false
 ends_brace ns [] h = absurd cc
 ends_brace ns (x ∷ t) h = second (starts_type (is_type ns x.kind) x.kind) (is_brace x.kind) h
   where
@@ -428,23 +428,23 @@ ends_brace ns (x ∷ t) h = second (starts_type (is_type ns x.kind) x.kind) (is_
     second false false e = refl
 
 -- what may follow the stars behind a type
-abbrev ends_stars : List Lexeme → Bool
+abbrev pub ends_stars : List Lexeme → Bool
 ends_stars [] = false
 ends_stars (x ∷ t) = not (is_star x.kind)
 
-stars_end : (ns : List Name) {f : Bool} {ats : List ℕ} {s t : List Lexeme} → SpellsStars f ats s t → f ≡ false → ends_words ns t ≡ true → ends_words ns s ≡ true
+pub stars_end : (ns : List Name) {f : Bool} {ats : List ℕ} {s t : List Lexeme} → SpellsStars f ats s t → f ≡ false → ends_words ns t ≡ true → ends_words ns s ≡ true
 stars_end ns no_stars e h = h
 stars_end ns (star d) e h = refl
 stars_end ns (star_const d) e h = absurd cc
 
-declarator_ends : {ns : List Name} {b : Bool} {d : Declarator} {s t : List Lexeme} → SpellsDeclarator ns b d s t → ends_words ns s ≡ true
+pub declarator_ends : {ns : List Name} {b : Bool} {d : Declarator} {s t : List Lexeme} → SpellsDeclarator ns b d s t → ends_words ns s ≡ true
 declarator_ends {ns = ns} (declare d h f) = stars_end ns d refl (rw h refl)
 
-declarators_end : {ns : List Name} {ds : Declarators} {s t : List Lexeme} → SpellsDeclarators ns ds s t → ends_words ns s ≡ true
+pub declarators_end : {ns : List Name} {ds : Declarators} {s t : List Lexeme} → SpellsDeclarators ns ds s t → ends_words ns s ≡ true
 declarators_end (last_declarator d) = declarator_ends d
 declarators_end (more_declarators d f) = declarator_ends d
 
-words_are_no_brace : {ns : List Name} {b : Bool} {q : Seen} {ws : Words} {s t : List Lexeme} → SpellsWords ns b q ws s t → ends_words ns t ≡ true → opens_brace s ≡ false
+pub words_are_no_brace : {ns : List Name} {b : Bool} {q : Seen} {ws : Words} {s t : List Lexeme} → SpellsWords ns b q ws s t → ends_words ns t ≡ true → opens_brace s ≡ false
 words_are_no_brace {ns = ns} {t = t} (no_words h) e = ends_brace ns t e
 words_are_no_brace (plain_word h d) e = refl
 words_are_no_brace (type_name h d) e = refl
@@ -456,45 +456,45 @@ words_are_no_brace (enum_body f d) e = refl
 words_are_no_brace (tagged_enum h f d) e = refl
 
 -- where a declarator has no further star
-stars_pass : (f : Bool) (k : Kind) → not (is_star k) ≡ true → stars f k ≡ Pass (ends.NoStars ∷ [])
+pub stars_pass : (f : Bool) (k : Kind) → not (is_star k) ≡ true → stars f k ≡ Pass (ends.NoStars ∷ [])
 stars_pass f (punct sign.Star) h = absurd cc
 stars_pass f (keyword word.Const) h = absurd cc
 stars_pass f k h = refl
 
 -- where a struct or an enum has no body
-struct_pass : (b : Bool) (k : Kind) → is_brace k ≡ false → struct_choice b k ≡ Pass (ends.StructTag ∷ [])
+pub struct_pass : (b : Bool) (k : Kind) → is_brace k ≡ false → struct_choice b k ≡ Pass (ends.StructTag ∷ [])
 struct_pass b (punct sign.LeftBrace) h = absurd cc
 struct_pass b k h = refl
 
-enum_pass : (b : Bool) (k : Kind) → is_brace k ≡ false → enum_choice b k ≡ Pass (ends.EnumTag ∷ [])
+pub enum_pass : (b : Bool) (k : Kind) → is_brace k ≡ false → enum_choice b k ≡ Pass (ends.EnumTag ∷ [])
 enum_pass b (punct sign.LeftBrace) h = absurd cc
 enum_pass b k h = refl
 
-abbrev is_bracket : Kind → Bool
+abbrev pub is_bracket : Kind → Bool
 is_bracket (punct sign.LeftBracket) = true
 is_bracket k = false
 
-dimensions_pass : (b : Bool) (k : Kind) → not (is_bracket k) ≡ true → dimensions b k ≡ Pass (ends.NoDimensions ∷ [])
+pub dimensions_pass : (b : Bool) (k : Kind) → not (is_bracket k) ≡ true → dimensions b k ≡ Pass (ends.NoDimensions ∷ [])
 dimensions_pass b (punct sign.LeftBracket) h = absurd cc
 dimensions_pass b k h = refl
 
 -- `,` or `}`
-abbrev is_enum_end : Kind → Bool
+abbrev pub is_enum_end : Kind → Bool
 is_enum_end (punct sign.Comma) = true
 is_enum_end (punct sign.RightBrace) = true
 is_enum_end k = false
 
-enum_needs : (k : Kind) → is_enum_end k ≡ true → nat_le (needs_kind k) 0 ≡ true
+pub enum_needs : (k : Kind) → is_enum_end k ≡ true → nat_le (needs_kind k) 0 ≡ true
 enum_needs (punct sign.Comma) h = refl
 enum_needs (punct sign.RightBrace) h = refl
 enum_needs k h = absurd cc
 
-enum_value_pass : (k : Kind) → is_enum_end k ≡ true → enum_value k ≡ Pass (ends.Implicit ∷ [])
+pub enum_value_pass : (k : Kind) → is_enum_end k ≡ true → enum_value k ≡ Pass (ends.Implicit ∷ [])
 enum_value_pass (punct sign.Equal) h = absurd cc
 enum_value_pass k h = refl
 
 -- where a type has no further word
-words_pass : (b : Bool) (q : Seen) (y : Bool) (k : Kind) → starts_type y k ≡ false → words b q y k ≡ pass_words q
+pub words_pass : (b : Bool) (q : Seen) (y : Bool) (k : Kind) → starts_type y k ≡ false → words b q y k ≡ pass_words q
 words_pass b q y (keyword word.Const) h = absurd cc
 words_pass b q y (keyword word.Static) h = absurd cc
 words_pass b q y (keyword word.Inline) h = absurd cc
@@ -512,108 +512,108 @@ words_pass b q true (name n) h = absurd cc
 words_pass b q false (name n) h = refl
 words_pass b q y k h = refl
 
-both_true : (c d : Bool) → (not c && d) ≡ true → c ≡ false
+pub both_true : (c d : Bool) → (not c && d) ≡ true → c ≡ false
 both_true true d h = absurd cc
 both_true false d h = refl
 
-passes_words : (ns next : List Name) (b : Bool) (q : Seen) (K : List Symbol) (vs : List Value) (t : List Lexeme) → complete q ≡ true → ends_words ns t ≡ true → go ns next (symbol.Words b q ∷ K) vs t ≡ go ns next K (OfWords tree.NoWords ∷ vs) t
+pub passes_words : (ns next : List Name) (b : Bool) (q : Seen) (K : List Symbol) (vs : List Value) (t : List Lexeme) → complete q ≡ true → ends_words ns t ≡ true → go ns next (symbol.Words b q ∷ K) vs t ≡ go ns next K (OfWords tree.NoWords ∷ vs) t
 unfolding choice_of act go
 passes_words ns next b q K vs [] c h = absurd cc
 passes_words ns next b q K vs (x ∷ t) c h = passes ns next (symbol.Words b q) K vs (OfWords tree.NoWords ∷ vs) x t (ends.NoWords ∷ []) (words_pass b q (is_type ns x.kind) x.kind (both_true (starts_type (is_type ns x.kind) x.kind) (not (is_brace x.kind)) h) ∙ rw c refl) refl
 
-passes_stars : (ns next : List Name) (f : Bool) (K : List Symbol) (vs : List Value) (t : List Lexeme) → ends_stars t ≡ true → go ns next (symbol.Stars f ∷ K) vs t ≡ go ns next K (OfStars [] ∷ vs) t
+pub passes_stars : (ns next : List Name) (f : Bool) (K : List Symbol) (vs : List Value) (t : List Lexeme) → ends_stars t ≡ true → go ns next (symbol.Stars f ∷ K) vs t ≡ go ns next K (OfStars [] ∷ vs) t
 unfolding choice_of act go
 passes_stars ns next f K vs [] h = absurd cc
 passes_stars ns next f K vs (x ∷ t) h = passes ns next (symbol.Stars f) K vs (OfStars [] ∷ vs) x t (ends.NoStars ∷ []) (stars_pass f x.kind h) refl
 
-passes_struct : (ns next : List Name) (b : Bool) (n t0 : Lexeme) (K : List Symbol) (vs : List Value) (t : List Lexeme) → opens_brace t ≡ false → go ns next (symbol.StructBody b ∷ K) (Tok n ∷ Tok t0 ∷ vs) t ≡ go ns next K (OfWord (tree.StructTag t0.from (name_in n.kind)) ∷ vs) t
+pub passes_struct : (ns next : List Name) (b : Bool) (n t0 : Lexeme) (K : List Symbol) (vs : List Value) (t : List Lexeme) → opens_brace t ≡ false → go ns next (symbol.StructBody b ∷ K) (Tok n ∷ Tok t0 ∷ vs) t ≡ go ns next K (OfWord (tree.StructTag t0.from (name_in n.kind)) ∷ vs) t
 unfolding choice_of act go
 passes_struct ns next b n t0 K vs [] h = absurd cc
 passes_struct ns next b n t0 K vs (x ∷ t) h = passes ns next (symbol.StructBody b) K (Tok n ∷ Tok t0 ∷ vs) (OfWord (tree.StructTag t0.from (name_in n.kind)) ∷ vs) x t (ends.StructTag ∷ []) (struct_pass b x.kind h) refl
 
-passes_enum : (ns next : List Name) (b : Bool) (n t0 : Lexeme) (K : List Symbol) (vs : List Value) (t : List Lexeme) → opens_brace t ≡ false → go ns next (symbol.EnumBody b ∷ K) (Tok n ∷ Tok t0 ∷ vs) t ≡ go ns next K (OfWord (tree.EnumTag t0.from (name_in n.kind)) ∷ vs) t
+pub passes_enum : (ns next : List Name) (b : Bool) (n t0 : Lexeme) (K : List Symbol) (vs : List Value) (t : List Lexeme) → opens_brace t ≡ false → go ns next (symbol.EnumBody b ∷ K) (Tok n ∷ Tok t0 ∷ vs) t ≡ go ns next K (OfWord (tree.EnumTag t0.from (name_in n.kind)) ∷ vs) t
 unfolding choice_of act go
 passes_enum ns next b n t0 K vs [] h = absurd cc
 passes_enum ns next b n t0 K vs (x ∷ t) h = passes ns next (symbol.EnumBody b) K (Tok n ∷ Tok t0 ∷ vs) (OfWord (tree.EnumTag t0.from (name_in n.kind)) ∷ vs) x t (ends.EnumTag ∷ []) (enum_pass b x.kind h) refl
 
 -- the name of a struct or an enum
-takes_tag : (ns next : List Name) (b : Bool) (n : Name) (a z : ℕ) (K : List Symbol) (vs : List Value) (t : List Lexeme) → is_made ns n ≡ false → go ns next (symbol.StructTag b ∷ K) vs (named n a z ∷ t) ≡ go ns next (symbol.StructBody b ∷ K) (Tok (named n a z) ∷ vs) t
+pub takes_tag : (ns next : List Name) (b : Bool) (n : Name) (a z : ℕ) (K : List Symbol) (vs : List Value) (t : List Lexeme) → is_made ns n ≡ false → go ns next (symbol.StructTag b ∷ K) vs (named n a z ∷ t) ≡ go ns next (symbol.StructBody b ∷ K) (Tok (named n a z) ∷ vs) t
 unfolding choice_of go
 takes_tag ns next b n a z K vs t h = takes ns next (symbol.StructTag b) K vs vs (named n a z) t [] (symbol.StructBody b ∷ []) (rw h refl) refl
 
-takes_enum_tag : (ns next : List Name) (b : Bool) (n : Name) (a z : ℕ) (K : List Symbol) (vs : List Value) (t : List Lexeme) → is_made ns n ≡ false → go ns next (symbol.EnumTag b ∷ K) vs (named n a z ∷ t) ≡ go ns next (symbol.EnumBody b ∷ K) (Tok (named n a z) ∷ vs) t
+pub takes_enum_tag : (ns next : List Name) (b : Bool) (n : Name) (a z : ℕ) (K : List Symbol) (vs : List Value) (t : List Lexeme) → is_made ns n ≡ false → go ns next (symbol.EnumTag b ∷ K) vs (named n a z ∷ t) ≡ go ns next (symbol.EnumBody b ∷ K) (Tok (named n a z) ∷ vs) t
 unfolding choice_of go
 takes_enum_tag ns next b n a z K vs t h = takes ns next (symbol.EnumTag b) K vs vs (named n a z) t [] (symbol.EnumBody b ∷ []) (rw h refl) refl
 
-takes_word : (ns next : List Name) (b : Bool) (q q1 : Seen) (k : Keyword) (a z : ℕ) (K : List Symbol) (vs : List Value) (t : List Lexeme) → add q k ≡ Some q1 → go ns next (symbol.Words b q ∷ K) vs (reserved k a z ∷ t) ≡ go ns next (symbol.Words b q1 ∷ end ends.MoreWords ∷ K) (OfWord (tree.Reserved a k) ∷ vs) t
+pub takes_word : (ns next : List Name) (b : Bool) (q q1 : Seen) (k : Keyword) (a z : ℕ) (K : List Symbol) (vs : List Value) (t : List Lexeme) → add q k ≡ Some q1 → go ns next (symbol.Words b q ∷ K) vs (reserved k a z ∷ t) ≡ go ns next (symbol.Words b q1 ∷ end ends.MoreWords ∷ K) (OfWord (tree.Reserved a k) ∷ vs) t
 unfolding choice_of act go
 takes_word ns next b q q1 k a z K vs t h = takes ns next (symbol.Words b q) K vs vs (reserved k a z) t [] (end ends.Reserved ∷ symbol.Words b q1 ∷ end ends.MoreWords ∷ []) (rw (h, word_choice) refl) refl
 
-takes_type_name : (ns next : List Name) (b : Bool) (n : Name) (a z : ℕ) (K : List Symbol) (vs : List Value) (t : List Lexeme) → is_made ns n ≡ true → go ns next (symbol.Words b seen.Nothing ∷ K) vs (named n a z ∷ t) ≡ go ns next (symbol.Words b seen.Whole ∷ end ends.MoreWords ∷ K) (OfWord (tree.Named a n) ∷ vs) t
+pub takes_type_name : (ns next : List Name) (b : Bool) (n : Name) (a z : ℕ) (K : List Symbol) (vs : List Value) (t : List Lexeme) → is_made ns n ≡ true → go ns next (symbol.Words b seen.Nothing ∷ K) vs (named n a z ∷ t) ≡ go ns next (symbol.Words b seen.Whole ∷ end ends.MoreWords ∷ K) (OfWord (tree.Named a n) ∷ vs) t
 unfolding choice_of act go
 takes_type_name ns next b n a z K vs t h = takes ns next (symbol.Words b seen.Nothing) K vs vs (named n a z) t [] (end ends.Named ∷ symbol.Words b seen.Whole ∷ end ends.MoreWords ∷ []) (rw h refl) refl
 
-opens_members : (ns next : List Name) (K : List Symbol) (vs : List Value) (s : List Lexeme) → go ns next (symbol.Members ∷ K) vs s ≡ go ns next (symbol.Words false seen.Nothing ∷ declarator false (symbol.DeclaratorsMore ∷ symbol.MembersMore ∷ K)) vs s
+pub opens_members : (ns next : List Name) (K : List Symbol) (vs : List Value) (s : List Lexeme) → go ns next (symbol.Members ∷ K) vs s ≡ go ns next (symbol.Words false seen.Nothing ∷ declarator false (symbol.DeclaratorsMore ∷ symbol.MembersMore ∷ K)) vs s
 unfolding choice_of go
 opens_members ns next K vs [] = refl
 opens_members ns next K vs (x ∷ t) = expands ns next symbol.Members (symbol.Words false seen.Nothing) (declarator false (symbol.DeclaratorsMore ∷ symbol.MembersMore ∷ [])) K vs x t (words false seen.Nothing (is_type ns x.kind) x.kind) refl refl (first_words_take false (is_type ns x.kind) x.kind) refl
 
-members_go_on : (y : Bool) (k : Kind) → starts_type y k ≡ true → members_more y k ≡ and_then (words false seen.Nothing y k) (declarator false (symbol.DeclaratorsMore ∷ symbol.MembersMore ∷ end ends.MoreMembers ∷ []))
+pub members_go_on : (y : Bool) (k : Kind) → starts_type y k ≡ true → members_more y k ≡ and_then (words false seen.Nothing y k) (declarator false (symbol.DeclaratorsMore ∷ symbol.MembersMore ∷ end ends.MoreMembers ∷ []))
 members_go_on y (punct sign.RightBrace) h = absurd cc
 members_go_on y k h = refl
 
-opens_more_members : (ns next : List Name) (K : List Symbol) (vs : List Value) (s : List Lexeme) → starts ns s ≡ true → go ns next (symbol.MembersMore ∷ K) vs s ≡ go ns next (symbol.Words false seen.Nothing ∷ declarator false (symbol.DeclaratorsMore ∷ symbol.MembersMore ∷ end ends.MoreMembers ∷ K)) vs s
+pub opens_more_members : (ns next : List Name) (K : List Symbol) (vs : List Value) (s : List Lexeme) → starts ns s ≡ true → go ns next (symbol.MembersMore ∷ K) vs s ≡ go ns next (symbol.Words false seen.Nothing ∷ declarator false (symbol.DeclaratorsMore ∷ symbol.MembersMore ∷ end ends.MoreMembers ∷ K)) vs s
 unfolding choice_of go
 opens_more_members ns next K vs [] h = refl
 opens_more_members ns next K vs (x ∷ t) h = expands ns next symbol.MembersMore (symbol.Words false seen.Nothing) (declarator false (symbol.DeclaratorsMore ∷ symbol.MembersMore ∷ end ends.MoreMembers ∷ [])) K vs x t (words false seen.Nothing (is_type ns x.kind) x.kind) (members_go_on (is_type ns x.kind) x.kind h) refl (first_words_take false (is_type ns x.kind) x.kind) refl
 
-members_start : {ns : List Name} {ms : Members} {s t : List Lexeme} → SpellsMembers ns ms s t → starts ns s ≡ true
+pub members_start : {ns : List Name} {ms : Members} {s t : List Lexeme} → SpellsMembers ns ms s t → starts ns s ≡ true
 members_start (last_member d f) = words_start d refl
 members_start (more_members d f g) = words_start d refl
 
 -- what may follow a declarator
-abbrev ends_dimensions : List Lexeme → Bool
+abbrev pub ends_dimensions : List Lexeme → Bool
 ends_dimensions [] = false
 ends_dimensions (x ∷ t) = not (is_bracket x.kind)
 
-passes_dimensions : (ns next : List Name) (b : Bool) (K : List Symbol) (vs : List Value) (t : List Lexeme) → ends_dimensions t ≡ true → go ns next (symbol.Dimensions b ∷ K) vs t ≡ go ns next K (OfDimensions tree.NoDimensions ∷ vs) t
+pub passes_dimensions : (ns next : List Name) (b : Bool) (K : List Symbol) (vs : List Value) (t : List Lexeme) → ends_dimensions t ≡ true → go ns next (symbol.Dimensions b ∷ K) vs t ≡ go ns next K (OfDimensions tree.NoDimensions ∷ vs) t
 unfolding choice_of act go
 passes_dimensions ns next b K vs [] h = absurd cc
 passes_dimensions ns next b K vs (x ∷ t) h = passes ns next (symbol.Dimensions b) K vs (OfDimensions tree.NoDimensions ∷ vs) x t (ends.NoDimensions ∷ []) (dimensions_pass b x.kind h) refl
 
 -- enumerators
-takes_enumerator : (ns next : List Name) (n : Name) (a z : ℕ) (K : List Symbol) (vs : List Value) (t : List Lexeme) → is_made ns n ≡ false → go ns next (symbol.Enumerators ∷ K) vs (named n a z ∷ t) ≡ go ns next (symbol.EnumValue ∷ symbol.EnumMore ∷ K) (Tok (named n a z) ∷ vs) t
+pub takes_enumerator : (ns next : List Name) (n : Name) (a z : ℕ) (K : List Symbol) (vs : List Value) (t : List Lexeme) → is_made ns n ≡ false → go ns next (symbol.Enumerators ∷ K) vs (named n a z ∷ t) ≡ go ns next (symbol.EnumValue ∷ symbol.EnumMore ∷ K) (Tok (named n a z) ∷ vs) t
 unfolding choice_of go
 takes_enumerator ns next n a z K vs t h = takes ns next symbol.Enumerators K vs vs (named n a z) t [] (symbol.EnumValue ∷ symbol.EnumMore ∷ []) (rw h refl) refl
 
-takes_next : (ns next : List Name) (n : Name) (a z : ℕ) (K : List Symbol) (vs : List Value) (t : List Lexeme) → is_made ns n ≡ false → go ns next (symbol.EnumNext ∷ K) vs (named n a z ∷ t) ≡ go ns next (symbol.EnumValue ∷ symbol.EnumMore ∷ end ends.MoreEnumerators ∷ K) (Tok (named n a z) ∷ vs) t
+pub takes_next : (ns next : List Name) (n : Name) (a z : ℕ) (K : List Symbol) (vs : List Value) (t : List Lexeme) → is_made ns n ≡ false → go ns next (symbol.EnumNext ∷ K) vs (named n a z ∷ t) ≡ go ns next (symbol.EnumValue ∷ symbol.EnumMore ∷ end ends.MoreEnumerators ∷ K) (Tok (named n a z) ∷ vs) t
 unfolding choice_of go
 takes_next ns next n a z K vs t h = takes ns next symbol.EnumNext K vs vs (named n a z) t [] (symbol.EnumValue ∷ symbol.EnumMore ∷ end ends.MoreEnumerators ∷ []) (rw h refl) refl
 
 -- what may follow an enumerator
-abbrev ends_enumerator : List Lexeme → Bool
+abbrev pub ends_enumerator : List Lexeme → Bool
 ends_enumerator [] = false
 ends_enumerator (x ∷ t) = is_enum_end x.kind
 
-enumerator_needs : (t : List Lexeme) → ends_enumerator t ≡ true → nat_le (needs t) 0 ≡ true
+pub enumerator_needs : (t : List Lexeme) → ends_enumerator t ≡ true → nat_le (needs t) 0 ≡ true
 enumerator_needs [] h = absurd cc
 enumerator_needs (x ∷ t) h = enum_needs x.kind h
 
-passes_enum_value : (ns next : List Name) (n : Lexeme) (K : List Symbol) (vs : List Value) (t : List Lexeme) → ends_enumerator t ≡ true → go ns next (symbol.EnumValue ∷ K) (Tok n ∷ vs) t ≡ go ns next K (OfEnumerator (tree.Implicit n.from (name_in n.kind)) ∷ vs) t
+pub passes_enum_value : (ns next : List Name) (n : Lexeme) (K : List Symbol) (vs : List Value) (t : List Lexeme) → ends_enumerator t ≡ true → go ns next (symbol.EnumValue ∷ K) (Tok n ∷ vs) t ≡ go ns next K (OfEnumerator (tree.Implicit n.from (name_in n.kind)) ∷ vs) t
 unfolding choice_of act go
 passes_enum_value ns next n K vs [] h = absurd cc
 passes_enum_value ns next n K vs (x ∷ t) h = passes ns next symbol.EnumValue K (Tok n ∷ vs) (OfEnumerator (tree.Implicit n.from (name_in n.kind)) ∷ vs) x t (ends.Implicit ∷ []) (enum_value_pass x.kind h) refl
 
-goes_to_next : {ns : List Name} {en : Enumerator} {s t : List Lexeme} → SpellsEnumerator ns en s t → (next : List Name) (K : List Symbol) (vs : List Value) → go ns next (symbol.EnumNext ∷ K) vs s ≡ go ns next (symbol.Enumerators ∷ end ends.MoreEnumerators ∷ K) vs s
+pub goes_to_next : {ns : List Name} {en : Enumerator} {s t : List Lexeme} → SpellsEnumerator ns en s t → (next : List Name) (K : List Symbol) (vs : List Value) → go ns next (symbol.EnumNext ∷ K) vs s ≡ go ns next (symbol.Enumerators ∷ end ends.MoreEnumerators ∷ K) vs s
 goes_to_next {ns = ns} (implicit h) next K vs = takes_next ns next _ _ _ K vs _ h ∙ sym (takes_enumerator ns next _ _ _ (end ends.MoreEnumerators ∷ K) vs _ h)
 goes_to_next {ns = ns} (explicit {s = s} {a1 = a1} {z1 = z1} h d) next K vs = takes_next ns next _ _ _ K vs (mark sign.Equal a1 z1 ∷ s) h ∙ sym (takes_enumerator ns next _ _ _ (end ends.MoreEnumerators ∷ K) vs (mark sign.Equal a1 z1 ∷ s) h)
 
-enumerators_next : {ns : List Name} {ens : Enumerators} {s t : List Lexeme} → SpellsEnumerators ns ens s t → (next : List Name) (K : List Symbol) (vs : List Value) → go ns next (symbol.EnumNext ∷ K) vs s ≡ go ns next (symbol.Enumerators ∷ end ends.MoreEnumerators ∷ K) vs s
+pub enumerators_next : {ns : List Name} {ens : Enumerators} {s t : List Lexeme} → SpellsEnumerators ns ens s t → (next : List Name) (K : List Symbol) (vs : List Value) → go ns next (symbol.EnumNext ∷ K) vs s ≡ go ns next (symbol.Enumerators ∷ end ends.MoreEnumerators ∷ K) vs s
 enumerators_next (last_enumerator d) = goes_to_next d
 enumerators_next (last_enumerator_comma d) = goes_to_next d
 enumerators_next (more_enumerators d f) = goes_to_next d
 
-reads_stars : {f : Bool} {ats : List ℕ} {s t : List Lexeme} → SpellsStars f ats s t → (ns next : List Name) (K : List Symbol) (vs : List Value) → ends_stars t ≡ true → go ns next (symbol.Stars f ∷ K) vs s ≡ go ns next K (OfStars ats ∷ vs) t
+pub reads_stars : {f : Bool} {ats : List ℕ} {s t : List Lexeme} → SpellsStars f ats s t → (ns next : List Name) (K : List Symbol) (vs : List Value) → ends_stars t ≡ true → go ns next (symbol.Stars f ∷ K) vs s ≡ go ns next K (OfStars ats ∷ vs) t
 unfolding choice_of act
 reads_stars no_stars ns next K vs e = passes_stars ns next _ K vs _ e
 reads_stars (star d) ns next K vs e = takes _ _ _ _ _ _ _ _ _ _ refl refl ∙ reads_stars d ns next _ _ e ∙ ended_by _ _ _ _ _ _ _ refl
@@ -622,7 +622,7 @@ reads_stars (star_const d) ns next K vs e = takes _ _ _ _ _ _ _ _ _ _ refl refl 
 mutual
   unfolding choice_of act
 
-  reads : {ns : List Name} {b : Bool} {l : ℕ} {e : Exp} {s t : List Lexeme} → SpellsExp ns b l e s t → (next : List Name) (w : Wanted) (K : List Symbol) (vs : List Value) → nat_le (least w) l ≡ true → nat_le (needs t) (rank e) ≡ true → go ns next (symbol.Expression b w ∷ K) vs s ≡ go ns next (symbol.Tail b w (rank e) ∷ K) (OfExp e ∷ vs) t
+  pub reads : {ns : List Name} {b : Bool} {l : ℕ} {e : Exp} {s t : List Lexeme} → SpellsExp ns b l e s t → (next : List Name) (w : Wanted) (K : List Symbol) (vs : List Value) → nat_le (least w) l ≡ true → nat_le (needs t) (rank e) ≡ true → go ns next (symbol.Expression b w ∷ K) vs s ≡ go ns next (symbol.Tail b w (rank e) ∷ K) (OfExp e ∷ vs) t
   reads (looser {l = l} d) next w K vs h j = reads d next w K vs (le_more (least w) l h) j
   reads {ns = ns} (variable p) next w K vs h j = takes_variable _ _ _ _ _ _ _ _ _ _ p
   reads number_constant next w K vs h j = takes _ _ _ _ _ _ _ _ _ _ refl refl ∙ ended_by _ _ _ _ _ _ _ refl
@@ -648,10 +648,10 @@ mutual
   reads (conditional {c = c} {x = x} {y = y} {v = v} d f g) next w K vs h j =
       reads d _ _ _ _ (le_more (least w) 0 h) (rank_least d) ∙ takes_question _ _ _ _ (rank c) _ _ _ _ _ h (rank_least d) ∙ reads f _ (wanted.Level 0) _ _ refl (le_zero (rank x)) ∙ tail_nothing _ _ _ _ _ _ _ _ refl ∙ takes _ _ _ _ _ _ _ _ _ _ refl refl ∙ reads g _ (wanted.Level 0) _ _ refl (le_trans (needs v) 0 (rank y) j (le_zero (rank y))) ∙ tail_nothing _ _ _ _ _ _ _ _ j ∙ ended_by _ _ _ _ _ _ _ refl
 
-  reads_type : {ns : List Name} {b : Bool} {ty : TypeName} {s t : List Lexeme} → SpellsType ns b ty s t → (next : List Name) (K : List Symbol) (vs : List Value) → ends_words ns t ≡ true → ends_stars t ≡ true → go ns next (symbol.Words b seen.Nothing ∷ symbol.Stars false ∷ end ends.TypeName ∷ K) vs s ≡ go ns next K (OfType ty ∷ vs) t
+  pub reads_type : {ns : List Name} {b : Bool} {ty : TypeName} {s t : List Lexeme} → SpellsType ns b ty s t → (next : List Name) (K : List Symbol) (vs : List Value) → ends_words ns t ≡ true → ends_stars t ≡ true → go ns next (symbol.Words b seen.Nothing ∷ symbol.Stars false ∷ end ends.TypeName ∷ K) vs s ≡ go ns next K (OfType ty ∷ vs) t
   reads_type {ns = ns} (typed d f) next K vs e g = reads_words d _ _ _ (stars_end ns f refl e) ∙ reads_stars f _ _ _ _ g ∙ ended_by _ _ _ _ _ _ _ refl
 
-  reads_words : {ns : List Name} {b : Bool} {q : Seen} {ws : Words} {s t : List Lexeme} → SpellsWords ns b q ws s t → (next : List Name) (K : List Symbol) (vs : List Value) → ends_words ns t ≡ true → go ns next (symbol.Words b q ∷ K) vs s ≡ go ns next K (OfWords ws ∷ vs) t
+  pub reads_words : {ns : List Name} {b : Bool} {q : Seen} {ws : Words} {s t : List Lexeme} → SpellsWords ns b q ws s t → (next : List Name) (K : List Symbol) (vs : List Value) → ends_words ns t ≡ true → go ns next (symbol.Words b q ∷ K) vs s ≡ go ns next K (OfWords ws ∷ vs) t
   reads_words (no_words c) next K vs e = passes_words _ _ _ _ _ _ _ c e
   reads_words (plain_word h d) next K vs e = takes_word _ _ _ _ _ _ _ _ _ _ _ h ∙ reads_words d _ _ _ e ∙ ended_by _ _ _ _ _ _ _ refl
   reads_words (type_name h d) next K vs e = takes_type_name _ _ _ _ _ _ _ _ _ h ∙ reads_words d _ _ _ e ∙ ended_by _ _ _ _ _ _ _ refl
@@ -668,26 +668,26 @@ mutual
   reads_words (tagged_enum h f d) next K vs e =
       takes _ _ _ _ _ _ _ _ _ _ refl refl ∙ takes_enum_tag _ _ _ _ _ _ _ _ _ h ∙ takes _ _ _ _ _ _ _ _ _ _ refl refl ∙ reads_enumerators f _ _ _ ∙ ended_by _ _ _ _ _ _ _ refl ∙ reads_words d _ _ _ e ∙ ended_by _ _ _ _ _ _ _ refl
 
-  reads_members : {ns : List Name} {ms : Members} {s t : List Lexeme} → SpellsMembers ns ms s t → (next : List Name) (K : List Symbol) (vs : List Value) → go ns next (symbol.Words false seen.Nothing ∷ declarator false (symbol.DeclaratorsMore ∷ symbol.MembersMore ∷ K)) vs s ≡ go ns next K (OfMembers ms ∷ vs) t
+  pub reads_members : {ns : List Name} {ms : Members} {s t : List Lexeme} → SpellsMembers ns ms s t → (next : List Name) (K : List Symbol) (vs : List Value) → go ns next (symbol.Words false seen.Nothing ∷ declarator false (symbol.DeclaratorsMore ∷ symbol.MembersMore ∷ K)) vs s ≡ go ns next K (OfMembers ms ∷ vs) t
   reads_members (last_member d f) next K vs = reads_words d _ _ _ (declarators_end f) ∙ reads_declarators f _ _ _ ∙ takes _ _ _ _ _ _ _ _ _ _ refl refl ∙ ended_by _ _ _ _ _ _ _ refl
   reads_members (more_members d f g) next K vs = reads_words d _ _ _ (declarators_end f) ∙ reads_declarators f _ _ _ ∙ opens_more_members _ _ _ _ _ (members_start g) ∙ reads_members g _ _ _ ∙ ended_by _ _ _ _ _ _ _ refl
 
-  reads_declarators : {ns : List Name} {ds : Declarators} {s t : List Lexeme} → SpellsDeclarators ns ds s t → (next : List Name) (K : List Symbol) (vs : List Value) → go ns next (declarator false (symbol.DeclaratorsMore ∷ K)) vs s ≡ go ns next K (OfDeclarators ds ∷ vs) t
+  pub reads_declarators : {ns : List Name} {ds : Declarators} {s t : List Lexeme} → SpellsDeclarators ns ds s t → (next : List Name) (K : List Symbol) (vs : List Value) → go ns next (declarator false (symbol.DeclaratorsMore ∷ K)) vs s ≡ go ns next K (OfDeclarators ds ∷ vs) t
   reads_declarators (last_declarator d) next K vs = reads_declarator d _ _ _ refl ∙ takes _ _ _ _ _ _ _ _ _ _ refl refl ∙ ended_by _ _ _ _ _ _ _ refl
   reads_declarators (more_declarators d f) next K vs = reads_declarator d _ _ _ refl ∙ takes _ _ _ _ _ _ _ _ _ _ refl refl ∙ reads_declarators f _ _ _ ∙ ended_by _ _ _ _ _ _ _ refl
 
-  reads_declarator : {ns : List Name} {b : Bool} {d : Declarator} {s t : List Lexeme} → SpellsDeclarator ns b d s t → (next : List Name) (K : List Symbol) (vs : List Value) → ends_dimensions t ≡ true → go ns next (declarator b K) vs s ≡ go ns next K (OfDeclarator d ∷ vs) t
+  pub reads_declarator : {ns : List Name} {b : Bool} {d : Declarator} {s t : List Lexeme} → SpellsDeclarator ns b d s t → (next : List Name) (K : List Symbol) (vs : List Value) → ends_dimensions t ≡ true → go ns next (declarator b K) vs s ≡ go ns next K (OfDeclarator d ∷ vs) t
   reads_declarator (declare d h f) next K vs e = reads_stars d _ _ _ _ refl ∙ takes_identifier _ _ _ _ _ _ _ _ h ∙ reads_dimensions f _ _ _ e ∙ ended_by _ _ _ _ _ _ _ refl
 
-  reads_dimensions : {ns : List Name} {b : Bool} {dims : Dimensions} {s t : List Lexeme} → SpellsDimensions ns b dims s t → (next : List Name) (K : List Symbol) (vs : List Value) → ends_dimensions t ≡ true → go ns next (symbol.Dimensions b ∷ K) vs s ≡ go ns next K (OfDimensions dims ∷ vs) t
+  pub reads_dimensions : {ns : List Name} {b : Bool} {dims : Dimensions} {s t : List Lexeme} → SpellsDimensions ns b dims s t → (next : List Name) (K : List Symbol) (vs : List Value) → ends_dimensions t ≡ true → go ns next (symbol.Dimensions b ∷ K) vs s ≡ go ns next K (OfDimensions dims ∷ vs) t
   reads_dimensions no_dimensions next K vs e = passes_dimensions _ _ _ _ _ _ e
   reads_dimensions (more_dimensions {e = x} d f) next K vs e = takes _ _ _ _ _ _ _ _ _ _ refl refl ∙ reads d _ (wanted.Level 0) _ _ refl (le_zero (rank x)) ∙ tail_nothing _ _ _ _ _ _ _ _ refl ∙ takes _ _ _ _ _ _ _ _ _ _ refl refl ∙ reads_dimensions f _ _ _ e ∙ ended_by _ _ _ _ _ _ _ refl
 
-  reads_enumerators : {ns : List Name} {ens : Enumerators} {s t : List Lexeme} → SpellsEnumerators ns ens s t → (next : List Name) (K : List Symbol) (vs : List Value) → go ns next (symbol.Enumerators ∷ K) vs s ≡ go ns next K (OfEnumerators ens ∷ vs) t
+  pub reads_enumerators : {ns : List Name} {ens : Enumerators} {s t : List Lexeme} → SpellsEnumerators ns ens s t → (next : List Name) (K : List Symbol) (vs : List Value) → go ns next (symbol.Enumerators ∷ K) vs s ≡ go ns next K (OfEnumerators ens ∷ vs) t
   reads_enumerators (last_enumerator d) next K vs = reads_enumerator d _ _ _ refl ∙ takes _ _ _ _ _ _ _ _ _ _ refl refl ∙ ended_by _ _ _ _ _ _ _ refl
   reads_enumerators (last_enumerator_comma d) next K vs = reads_enumerator d _ _ _ refl ∙ takes _ _ _ _ _ _ _ _ _ _ refl refl ∙ takes _ _ _ _ _ _ _ _ _ _ refl refl ∙ ended_by _ _ _ _ _ _ _ refl
   reads_enumerators (more_enumerators d f) next K vs = reads_enumerator d _ _ _ refl ∙ takes _ _ _ _ _ _ _ _ _ _ refl refl ∙ enumerators_next f _ _ _ ∙ reads_enumerators f _ _ _ ∙ ended_by _ _ _ _ _ _ _ refl
 
-  reads_enumerator : {ns : List Name} {en : Enumerator} {s t : List Lexeme} → SpellsEnumerator ns en s t → (next : List Name) (K : List Symbol) (vs : List Value) → ends_enumerator t ≡ true → go ns next (symbol.Enumerators ∷ K) vs s ≡ go ns next (symbol.EnumMore ∷ K) (OfEnumerator en ∷ vs) t
+  pub reads_enumerator : {ns : List Name} {en : Enumerator} {s t : List Lexeme} → SpellsEnumerator ns en s t → (next : List Name) (K : List Symbol) (vs : List Value) → ends_enumerator t ≡ true → go ns next (symbol.Enumerators ∷ K) vs s ≡ go ns next (symbol.EnumMore ∷ K) (OfEnumerator en ∷ vs) t
   reads_enumerator (implicit h) next K vs e = takes_enumerator _ _ _ _ _ _ _ _ h ∙ passes_enum_value _ _ _ _ _ _ e
   reads_enumerator (explicit {e = x} {t = t} h d) next K vs e = takes_enumerator _ _ _ _ _ _ _ _ h ∙ takes _ _ _ _ _ _ _ _ _ _ refl refl ∙ reads d _ (wanted.Level 0) _ _ refl (le_trans (needs t) 0 (rank x) (enumerator_needs t e) (le_zero (rank x))) ∙ tail_nothing _ _ _ _ _ _ _ _ (enumerator_needs t e) ∙ ended_by _ _ _ _ _ _ _ refl

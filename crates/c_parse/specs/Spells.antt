@@ -229,8 +229,11 @@ pub data SpellsExternal (ns : List Name) : External → List Lexeme → List Lex
   declaration : {ws : Words} {s t u : List Lexeme} {tops : List Top} → SpellsWords ns true seen.Nothing ws s t → SpellsDeclared ns tops t u → SpellsExternal ns (tree.Declaration None ws tops) s u
   typedef : {ws : Words} {s t u : List Lexeme} {tops : List Top} {a z : ℕ} → SpellsWords ns true seen.Nothing ws s t → SpellsDeclared ns tops t u → SpellsExternal ns (tree.Declaration (Some a) ws tops) (reserved word.Typedef a z ∷ s) u
 
+abbrev pub declared : Declarator → Name
+declared (tree.Declare ats a n dims) = n
+
 abbrev pub name_of : Top → Name
-name_of (tree.Topmost (tree.Declare ats a n dims) ops i) = n
+name_of (tree.Topmost d ops i) = declared d
 
 -- the names that were made before, and those of the declarators
 abbrev pub names_of : List Top → List Name → List Name
