@@ -1,2 +1,3 @@
 mod Reading
 mod Statements
+pub mod Texts
