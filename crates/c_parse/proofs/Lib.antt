@@ -1,3 +1,6 @@
 mod Reading
 mod Statements
 pub mod Texts
+mod Means
+mod Sound
+pub mod Accepted

@@ -4,3 +4,4 @@ pub mod Spells
 pub mod Choice
 pub mod Build
 pub mod Stack
+pub mod Accepts
