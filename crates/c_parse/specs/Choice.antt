@@ -138,6 +138,10 @@ open_value b w y k =
 abbrev pub opened : Bool → Wanted → Bool → Kind → Choice
 opened b w y k = if starts_type y k then open_type b w y k else open_value b w y k
 
+-- an assignment such as `+=`
+abbrev pub update_choice : Bool → ℕ → BinaryOperator → Choice
+update_choice b r op = only_if (nat_le 12 r) (take (expression b 0 ∷ end (ends.Update op) ∷ []))
+
 -- where no operator follows an expression
 abbrev pub tail_end : Bool → Wanted → ℕ → Kind → Choice
 tail_end b (wanted.Level l) r k = Pass []
@@ -151,16 +155,16 @@ tail_end b wanted.Place r (punct sign.PlusPlus) = only_if (nat_le 13 r) (take (e
 tail_end b wanted.Place r (punct sign.MinusMinus) = only_if (nat_le 13 r) (take (end (ends.After step.Decrement) ∷ []))
 tail_end b wanted.Place r (punct sign.Equal) =
     only_if (nat_le 12 r) (take (symbol.Expression b wanted.Right ∷ end ends.Assign ∷ []))
-tail_end b wanted.Place r (punct sign.StarEqual) = only_if (nat_le 12 r) (take (expression b 0 ∷ end (ends.Update binary.Multiply) ∷ []))
-tail_end b wanted.Place r (punct sign.SlashEqual) = only_if (nat_le 12 r) (take (expression b 0 ∷ end (ends.Update binary.Divide) ∷ []))
-tail_end b wanted.Place r (punct sign.PercentEqual) = only_if (nat_le 12 r) (take (expression b 0 ∷ end (ends.Update binary.Remainder) ∷ []))
-tail_end b wanted.Place r (punct sign.PlusEqual) = only_if (nat_le 12 r) (take (expression b 0 ∷ end (ends.Update binary.Add) ∷ []))
-tail_end b wanted.Place r (punct sign.MinusEqual) = only_if (nat_le 12 r) (take (expression b 0 ∷ end (ends.Update binary.Subtract) ∷ []))
-tail_end b wanted.Place r (punct sign.LessLessEqual) = only_if (nat_le 12 r) (take (expression b 0 ∷ end (ends.Update binary.ShiftLeft) ∷ []))
-tail_end b wanted.Place r (punct sign.GreaterGreaterEqual) = only_if (nat_le 12 r) (take (expression b 0 ∷ end (ends.Update binary.ShiftRight) ∷ []))
-tail_end b wanted.Place r (punct sign.AmpersandEqual) = only_if (nat_le 12 r) (take (expression b 0 ∷ end (ends.Update binary.And) ∷ []))
-tail_end b wanted.Place r (punct sign.CaretEqual) = only_if (nat_le 12 r) (take (expression b 0 ∷ end (ends.Update binary.ExclusiveOr) ∷ []))
-tail_end b wanted.Place r (punct sign.BarEqual) = only_if (nat_le 12 r) (take (expression b 0 ∷ end (ends.Update binary.Or) ∷ []))
+tail_end b wanted.Place r (punct sign.StarEqual) = update_choice b r binary.Multiply
+tail_end b wanted.Place r (punct sign.SlashEqual) = update_choice b r binary.Divide
+tail_end b wanted.Place r (punct sign.PercentEqual) = update_choice b r binary.Remainder
+tail_end b wanted.Place r (punct sign.PlusEqual) = update_choice b r binary.Add
+tail_end b wanted.Place r (punct sign.MinusEqual) = update_choice b r binary.Subtract
+tail_end b wanted.Place r (punct sign.LessLessEqual) = update_choice b r binary.ShiftLeft
+tail_end b wanted.Place r (punct sign.GreaterGreaterEqual) = update_choice b r binary.ShiftRight
+tail_end b wanted.Place r (punct sign.AmpersandEqual) = update_choice b r binary.And
+tail_end b wanted.Place r (punct sign.CaretEqual) = update_choice b r binary.ExclusiveOr
+tail_end b wanted.Place r (punct sign.BarEqual) = update_choice b r binary.Or
 tail_end b wanted.Place r k = Refuse
 
 abbrev pub binary_choice : Bool → Wanted → ℕ → BinaryOperator → Kind → Choice

@@ -5,3 +5,4 @@ pub mod Choice
 pub mod Build
 pub mod Stack
 pub mod Accepts
+pub mod Follows

@@ -7,6 +7,7 @@ ghost use Rattle.c_parse.specs.Tree.{External};
 ghost use Rattle.c_parse.specs.Spells.{Spells};
 
 pub mod operator;
+mod choose;
 mod symbol;
 
 pub use operator::{BinaryOperator, StepOperator, UnaryOperator};
