@@ -4,3 +4,4 @@ pub mod Texts
 mod Means
 mod Sound
 pub mod Accepted
+pub mod Kept

@@ -6,3 +6,4 @@ pub mod Build
 pub mod Stack
 pub mod Accepts
 pub mod Follows
+pub mod Names

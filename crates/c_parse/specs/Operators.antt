@@ -1,5 +1,6 @@
 -- The signs of the operators, how tightly they bind (C99 6.5), and what the words of a type may be (C99 6.7.2).
-use Rattle.std.specs.Prelude.{ℕ, Bool, true, false, List, [], ◌∷◌, Option, Some, None, ◌&&◌, ◌==◌, ◌||◌, not}
+use Rattle.std.specs.Prelude.{ℕ, Bool, true, false, List, [], ◌∷◌, Option, Some, None, ◌||◌, nat_eq}
+use lib.Pointwise.{pointwise}
 use Rattle.c_lex.specs.declared.token.Keyword.{Keyword}
 use Rattle.c_lex.specs.declared.token.Keyword.TheVariants as word
 use Rattle.c_lex.specs.declared.token.Punct.{Punct}
@@ -116,12 +117,7 @@ abbrev pub complete : Seen → Bool
 complete seen.Nothing = false
 complete _ = true
 
-abbrev pub same_name : Name → Name → Bool
-same_name [] [] = true
-same_name (a ∷ rest) (b ∷ others) = a == b && same_name rest others
-same_name _ _ = false
-
 -- a typedef made the name
 abbrev pub is_made : List Name → Name → Bool
 is_made [] x = false
-is_made (y ∷ ys) x = same_name y x || is_made ys x
+is_made (y ∷ ys) x = pointwise nat_eq y x || is_made ys x

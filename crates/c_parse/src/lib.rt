@@ -8,6 +8,7 @@ ghost use Rattle.c_parse.specs.Spells.{Spells};
 
 pub mod operator;
 mod choose;
+mod names;
 mod symbol;
 
 pub use operator::{BinaryOperator, StepOperator, UnaryOperator};
