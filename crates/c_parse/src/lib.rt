@@ -9,9 +9,11 @@ ghost use Rattle.c_parse.specs.Spells.{Spells};
 pub mod operator;
 mod choose;
 mod names;
+mod recogniser;
 mod symbol;
 
 pub use operator::{BinaryOperator, StepOperator, UnaryOperator};
+pub use recogniser::recognise;
 
 /// A law of the grammar: no list of tokens has two trees.
 #[tactic(auto, using(crate::proofs::Texts::one_tree))]
