@@ -1,5 +1,6 @@
--- The keywords, as they are written.
-use Rattle.std.specs.Prelude.{ℕ, List, codes}
+-- The keywords, as they are written (C99 6.4.1, those of our subset).
+use Rattle.std.specs.Prelude.{ℕ, List, [], ◌∷◌, Option, codes, find}
+use Rattle.std.specs.Str.{bytes_eq}
 use Rattle.c_lex.specs.declared.token.Keyword.{Keyword}
 use Rattle.c_lex.specs.declared.token.Keyword.TheVariants.{Break, Case, Char, Const, Continue, Default, Do, Else, Enum, Extern, For, If, Inline, Int, Long, Return, Short, Signed, Sizeof, Static, Struct, Switch, Typedef, Unsigned, Void, While}
 
@@ -30,3 +31,11 @@ keyword_text Typedef = codes "typedef"
 keyword_text Unsigned = codes "unsigned"
 keyword_text Void = codes "void"
 keyword_text While = codes "while"
+
+-- each of them
+abbrev pub keywords : List Keyword
+keywords = Break ∷ Case ∷ Char ∷ Const ∷ Continue ∷ Default ∷ Do ∷ Else ∷ Enum ∷ Extern ∷ For ∷ If ∷ Inline ∷ Int ∷ Long ∷ Return ∷ Short ∷ Signed ∷ Sizeof ∷ Static ∷ Struct ∷ Switch ∷ Typedef ∷ Unsigned ∷ Void ∷ While ∷ []
+
+-- the keyword that the bytes are
+unfoldable pub keyword_of : List ℕ → Option Keyword
+keyword_of bytes = find (λ x. bytes_eq (keyword_text x) bytes) keywords

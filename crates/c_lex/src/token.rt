@@ -1,4 +1,7 @@
 //! The tokens of C that the program reads: their kinds and where they stand in the text.
+ghost use Rattle.std.specs.Prelude.{◌≡◌};
+ghost use Rattle.c_lex.specs.Keyword.{keyword_text};
+ghost use Rattle.c_lex.specs.Punct.{punct_text};
 
 /// A token: what it is, and that it stands in the bytes `start..end` of the text.
 #[derive(Debug, PartialEq, Eq, Drop)]
@@ -181,4 +184,95 @@ pub enum Punct {
     CaretEqual,
     /// `|=`
     BarEqual,
+}
+
+impl Keyword {
+    /// How it is written.
+    pub fn text(self) -> &'static str
+        ensures { result.now ≡ keyword_text self }
+    {
+        match self {
+            Keyword::Break => "break",
+            Keyword::Case => "case",
+            Keyword::Char => "char",
+            Keyword::Const => "const",
+            Keyword::Continue => "continue",
+            Keyword::Default => "default",
+            Keyword::Do => "do",
+            Keyword::Else => "else",
+            Keyword::Enum => "enum",
+            Keyword::Extern => "extern",
+            Keyword::For => "for",
+            Keyword::If => "if",
+            Keyword::Inline => "inline",
+            Keyword::Int => "int",
+            Keyword::Long => "long",
+            Keyword::Return => "return",
+            Keyword::Short => "short",
+            Keyword::Signed => "signed",
+            Keyword::Sizeof => "sizeof",
+            Keyword::Static => "static",
+            Keyword::Struct => "struct",
+            Keyword::Switch => "switch",
+            Keyword::Typedef => "typedef",
+            Keyword::Unsigned => "unsigned",
+            Keyword::Void => "void",
+            Keyword::While => "while",
+        }
+    }
+}
+
+impl Punct {
+    /// How it is written.
+    pub fn text(self) -> &'static str
+        ensures { result.now ≡ punct_text self }
+    {
+        match self {
+            Punct::LeftBrace => "{",
+            Punct::RightBrace => "}",
+            Punct::LeftParenthesis => "(",
+            Punct::RightParenthesis => ")",
+            Punct::LeftBracket => "[",
+            Punct::RightBracket => "]",
+            Punct::Semicolon => ";",
+            Punct::Comma => ",",
+            Punct::Colon => ":",
+            Punct::Question => "?",
+            Punct::Dot => ".",
+            Punct::Arrow => "->",
+            Punct::PlusPlus => "++",
+            Punct::MinusMinus => "--",
+            Punct::Ampersand => "&",
+            Punct::Star => "*",
+            Punct::Plus => "+",
+            Punct::Minus => "-",
+            Punct::Tilde => "~",
+            Punct::Exclamation => "!",
+            Punct::Slash => "/",
+            Punct::Percent => "%",
+            Punct::LessLess => "<<",
+            Punct::GreaterGreater => ">>",
+            Punct::Less => "<",
+            Punct::Greater => ">",
+            Punct::LessEqual => "<=",
+            Punct::GreaterEqual => ">=",
+            Punct::EqualEqual => "==",
+            Punct::ExclamationEqual => "!=",
+            Punct::Caret => "^",
+            Punct::Bar => "|",
+            Punct::AmpersandAmpersand => "&&",
+            Punct::BarBar => "||",
+            Punct::Equal => "=",
+            Punct::StarEqual => "*=",
+            Punct::SlashEqual => "/=",
+            Punct::PercentEqual => "%=",
+            Punct::PlusEqual => "+=",
+            Punct::MinusEqual => "-=",
+            Punct::LessLessEqual => "<<=",
+            Punct::GreaterGreaterEqual => ">>=",
+            Punct::AmpersandEqual => "&=",
+            Punct::CaretEqual => "^=",
+            Punct::BarEqual => "|=",
+        }
+    }
 }
