@@ -122,7 +122,6 @@ abbrev pub starts : List Name → List Lexeme → Bool
 starts ns [] = false
 starts ns (x ∷ t) = starts_type (is_type ns x.kind) x.kind
 
-
 -- a token is taken
 pub takes : (ns next : List Name) (s : Symbol) (stack : List Symbol) (vs ws : List Value) (x : Lexeme) (t : List Lexeme) (before : List Production) (more : List Symbol) → choice_of s (is_type ns x.kind) x.kind ≡ Take before more → acts before (Some vs) ≡ Some ws → go ns next (s ∷ stack) vs (x ∷ t) ≡ go ns (noted s x.kind next) (more ++ stack) (Tok x ∷ ws) t
 unfolding go

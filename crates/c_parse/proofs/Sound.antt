@@ -124,7 +124,7 @@ opened_sound : (ns next : List Name) (b : Bool) (w : Wanted) (k : Kind) (a z : �
 opened_sound ns next b w k a z =
     if_sound ns next (symbol.Open b w) (token k a z) (choice.starts_type (is_type ns k) k) (choice.open_type b w (is_type ns k) k) (choice.open_value b w (is_type ns k) k)
     (λ c. only_sound ns next (symbol.Open b w) (token k a z) (choice.may_open_type w) (choice.and_then (choice.words b seen.Nothing (is_type ns k) k) (symbol.Stars false ∷ symbol.End ends.TypeName ∷ symbol.RightParenthesis ∷ choice.open_rest b w))
-      (λ h. then_sound ns next (symbol.Open b w) (symbol.Words b seen.Nothing) (token k a z) (choice.words b seen.Nothing (is_type ns k) k) (symbol.Stars false ∷ symbol.End ends.TypeName ∷ symbol.RightParenthesis ∷ choice.open_rest b w) (words_sound ns next b seen.Nothing k a z) refl (λ s m u ns1 next1 ns2 next2 first all. open_type_row b w (token k a z) h first all)))
+    (λ h. then_sound ns next (symbol.Open b w) (symbol.Words b seen.Nothing) (token k a z) (choice.words b seen.Nothing (is_type ns k) k) (symbol.Stars false ∷ symbol.End ends.TypeName ∷ symbol.RightParenthesis ∷ choice.open_rest b w) (words_sound ns next b seen.Nothing k a z) refl (λ s m u ns1 next1 ns2 next2 first all. open_type_row b w (token k a z) h first all)))
     (λ c. then_sound ns next (symbol.Open b w) (expression b 0) (token k a z) (choice.operand b (wanted.Level 0) (is_type ns k) k) (symbol.RightParenthesis ∷ symbol.End ends.Parenthesis ∷ symbol.Tail b w 14 ∷ []) (operand_sound ns next b (wanted.Level 0) k a z) refl (λ s m u ns1 next1 ns2 next2 first all. parenthesis_row b w (token k a z) first all))
 
 -- What follows an operand.

@@ -24,9 +24,9 @@ abbrev pub forward : List Name → List Name → Lexeme → List Symbol → Opti
 forward ns next t [] = None
 forward ns next t (s ∷ stack) =
     elim (choice_of s (is_type ns t.kind) t.kind) [
-      Refuse ↦ None
-    | Pass before ↦ forward (made_behind s ns next) (next_behind s ns next) t stack
-    | Take before more ↦ Some (record { stack = drop_ends (more ++ stack); made = ns; next = noted s t.kind next })
+      | Refuse ↦ None
+      | Pass before ↦ forward (made_behind s ns next) (next_behind s ns next) t stack
+      | Take before more ↦ Some (record { stack = drop_ends (more ++ stack); made = ns; next = noted s t.kind next })
     ]
 
 -- nothing is still to come but further externals, of which there need be none

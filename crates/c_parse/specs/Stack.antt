@@ -47,8 +47,8 @@ settle ns next stack None = None
 settle ns next [] (Some vs) = Some (record { stack = []; made = ns; next = next; values = vs })
 settle ns next (s ∷ stack) (Some vs) =
     elim (ended s) [
-      Some p ↦ settle ns next stack (act p vs)
-    | None ↦ Some (record { stack = s ∷ stack; made = ns; next = next; values = vs })
+      | Some p ↦ settle ns next stack (act p vs)
+      | None ↦ Some (record { stack = s ∷ stack; made = ns; next = next; values = vs })
     ]
 
 -- a token is taken
@@ -57,13 +57,13 @@ advance ns next t stack None = None
 advance ns next t [] (Some vs) = None
 advance ns next t (s ∷ stack) (Some vs) =
     elim (choice_of s (is_type ns t.kind) t.kind) [
-      Refuse ↦ None
-    | Pass before ↦ advance (made_behind s ns next) (next_behind s ns next) t stack (acts before (Some vs))
-    | Take before more ↦
-        elim (acts before (Some vs)) [
-          None ↦ None
-        | Some ws ↦ settle ns (noted s t.kind next) (more ++ stack) (Some (Tok t ∷ ws))
-        ]
+      | Refuse ↦ None
+      | Pass before ↦ advance (made_behind s ns next) (next_behind s ns next) t stack (acts before (Some vs))
+      | Take before more ↦
+          elim (acts before (Some vs)) [
+            | None ↦ None
+            | Some ws ↦ settle ns (noted s t.kind next) (more ++ stack) (Some (Tok t ∷ ws))
+          ]
     ]
 
 -- the end of the text

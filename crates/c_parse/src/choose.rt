@@ -5,8 +5,8 @@ ghost use Rattle.c_lex.specs.Lexeme.{kind_of};
 ghost use Rattle.c_parse.specs.Follows.{Follows};
 ghost use Rattle.c_parse.specs.Choice.{choice_of, only_if, take};
 
-use c_lex::{Keyword, Punct, TokenKind};
 use crate::symbol::Symbol;
+use c_lex::{Keyword, Punct, TokenKind};
 use std::alloc::AllocError;
 
 mod expressions;
@@ -54,22 +54,39 @@ fn expect(same: bool) -> Answer
 
 /// What a symbol makes of a token; `typed` says that it is a name which a typedef made.
 #[tactic(auto, unfolding(crate::specs::Choice::choice_of))]
-pub(crate) fn choose(stack: &mut Vec<Symbol>, symbol: Symbol, typed: bool, kind: &TokenKind) -> Result<Answer, AllocError>
+pub(crate) fn choose(
+    stack: &mut Vec<Symbol>,
+    symbol: Symbol,
+    typed: bool,
+    kind: &TokenKind,
+) -> Result<Answer, AllocError>
     ensures { IfOk result (λ answer. Follows (choice_of symbol typed (kind_of kind.now)) answer (reverse stack.old.items) (reverse stack.new.items)) }
 {
     match symbol {
-        Symbol::LeftParenthesis => Ok(expect(matches!(kind, TokenKind::Punct(Punct::LeftParenthesis)))),
-        Symbol::RightParenthesis => Ok(expect(matches!(kind, TokenKind::Punct(Punct::RightParenthesis)))),
+        Symbol::LeftParenthesis => Ok(expect(matches!(
+            kind,
+            TokenKind::Punct(Punct::LeftParenthesis)
+        ))),
+        Symbol::RightParenthesis => Ok(expect(matches!(
+            kind,
+            TokenKind::Punct(Punct::RightParenthesis)
+        ))),
         Symbol::RightBracket => Ok(expect(matches!(kind, TokenKind::Punct(Punct::RightBracket)))),
         Symbol::LeftBrace => Ok(expect(matches!(kind, TokenKind::Punct(Punct::LeftBrace)))),
         Symbol::RightBrace => Ok(expect(matches!(kind, TokenKind::Punct(Punct::RightBrace)))),
         Symbol::Semicolon => Ok(expect(matches!(kind, TokenKind::Punct(Punct::Semicolon)))),
         Symbol::Colon => Ok(expect(matches!(kind, TokenKind::Punct(Punct::Colon)))),
         Symbol::While => Ok(expect(matches!(kind, TokenKind::Keyword(Keyword::While)))),
-        Symbol::Identifier | Symbol::NewName => Ok(expect(matches!(kind, TokenKind::Name(_)) && !typed)),
-        Symbol::Expression(bodies, wanted) => expressions::operand(stack, bodies, wanted, typed, kind),
+        Symbol::Identifier | Symbol::NewName => Ok(expect(
+            matches!(kind, TokenKind::Name(_)) && !typed,
+        )),
+        Symbol::Expression(bodies, wanted) => expressions::operand(
+            stack, bodies, wanted, typed, kind,
+        ),
         Symbol::Open(bodies, wanted) => expressions::opened(stack, bodies, wanted, typed, kind),
-        Symbol::Tail(bodies, wanted, reached) => expressions::tail(stack, bodies, wanted, reached, kind),
+        Symbol::Tail(bodies, wanted, reached) => expressions::tail(
+            stack, bodies, wanted, reached, kind,
+        ),
         Symbol::Arguments(bodies) => expressions::arguments(stack, bodies, typed, kind),
         Symbol::ArgumentsMore(bodies) => expressions::arguments_more(stack, bodies, kind),
         Symbol::Words(bodies, seen) => types::words(stack, bodies, seen, typed, kind),

@@ -6,9 +6,9 @@ ghost use Rattle.c_lex.specs.Lexeme.{Lexeme};
 ghost use Rattle.c_parse.specs.Tree.{External};
 ghost use Rattle.c_parse.specs.Spells.{Spells};
 
-pub mod operator;
 mod choose;
 mod names;
+pub mod operator;
 mod recogniser;
 mod symbol;
 
@@ -19,5 +19,7 @@ pub use recogniser::recognise;
 #[tactic(auto, using(crate::proofs::Texts::one_tree))]
 pub fn one_tree()
     ensures { (u v : List External) (s : List Lexeme) → Spells u s → Spells v s → u ≡ v }
-{
-}
+{}
+
+#[cfg(test)]
+mod tests;

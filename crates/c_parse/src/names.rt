@@ -6,8 +6,8 @@ ghost use Rattle.c_parse.specs.Names.{made_of, next_of};
 ghost use Rattle.c_parse.specs.Operators as operators;
 ghost use Rattle.c_parse.specs.Stack as stack;
 
-use c_lex::TokenKind;
 use crate::symbol::Symbol;
+use c_lex::TokenKind;
 use std::alloc::{AllocError, Global};
 
 /// The names that typedefs made, and those that the present external declares.

@@ -8,10 +8,10 @@ ghost use Rattle.c_parse.specs.Names.{made_of, next_of};
 ghost use Rattle.c_parse.specs.Accepts as machine;
 ghost use Rattle.c_parse.specs.Stack as machine_stack;
 
-use c_lex::{Token, TokenKind};
 use crate::choose::{Answer, choose};
 use crate::names::Names;
 use crate::symbol::Symbol;
+use c_lex::{Token, TokenKind};
 use std::alloc::{AllocError, Global};
 
 /// Takes away the ends of productions on top of the stack.
@@ -36,7 +36,11 @@ fn is_complete(mut stack: Vec<Symbol>) -> bool
 }
 
 /// Takes one token. `false` where it can't stand here.
-fn advance<'a>(stack: &mut Vec<Symbol>, names: &mut Names<'a>, token: &'a Token) -> Result<bool, AllocError>
+fn advance<'a>(
+    stack: &mut Vec<Symbol>,
+    names: &mut Names<'a>,
+    token: &'a Token,
+) -> Result<bool, AllocError>
     ensures { IfOk result (λ yes. MatchOption (machine.forward (made_of (map (λ name. name.now) names.old.all.items) names.old.made) (next_of (map (λ name. name.now) names.old.all.items)) (lexeme_of token.now) (reverse stack.old.items)) (yes ≡ false)
         (λ stage. (yes ≡ true) × (reverse stack.new.items ≡ stage.stack) × (made_of (map (λ name. name.now) names.new.all.items) names.new.made ≡ stage.made) × (next_of (map (λ name. name.now) names.new.all.items) ≡ stage.next))) }
 {

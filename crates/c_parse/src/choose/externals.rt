@@ -6,19 +6,32 @@ ghost use Rattle.c_parse.specs.Follows.{Follows};
 ghost use Rattle.c_parse.specs.Choice as choice;
 ghost use Rattle.c_parse.specs.Operators as operators;
 
-use super::{Answer, push_all, take};
-use c_lex::{Keyword, Punct, TokenKind};
-use crate::symbol::{Production, Seen, Symbol, Wanted};
 use super::expressions::operand;
 use super::types::words;
+use super::{Answer, push_all, take};
+use crate::symbol::{Production, Seen, Symbol, Wanted};
+use c_lex::{Keyword, Punct, TokenKind};
 use std::alloc::AllocError;
 
 /// Externals, up to the end of the text.
-pub(super) fn externals(stack: &mut Vec<Symbol>, typed: bool, kind: &TokenKind) -> Result<Answer, AllocError>
+pub(super) fn externals(
+    stack: &mut Vec<Symbol>,
+    typed: bool,
+    kind: &TokenKind,
+) -> Result<Answer, AllocError>
     ensures { IfOk result (λ answer. Follows (choice.externals typed (kind_of kind.now)) answer (reverse stack.old.items) (reverse stack.new.items)) }
 {
     match kind {
-        TokenKind::Keyword(Keyword::Typedef) => take(stack, &[Symbol::Words(true, Seen::Nothing), Symbol::Tops(true), Symbol::Made(true), Symbol::Externals, Symbol::End(Production::MoreExternals)]),
+        TokenKind::Keyword(Keyword::Typedef) => take(
+            stack,
+            &[
+                Symbol::Words(true, Seen::Nothing),
+                Symbol::Tops(true),
+                Symbol::Made(true),
+                Symbol::Externals,
+                Symbol::End(Production::MoreExternals),
+            ],
+        ),
         _ => external(stack, typed, kind),
     }
 }
@@ -27,7 +40,15 @@ pub(super) fn externals(stack: &mut Vec<Symbol>, typed: bool, kind: &TokenKind) 
 fn external(stack: &mut Vec<Symbol>, typed: bool, kind: &TokenKind) -> Result<Answer, AllocError>
     ensures { IfOk result (λ answer. Follows (choice.and_then (choice.words true Seen.Nothing typed (kind_of kind.now)) (Symbol.Tops false ∷ Symbol.Made false ∷ Symbol.Externals ∷ choice.end Production.MoreExternals ∷ [])) answer (reverse stack.old.items) (reverse stack.new.items)) }
 {
-    push_all(stack, &[Symbol::Tops(false), Symbol::Made(false), Symbol::Externals, Symbol::End(Production::MoreExternals)])?;
+    push_all(
+        stack,
+        &[
+            Symbol::Tops(false),
+            Symbol::Made(false),
+            Symbol::Externals,
+            Symbol::End(Production::MoreExternals),
+        ],
+    )?;
     let answer = words(stack, true, Seen::Nothing, typed, kind)?;
     Ok(answer)
 }
@@ -37,39 +58,80 @@ fn first_top(stack: &mut Vec<Symbol>, typedef: bool) -> Result<(), AllocError>
     ensures { IfOk result (λ _. reverse stack.new.items ≡ choice.first_top typedef ++ reverse stack.old.items) }
 {
     if typedef {
-        push_all(stack, &[Symbol::TopParameters, Symbol::TopValue, Symbol::End(Production::Top), Symbol::TopMore, Symbol::End(Production::Declaration(true))])
+        push_all(
+            stack,
+            &[
+                Symbol::TopParameters,
+                Symbol::TopValue,
+                Symbol::End(Production::Top),
+                Symbol::TopMore,
+                Symbol::End(Production::Declaration(true)),
+            ],
+        )
     } else {
         push_all(stack, &[Symbol::FirstParameters])
     }
 }
 
 /// What follows the specifiers of an external.
-pub(super) fn tops(stack: &mut Vec<Symbol>, typedef: bool, typed: bool, kind: &TokenKind) -> Result<Answer, AllocError>
+pub(super) fn tops(
+    stack: &mut Vec<Symbol>,
+    typedef: bool,
+    typed: bool,
+    kind: &TokenKind,
+) -> Result<Answer, AllocError>
     ensures { IfOk result (λ answer. Follows (choice.tops typedef typed (kind_of kind.now)) answer (reverse stack.old.items) (reverse stack.new.items)) }
 {
     match kind {
-        TokenKind::Punct(Punct::Semicolon) => take(stack, &[Symbol::End(Production::NoTops), Symbol::End(Production::Declaration(typedef))]),
+        TokenKind::Punct(Punct::Semicolon) => take(
+            stack,
+            &[
+                Symbol::End(Production::NoTops),
+                Symbol::End(Production::Declaration(typedef)),
+            ],
+        ),
         TokenKind::Punct(Punct::Star) => {
- first_top(stack, typedef)?;
- take(stack, &[Symbol::Stars(true), Symbol::End(Production::MoreStars), Symbol::NewName, Symbol::Dimensions(true), Symbol::End(Production::Declarator)])
- },
+            first_top(stack, typedef)?;
+            take(
+                stack,
+                &[
+                    Symbol::Stars(true),
+                    Symbol::End(Production::MoreStars),
+                    Symbol::NewName,
+                    Symbol::Dimensions(true),
+                    Symbol::End(Production::Declarator),
+                ],
+            )
+        },
         TokenKind::Name(_) => {
- if typed {
- return Ok(Answer::Refused);
- }
- first_top(stack, typedef)?;
- take(stack, &[Symbol::Dimensions(true), Symbol::End(Production::Declarator)])
- },
+            if typed {
+                return Ok(Answer::Refused);
+            }
+            first_top(stack, typedef)?;
+            take(
+                stack,
+                &[
+                    Symbol::Dimensions(true),
+                    Symbol::End(Production::Declarator),
+                ],
+            )
+        },
         _ => Ok(Answer::Refused),
     }
 }
 
 /// The parameters of a declarator, or none.
-pub(super) fn top_parameters(stack: &mut Vec<Symbol>, kind: &TokenKind) -> Result<Answer, AllocError>
+pub(super) fn top_parameters(
+    stack: &mut Vec<Symbol>,
+    kind: &TokenKind,
+) -> Result<Answer, AllocError>
     ensures { IfOk result (λ answer. Follows (choice.top_parameters (kind_of kind.now)) answer (reverse stack.old.items) (reverse stack.new.items)) }
 {
     match kind {
-        TokenKind::Punct(Punct::LeftParenthesis) => take(stack, &[Symbol::Parameters, Symbol::End(Production::SomeParameters)]),
+        TokenKind::Punct(Punct::LeftParenthesis) => take(
+            stack,
+            &[Symbol::Parameters, Symbol::End(Production::SomeParameters)],
+        ),
         _ => Ok(Answer::Passed),
     }
 }
@@ -79,7 +141,13 @@ pub(super) fn top_value(stack: &mut Vec<Symbol>, kind: &TokenKind) -> Result<Ans
     ensures { IfOk result (λ answer. Follows (choice.top_value (kind_of kind.now)) answer (reverse stack.old.items) (reverse stack.new.items)) }
 {
     match kind {
-        TokenKind::Punct(Punct::Equal) => take(stack, &[Symbol::Expression(true, Wanted::Level(0)), Symbol::End(Production::SomeValue)]),
+        TokenKind::Punct(Punct::Equal) => take(
+            stack,
+            &[
+                Symbol::Expression(true, Wanted::Level(0)),
+                Symbol::End(Production::SomeValue),
+            ],
+        ),
         _ => Ok(Answer::Passed),
     }
 }
@@ -89,7 +157,20 @@ pub(super) fn top_more(stack: &mut Vec<Symbol>, kind: &TokenKind) -> Result<Answ
     ensures { IfOk result (λ answer. Follows (choice.top_more (kind_of kind.now)) answer (reverse stack.old.items) (reverse stack.new.items)) }
 {
     match kind {
-        TokenKind::Punct(Punct::Comma) => take(stack, &[Symbol::Stars(false), Symbol::NewName, Symbol::Dimensions(true), Symbol::End(Production::Declarator), Symbol::TopParameters, Symbol::TopValue, Symbol::End(Production::Top), Symbol::TopMore, Symbol::End(Production::MoreTops)]),
+        TokenKind::Punct(Punct::Comma) => take(
+            stack,
+            &[
+                Symbol::Stars(false),
+                Symbol::NewName,
+                Symbol::Dimensions(true),
+                Symbol::End(Production::Declarator),
+                Symbol::TopParameters,
+                Symbol::TopValue,
+                Symbol::End(Production::Top),
+                Symbol::TopMore,
+                Symbol::End(Production::MoreTops),
+            ],
+        ),
         TokenKind::Punct(Punct::Semicolon) => take(stack, &[Symbol::End(Production::LastTop)]),
         _ => Ok(Answer::Refused),
     }
@@ -101,19 +182,58 @@ fn first_value(stack: &mut Vec<Symbol>, kind: &TokenKind) -> Result<Answer, Allo
     ensures some { IfOk result (λ answer. Follows (choice.first_value [] (kind_of kind.now)) answer (reverse stack.old.items) (reverse stack.new.items)) }
 {
     match kind {
-        TokenKind::Punct(Punct::Equal) => take(stack, &[Symbol::Expression(true, Wanted::Level(0)), Symbol::End(Production::SomeValue), Symbol::End(Production::Top), Symbol::TopMore, Symbol::End(Production::Declaration(false))]),
-        TokenKind::Punct(Punct::Comma) => take(stack, &[Symbol::Stars(false), Symbol::NewName, Symbol::Dimensions(true), Symbol::End(Production::Declarator), Symbol::TopParameters, Symbol::TopValue, Symbol::End(Production::Top), Symbol::TopMore, Symbol::End(Production::MoreTops), Symbol::End(Production::Declaration(false))]),
-        TokenKind::Punct(Punct::Semicolon) => take(stack, &[Symbol::End(Production::LastTop), Symbol::End(Production::Declaration(false))]),
+        TokenKind::Punct(Punct::Equal) => take(
+            stack,
+            &[
+                Symbol::Expression(true, Wanted::Level(0)),
+                Symbol::End(Production::SomeValue),
+                Symbol::End(Production::Top),
+                Symbol::TopMore,
+                Symbol::End(Production::Declaration(false)),
+            ],
+        ),
+        TokenKind::Punct(Punct::Comma) => take(
+            stack,
+            &[
+                Symbol::Stars(false),
+                Symbol::NewName,
+                Symbol::Dimensions(true),
+                Symbol::End(Production::Declarator),
+                Symbol::TopParameters,
+                Symbol::TopValue,
+                Symbol::End(Production::Top),
+                Symbol::TopMore,
+                Symbol::End(Production::MoreTops),
+                Symbol::End(Production::Declaration(false)),
+            ],
+        ),
+        TokenKind::Punct(Punct::Semicolon) => take(
+            stack,
+            &[
+                Symbol::End(Production::LastTop),
+                Symbol::End(Production::Declaration(false)),
+            ],
+        ),
         _ => Ok(Answer::Refused),
     }
 }
 
 /// What follows the first declarator of an external that may be a function.
-pub(super) fn first_parameters(stack: &mut Vec<Symbol>, kind: &TokenKind) -> Result<Answer, AllocError>
+pub(super) fn first_parameters(
+    stack: &mut Vec<Symbol>,
+    kind: &TokenKind,
+) -> Result<Answer, AllocError>
     ensures { IfOk result (λ answer. Follows (choice.first_parameters (kind_of kind.now)) answer (reverse stack.old.items) (reverse stack.new.items)) }
 {
     match kind {
-        TokenKind::Punct(Punct::LeftParenthesis) => take(stack, &[Symbol::Parameters, Symbol::End(Production::SomeParameters), Symbol::FirstRest]),
+        TokenKind::Punct(Punct::LeftParenthesis) => take(
+            stack,
+            &[
+                Symbol::Parameters,
+                Symbol::End(Production::SomeParameters),
+                Symbol::FirstRest,
+            ],
+        ),
         _ => first_value(stack, kind),
     }
 }
@@ -123,53 +243,108 @@ pub(super) fn first_rest(stack: &mut Vec<Symbol>, kind: &TokenKind) -> Result<An
     ensures { IfOk result (λ answer. Follows (choice.first_rest (kind_of kind.now)) answer (reverse stack.old.items) (reverse stack.new.items)) }
 {
     match kind {
-        TokenKind::Punct(Punct::LeftBrace) => take(stack, &[Symbol::Items, Symbol::RightBrace, Symbol::End(Production::Function)]),
+        TokenKind::Punct(Punct::LeftBrace) => take(
+            stack,
+            &[
+                Symbol::Items,
+                Symbol::RightBrace,
+                Symbol::End(Production::Function),
+            ],
+        ),
         _ => first_value(stack, kind),
     }
 }
 
 /// What follows the `(` of parameters.
-pub(super) fn parameters(stack: &mut Vec<Symbol>, typed: bool, kind: &TokenKind) -> Result<Answer, AllocError>
+pub(super) fn parameters(
+    stack: &mut Vec<Symbol>,
+    typed: bool,
+    kind: &TokenKind,
+) -> Result<Answer, AllocError>
     ensures { IfOk result (λ answer. Follows (choice.parameters typed (kind_of kind.now)) answer (reverse stack.old.items) (reverse stack.new.items)) }
 {
     match kind {
-        TokenKind::Punct(Punct::RightParenthesis) => take(stack, &[Symbol::End(Production::EmptyParameters)]),
+        TokenKind::Punct(Punct::RightParenthesis) => take(
+            stack,
+            &[Symbol::End(Production::EmptyParameters)],
+        ),
         _ => first_parameter(stack, typed, kind),
     }
 }
 
 /// The first parameter, and further ones.
-fn first_parameter(stack: &mut Vec<Symbol>, typed: bool, kind: &TokenKind) -> Result<Answer, AllocError>
+fn first_parameter(
+    stack: &mut Vec<Symbol>,
+    typed: bool,
+    kind: &TokenKind,
+) -> Result<Answer, AllocError>
     ensures { IfOk result (λ answer. Follows (choice.and_then (choice.words false Seen.Nothing typed (kind_of kind.now)) (choice.parameter_rest [])) answer (reverse stack.old.items) (reverse stack.new.items)) }
 {
-    push_all(stack, &[Symbol::Stars(false), Symbol::ParameterName, Symbol::ParameterBracket, Symbol::End(Production::Parameter), Symbol::ParametersMore])?;
+    push_all(
+        stack,
+        &[
+            Symbol::Stars(false),
+            Symbol::ParameterName,
+            Symbol::ParameterBracket,
+            Symbol::End(Production::Parameter),
+            Symbol::ParametersMore,
+        ],
+    )?;
     let answer = words(stack, false, Seen::Nothing, typed, kind)?;
     Ok(answer)
 }
 
 /// `,` and further parameters, or `)`.
-pub(super) fn parameters_more(stack: &mut Vec<Symbol>, kind: &TokenKind) -> Result<Answer, AllocError>
+pub(super) fn parameters_more(
+    stack: &mut Vec<Symbol>,
+    kind: &TokenKind,
+) -> Result<Answer, AllocError>
     ensures { IfOk result (λ answer. Follows (choice.parameters_more (kind_of kind.now)) answer (reverse stack.old.items) (reverse stack.new.items)) }
 {
     match kind {
-        TokenKind::Punct(Punct::Comma) => take(stack, &[Symbol::Words(false, Seen::Nothing), Symbol::Stars(false), Symbol::ParameterName, Symbol::ParameterBracket, Symbol::End(Production::Parameter), Symbol::ParametersMore, Symbol::End(Production::MoreParameters)]),
-        TokenKind::Punct(Punct::RightParenthesis) => take(stack, &[Symbol::End(Production::LastParameter)]),
+        TokenKind::Punct(Punct::Comma) => take(
+            stack,
+            &[
+                Symbol::Words(false, Seen::Nothing),
+                Symbol::Stars(false),
+                Symbol::ParameterName,
+                Symbol::ParameterBracket,
+                Symbol::End(Production::Parameter),
+                Symbol::ParametersMore,
+                Symbol::End(Production::MoreParameters),
+            ],
+        ),
+        TokenKind::Punct(Punct::RightParenthesis) => take(
+            stack,
+            &[Symbol::End(Production::LastParameter)],
+        ),
         _ => Ok(Answer::Refused),
     }
 }
 
 /// The name of a parameter, or none.
-pub(super) fn parameter_name(stack: &mut Vec<Symbol>, typed: bool, kind: &TokenKind) -> Result<Answer, AllocError>
+pub(super) fn parameter_name(
+    stack: &mut Vec<Symbol>,
+    typed: bool,
+    kind: &TokenKind,
+) -> Result<Answer, AllocError>
     ensures { IfOk result (λ answer. Follows (choice.parameter_name typed (kind_of kind.now)) answer (reverse stack.old.items) (reverse stack.new.items)) }
 {
     match kind {
-        TokenKind::Name(_) => if typed { Ok(Answer::Passed) } else { take(stack, &[Symbol::End(Production::ParameterName)]) },
+        TokenKind::Name(_) => if typed {
+            Ok(Answer::Passed)
+        } else {
+            take(stack, &[Symbol::End(Production::ParameterName)])
+        },
         _ => Ok(Answer::Passed),
     }
 }
 
 /// The brackets of a parameter, or none.
-pub(super) fn parameter_bracket(stack: &mut Vec<Symbol>, kind: &TokenKind) -> Result<Answer, AllocError>
+pub(super) fn parameter_bracket(
+    stack: &mut Vec<Symbol>,
+    kind: &TokenKind,
+) -> Result<Answer, AllocError>
     ensures { IfOk result (λ answer. Follows (choice.parameter_bracket (kind_of kind.now)) answer (reverse stack.old.items) (reverse stack.new.items)) }
 {
     match kind {
@@ -179,21 +354,34 @@ pub(super) fn parameter_bracket(stack: &mut Vec<Symbol>, kind: &TokenKind) -> Re
 }
 
 /// What follows the `[` of a parameter.
-pub(super) fn bracket_rest(stack: &mut Vec<Symbol>, typed: bool, kind: &TokenKind) -> Result<Answer, AllocError>
+pub(super) fn bracket_rest(
+    stack: &mut Vec<Symbol>,
+    typed: bool,
+    kind: &TokenKind,
+) -> Result<Answer, AllocError>
     ensures { IfOk result (λ answer. Follows (choice.bracket_rest typed (kind_of kind.now)) answer (reverse stack.old.items) (reverse stack.new.items)) }
 {
     match kind {
-        TokenKind::Punct(Punct::RightBracket) => take(stack, &[Symbol::End(Production::OpenBracket)]),
+        TokenKind::Punct(Punct::RightBracket) => take(
+            stack,
+            &[Symbol::End(Production::OpenBracket)],
+        ),
         _ => bracket_length(stack, typed, kind),
     }
 }
 
 /// An array length and `]`.
-fn bracket_length(stack: &mut Vec<Symbol>, typed: bool, kind: &TokenKind) -> Result<Answer, AllocError>
+fn bracket_length(
+    stack: &mut Vec<Symbol>,
+    typed: bool,
+    kind: &TokenKind,
+) -> Result<Answer, AllocError>
     ensures { IfOk result (λ answer. Follows (choice.and_then (choice.operand false (Wanted.Level 0) typed (kind_of kind.now)) (Symbol.RightBracket ∷ choice.end Production.SizedBracket ∷ [])) answer (reverse stack.old.items) (reverse stack.new.items)) }
 {
-    push_all(stack, &[Symbol::RightBracket, Symbol::End(Production::SizedBracket)])?;
+    push_all(
+        stack,
+        &[Symbol::RightBracket, Symbol::End(Production::SizedBracket)],
+    )?;
     let answer = operand(stack, false, Wanted::Level(0), typed, kind)?;
     Ok(answer)
 }
-
