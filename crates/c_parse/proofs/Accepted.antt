@@ -1,6 +1,6 @@
 -- The parser says yes exactly where some tree spells the tokens.
-use Rattle.std.proofs.Common.{ℕ, ◌≡◌, Bool, true, false, List, [], ◌∷◌, ◌++◌, Option, Some, None, refl, sym, ap, ◌∙◌, subst}
-use Rattle.c_lex.specs.Lexeme.{Lexeme, Kind}
+use Rattle.std.proofs.Common.{◌≡◌, true, false, List, [], ◌∷◌, ◌++◌, Option, Some, None, refl, subst}
+use Rattle.c_lex.specs.Lexeme.{Lexeme}
 use Rattle.c_parse.specs.declared.symbol.Production.{Production}
 use Rattle.c_parse.specs.declared.symbol.Symbol.{Symbol}
 use Rattle.c_parse.specs.declared.symbol.Symbol.TheVariants as symbol
@@ -9,10 +9,10 @@ use Rattle.c_parse.specs.Spells as spells
 use Rattle.c_parse.specs.Spells.{SpellsUnit, Spells}
 use Rattle.c_parse.specs.Choice.{Choice, Refuse, Pass, Take, choice_of}
 use Rattle.c_parse.specs.Build.{Value, Tok, OfUnit, act, acts}
-use Rattle.c_parse.specs.Stack.{State, go, read, run, settle, advance, finish, is_type, noted, made_behind, next_behind, ended}
+use Rattle.c_parse.specs.Stack.{State, go, read, run, settle, advance, finish, is_type, noted, made_behind, next_behind}
 use Rattle.c_parse.specs.Accepts.{Stage, drop_ends, forward, is_complete, accepts, first_stage}
 use Rattle.c_parse.proofs.Reading.{false≢true}
-use Rattle.c_parse.proofs.Means.{Means, plain, made_true, made_false, externals, same, All, nil, cons, Sound, parts}
+use Rattle.c_parse.proofs.Means.{plain, made_true, made_false, externals, same, All, nil, cons, Sound, parts}
 use Rattle.c_parse.proofs.Sound.{sound}
 use Rattle.c_parse.proofs.Texts.{is_read}
 

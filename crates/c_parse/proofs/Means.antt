@@ -1,24 +1,22 @@
 -- What each symbol of the parser's stack means: which tokens it stands for. A symbol that goes on with something, as the
 -- operator behind an operand, means that whatever stood before, the two together are spelled.
-use Rattle.std.proofs.Common.{ℕ, ◌≡◌, ◌+◌, ◌-◌, ◌≤◌, Bool, true, false, if◌then◌else◌, List, [], ◌∷◌, ◌++◌, Option, Some, None, zero, suc, nat_le, refl, sym, ap, ◌∙◌, subst, arith, leb}
-use Rattle.std.proofs.lemmas.Bool.{leb-true, le-leb}
+use Rattle.std.proofs.Common.{ℕ, ◌≡◌, ◌+◌, ◌-◌, Bool, true, false, if◌then◌else◌, List, [], ◌∷◌, ◌++◌, Option, zero, suc, nat_le, refl, subst, arith}
+use Rattle.std.proofs.lemmas.Bool.{leb-true}
 use Rattle.c_lex.specs.declared.token.Keyword.{Keyword}
 use Rattle.c_lex.specs.declared.token.Keyword.TheVariants as word
 use Rattle.c_lex.specs.declared.token.Punct.{Punct}
 use Rattle.c_lex.specs.declared.token.Punct.TheVariants as sign
-use Rattle.c_lex.specs.Lexeme.{Lexeme, Kind, name, keyword, punct, character, number}
-use Rattle.c_parse.specs.declared.symbol.Seen.{Seen}
+use Rattle.c_lex.specs.Lexeme.{Lexeme, Kind, keyword}
 use Rattle.c_parse.specs.declared.symbol.Seen.TheVariants as seen
 use Rattle.c_parse.specs.declared.symbol.Wanted.{Wanted}
 use Rattle.c_parse.specs.declared.symbol.Wanted.TheVariants as wanted
 use Rattle.c_parse.specs.declared.symbol.Symbol.{Symbol}
 use Rattle.c_parse.specs.declared.symbol.Symbol.TheVariants as symbol
-use Rattle.c_parse.specs.Tree as tree
-use Rattle.c_parse.specs.Tree.{Name, Exp, TypeName, Words, Members, Declarators, Declarator, Dimensions, Enumerators, Enumerator, Call, Rhs, Simple, Init, Local, Label, Start, Stmt, Items, Groups, Bracket, Param, Top, External}
+use Rattle.c_parse.specs.Tree.{Name, Exp, Words, Members, Declarators, Declarator, Dimensions, Enumerators, Enumerator, Rhs, Simple, Init, Label, Start, Stmt, Items, Groups, Bracket, Param, Top, External}
 use Rattle.c_parse.specs.Operators.{is_made}
 use Rattle.c_parse.specs.Spells as spells
 use Rattle.c_parse.specs.Spells.{token, named, mark, reserved, names_of, names_after, SpellsStars, SpellsExp, SpellsType, SpellsWords, SpellsMembers, SpellsDeclarators, SpellsDeclarator, SpellsDimensions, SpellsEnumerators, SpellsEnumerator, SpellsExps, SpellsArguments, SpellsCall, SpellsRhs, SpellsSimple, SpellsInit, SpellsInits, SpellsLocal, SpellsLabel, SpellsLabels, SpellsStart, SpellsTest, SpellsStep, SpellsStmt, SpellsItems, SpellsGroups, SpellsBracket, SpellsParam, SpellsParams, SpellsParameters, SpellsTop, SpellsTops, SpellsDeclared, SpellsExternal, SpellsUnit}
-use Rattle.c_parse.specs.Choice.{Choice, Refuse, Pass, Take, take, least, and_then, only_if}
+use Rattle.c_parse.specs.Choice.{Choice, Refuse, Pass, Take, least, and_then, only_if}
 use Rattle.c_parse.specs.Stack.{noted, made_behind, next_behind}
 
 pub data IsMark (p : Punct) : List Lexeme → List Lexeme → Type 0 where

@@ -1,17 +1,14 @@
 -- What a tree spells is read as that tree.
-use Rattle.std.proofs.Common.{append_assoc, ℕ, ◌≡◌, Bool, true, false, List, [], ◌∷◌, ◌++◌, Option, Some, None, suc, nat_le, ◌&&◌, not, refl, sym, ap, ◌∙◌, arith, leb, rules}
+use Rattle.std.proofs.Common.{append_assoc, ℕ, ◌≡◌, Bool, true, false, List, [], ◌∷◌, ◌++◌, Option, Some, None, suc, nat_le, ◌&&◌, not, refl, sym, ap, ◌∙◌, arith}
 use Rattle.std.proofs.lemmas.Bool.{leb-true, le-leb, leb-false, lt-leb}
 use Rattle.c_lex.specs.declared.token.Keyword.TheVariants as word
 use Rattle.c_lex.specs.declared.token.Keyword.{Keyword}
-use Rattle.c_lex.specs.declared.token.Punct.{Punct}
 use Rattle.c_lex.specs.declared.token.Punct.TheVariants as sign
-use Rattle.c_lex.specs.Lexeme.{Lexeme, Kind, name, keyword, punct, character, number}
+use Rattle.c_lex.specs.Lexeme.{Lexeme, Kind, name, keyword, punct}
 use Rattle.c_parse.specs.declared.operator.UnaryOperator.{UnaryOperator}
 use Rattle.c_parse.specs.declared.operator.UnaryOperator.TheVariants as unary
 use Rattle.c_parse.specs.declared.operator.BinaryOperator.{BinaryOperator}
 use Rattle.c_parse.specs.declared.operator.BinaryOperator.TheVariants as binary
-use Rattle.c_parse.specs.declared.operator.StepOperator.{StepOperator}
-use Rattle.c_parse.specs.declared.operator.StepOperator.TheVariants as step
 use Rattle.c_parse.specs.declared.symbol.Seen.{Seen}
 use Rattle.c_parse.specs.declared.symbol.Seen.TheVariants as seen
 use Rattle.c_parse.specs.declared.symbol.Wanted.{Wanted}
@@ -22,11 +19,11 @@ use Rattle.c_parse.specs.declared.symbol.Symbol.{Symbol}
 use Rattle.c_parse.specs.declared.symbol.Symbol.TheVariants as symbol
 use Rattle.c_parse.specs.Tree as tree
 use Rattle.c_parse.specs.Tree.{Name, Exp, TypeName, Words, Members, Declarators, Declarator, Dimensions, Enumerators, Enumerator, Call, Rhs, Simple, Init, Local, Label, Start, Stmt, Items, Groups, Bracket, Param, Top, External}
-use Rattle.c_parse.specs.Operators.{unary_sign, binary_sign, update_of, step_sign, level, add, complete, is_made}
+use Rattle.c_parse.specs.Operators.{unary_sign, binary_sign, level, add, complete, is_made}
 use Rattle.c_parse.specs.Spells.{SpellsExp, SpellsType, SpellsWords, SpellsStars, SpellsMembers, SpellsDeclarators, SpellsDeclarator, SpellsDimensions, SpellsEnumerators, SpellsEnumerator, looser, variable, number_constant, character_constant, parenthesis, index, member, pointer_member, unary, sizeof_value, sizeof_type, cast, binary, conditional, typed, no_words, plain_word, type_name, struct_tag, struct_body, tagged_struct, enum_tag, enum_body, tagged_enum, last_member, more_members, last_declarator, more_declarators, declare, no_dimensions, more_dimensions, last_enumerator, last_enumerator_comma, more_enumerators, implicit, explicit, no_stars, star, star_const, named, mark, reserved}
-use Rattle.c_parse.specs.Choice.{Choice, Refuse, Pass, Take, choice_of, least, starts_type, tail, tail_end, operand, expression, end, unary_choice, binary_choice, suffix_choice, question_choice, declarator, words, stars, dimensions, struct_body as struct_choice, enum_body as enum_choice, enum_value, members_more, word_choice, pass_words, and_then, only_if, may_open_type, open_rest}
+use Rattle.c_parse.specs.Choice.{Choice, Refuse, Pass, Take, choice_of, least, starts_type, tail, tail_end, operand, expression, end, unary_choice, binary_choice, declarator, words, stars, dimensions, struct_body as struct_choice, enum_body as enum_choice, enum_value, members_more, word_choice, pass_words, and_then, only_if, may_open_type, open_rest}
 use Rattle.c_parse.specs.Build.{Value, Tok, OfExp, OfType, OfWord, OfWords, OfMembers, OfDeclarators, OfDeclarator, OfDimensions, OfStars, OfEnumerators, OfEnumerator, act, acts, name_in}
-use Rattle.c_parse.specs.Stack.{State, go, run, advance, settle, finish, is_type, made_behind, next_behind, ended, noted}
+use Rattle.c_parse.specs.Stack.{go, run, advance, settle, is_type, made_behind, next_behind, noted}
 
 -- settling is what the next token would do first
 pub settled : (ns next : List Name) (stack : List Symbol) (vs : Option (List Value)) (x : Lexeme) (t : List Lexeme) → run (settle ns next stack vs) (x ∷ t) ≡ run (advance ns next x stack vs) t

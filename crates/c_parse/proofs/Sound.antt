@@ -1,5 +1,5 @@
 -- Each choice of the parser keeps what its stack means.
-use Rattle.std.proofs.Common.{ℕ, ◌≡◌, Bool, true, false, if◌then◌else◌, ◌&&◌, ◌==◌, List, [], ◌∷◌, ◌++◌, Option, Some, None, suc, nat_le, refl, sym, ap, ◌∙◌, subst, arith}
+use Rattle.std.proofs.Common.{ℕ, ◌≡◌, Bool, true, false, ◌&&◌, ◌==◌, List, [], ◌∷◌, Option, Some, None, suc, nat_le, refl, sym, ap, ◌∙◌, subst, arith}
 use Rattle.std.proofs.lemmas.Bool.{leb-true, le-leb, eqb-true}
 use Rattle.c_lex.specs.declared.token.Keyword.{Keyword}
 use Rattle.c_lex.specs.declared.token.Keyword.TheVariants as word
@@ -10,7 +10,6 @@ use Rattle.c_parse.specs.declared.operator.UnaryOperator.{UnaryOperator}
 use Rattle.c_parse.specs.declared.operator.UnaryOperator.TheVariants as unary
 use Rattle.c_parse.specs.declared.operator.BinaryOperator.{BinaryOperator}
 use Rattle.c_parse.specs.declared.operator.BinaryOperator.TheVariants as binary
-use Rattle.c_parse.specs.declared.operator.StepOperator.{StepOperator}
 use Rattle.c_parse.specs.declared.operator.StepOperator.TheVariants as step
 use Rattle.c_parse.specs.declared.symbol.Seen.{Seen}
 use Rattle.c_parse.specs.declared.symbol.Seen.TheVariants as seen

@@ -1,7 +1,6 @@
 -- What a statement spells is read as that statement.
-use Rattle.std.proofs.Common.{append_assoc, ℕ, ◌≡◌, Bool, true, false, List, [], ◌∷◌, ◌++◌, Option, Some, None, suc, nat_le, ◌&&◌, not, refl, sym, ap, ◌∙◌, arith, leb, rules}
+use Rattle.std.proofs.Common.{ℕ, ◌≡◌, Bool, true, false, List, [], ◌∷◌, ◌++◌, Option, Some, nat_le, not, refl, ap, ◌∙◌}
 use Rattle.c_lex.specs.declared.token.Keyword.TheVariants as word
-use Rattle.c_lex.specs.declared.token.Keyword.{Keyword}
 use Rattle.c_lex.specs.declared.token.Punct.{Punct}
 use Rattle.c_lex.specs.declared.token.Punct.TheVariants as sign
 use Rattle.c_lex.specs.Lexeme.{Lexeme, Kind, name, keyword, punct, character, number}
@@ -12,19 +11,17 @@ use Rattle.c_parse.specs.declared.operator.BinaryOperator.TheVariants as binary_
 use Rattle.c_parse.specs.declared.operator.StepOperator.{StepOperator}
 use Rattle.c_parse.specs.declared.operator.StepOperator.TheVariants as step_op
 use Rattle.c_parse.specs.declared.symbol.Seen.TheVariants as seen
-use Rattle.c_parse.specs.declared.symbol.Wanted.{Wanted}
 use Rattle.c_parse.specs.declared.symbol.Wanted.TheVariants as wanted
-use Rattle.c_parse.specs.declared.symbol.Production.{Production}
 use Rattle.c_parse.specs.declared.symbol.Production.TheVariants as ends
 use Rattle.c_parse.specs.declared.symbol.Symbol.{Symbol}
 use Rattle.c_parse.specs.declared.symbol.Symbol.TheVariants as symbol
 use Rattle.c_parse.specs.Tree as tree
 use Rattle.c_parse.specs.Tree.{Name, Exp, Call, Rhs, Simple, Init, Local, Label, Start, Stmt, Items, Groups}
-use Rattle.c_parse.specs.Operators.{unary_sign, update_of, step_sign, is_made}
+use Rattle.c_parse.specs.Operators.{unary_sign, update_of, step_sign}
 use Rattle.c_parse.specs.Spells as spells
 use Rattle.c_parse.specs.Spells.{named, mark, reserved, SpellsExp, SpellsExps, SpellsArguments, SpellsCall, SpellsRhs, SpellsSimple, SpellsInit, SpellsInits, SpellsLocal, SpellsLabel, SpellsLabels, SpellsStart, SpellsTest, SpellsStep, SpellsStmt, SpellsItems, SpellsGroups}
-use Rattle.c_parse.specs.Choice.{Choice, Refuse, Pass, Take, take, choice_of, least, starts_type, tail, tail_end, operand, expression, end, declarator, words, and_then, only_if, arguments, return_value, for_test, for_start, for_start_rest, for_step, simple, statement, items, items_end, else_part, label, groups, labels, local_rest}
-use Rattle.c_parse.specs.Build.{Value, Tok, OfExp, OfExps, OfCall, OfRhs, OfSimple, OfInit, OfInits, OfLocal, OfLabel, OfLabels, OfStart, OfTest, OfStep, OfStmt, OfItems, OfGroups, act}
+use Rattle.c_parse.specs.Choice.{Choice, Refuse, Pass, Take, take, choice_of, starts_type, tail, tail_end, operand, expression, end, declarator, words, and_then, only_if, arguments, return_value, for_test, for_start, for_start_rest, for_step, simple, statement, items, items_end, else_part, groups, labels, local_rest}
+use Rattle.c_parse.specs.Build.{Value, Tok, OfExp, OfExps, OfRhs, OfSimple, OfInits, OfLocal, OfLabels, OfStart, OfTest, OfStep, OfStmt, OfItems, OfGroups, act}
 use Rattle.c_parse.specs.Stack.{go, is_type, noted}
 use Rattle.c_parse.proofs.Reading.{passes, takes, ended_by, expands, rank, rank_least, needs, needs_kind, starts, false≢true, le_trans, le_zero, closes_zero, tail_nothing, takes_variable, never_passes, operand_takes, first_words_take, value_starts, words_start, ends_words, declarator_ends, reads, reads_words, reads_declarator}
 

@@ -1,25 +1,22 @@
 -- What a text spells is read as its tree, so no text has two trees.
-use Rattle.std.proofs.Common.{append_assoc, ℕ, ◌≡◌, Bool, true, false, List, [], ◌∷◌, ◌++◌, Option, Some, None, suc, nat_le, ◌&&◌, not, refl, sym, ap, ◌∙◌, arith, rules}
+use Rattle.std.proofs.Common.{ℕ, ◌≡◌, Bool, true, false, List, [], ◌∷◌, ◌++◌, Some, None, nat_le, ◌&&◌, not, refl, sym, ◌∙◌}
 use Rattle.c_lex.specs.declared.token.Keyword.TheVariants as word
-use Rattle.c_lex.specs.declared.token.Keyword.{Keyword}
 use Rattle.c_lex.specs.declared.token.Punct.TheVariants as sign
-use Rattle.c_lex.specs.Lexeme.{Lexeme, Kind, name, keyword, punct, character, number}
-use Rattle.c_parse.specs.declared.symbol.Seen.{Seen}
+use Rattle.c_lex.specs.Lexeme.{Lexeme, Kind, name, keyword, punct}
 use Rattle.c_parse.specs.declared.symbol.Seen.TheVariants as seen
 use Rattle.c_parse.specs.declared.symbol.Wanted.TheVariants as wanted
-use Rattle.c_parse.specs.declared.symbol.Production.{Production}
 use Rattle.c_parse.specs.declared.symbol.Production.TheVariants as ends
 use Rattle.c_parse.specs.declared.symbol.Symbol.{Symbol}
 use Rattle.c_parse.specs.declared.symbol.Symbol.TheVariants as symbol
 use Rattle.c_parse.specs.Tree as tree
 use Rattle.c_parse.specs.Tree.{Name, Exp, Words, Declarator, Bracket, Param, Top, External}
-use Rattle.c_parse.specs.Operators.{add, complete, is_made}
+use Rattle.c_parse.specs.Operators.{is_made}
 use Rattle.c_parse.specs.Spells as spells
 use Rattle.c_parse.specs.Spells.{named, mark, reserved, declared, name_of, names_of, names_after, parameters, SpellsExp, SpellsWords, SpellsDeclarator, SpellsStars, SpellsBracket, SpellsParam, SpellsParams, SpellsParameters, SpellsTop, SpellsTops, SpellsDeclared, SpellsExternal, SpellsUnit, Spells}
 use Rattle.c_parse.specs.Choice as choice
 use Rattle.c_parse.specs.Choice.{Choice, Refuse, Pass, Take, take, choice_of, starts_type, operand, expression, end, words, and_then, bracket_rest, parameter_rest, parameter_name, parameter_bracket, top_parameters, top_value, first_top, externals}
-use Rattle.c_parse.specs.Build.{Value, Tok, OfExp, OfWords, OfStars, OfDeclarator, OfBracket, OfParamName, OfParam, OfParams, OfParameters, OfTest, OfTop, OfTops, OfExternal, OfUnit, OfItems, act}
-use Rattle.c_parse.specs.Stack.{go, read, run, finish, is_type, noted, made_behind, next_behind}
+use Rattle.c_parse.specs.Build.{Value, Tok, OfWords, OfStars, OfDeclarator, OfBracket, OfParamName, OfParam, OfParams, OfParameters, OfTest, OfTop, OfTops, OfExternal, OfUnit, act}
+use Rattle.c_parse.specs.Stack.{go, read, finish, is_type, made_behind, next_behind}
 use Rattle.c_parse.proofs.Reading.{passes, takes, ended_by, expands, rank, needs, starts, false≢true, le_zero, le_trans, needs_kind, is_brace, is_star, tail_nothing, operand_takes, first_words_take, words_start, ends_words, ends_stars, ends_dimensions, is_bracket, stars_end, declarator_ends, passes_stars, reads, reads_words, reads_stars, reads_dimensions}
 use Rattle.c_parse.proofs.Statements.{begins_value, value_first, value_begins, reads_items}
 

@@ -1,12 +1,11 @@
 -- The parser as a machine that only says whether the tokens are those of some tree: a stack of symbols that are still to
 -- come, and the names of types: those that were made, and those that will be at the external's end.
-use Rattle.std.specs.Prelude.{ℕ, Bool, true, false, List, [], ◌∷◌, ◌++◌, Option, Some, None}
-use Rattle.c_lex.specs.Lexeme.{Lexeme, Kind}
-use Rattle.c_parse.specs.declared.symbol.Production.{Production}
+use Rattle.std.specs.Prelude.{Bool, true, false, List, [], ◌∷◌, ◌++◌, Option, Some, None}
+use Rattle.c_lex.specs.Lexeme.{Lexeme}
 use Rattle.c_parse.specs.declared.symbol.Symbol.{Symbol}
 use Rattle.c_parse.specs.declared.symbol.Symbol.TheVariants as symbol
 use Rattle.c_parse.specs.Tree.{Name}
-use Rattle.c_parse.specs.Choice.{Choice, Refuse, Pass, Take, choice_of}
+use Rattle.c_parse.specs.Choice.{Refuse, Pass, Take, choice_of}
 use Rattle.c_parse.specs.Stack.{is_type, made_behind, next_behind, noted, ended}
 
 pub record Stage : Type 0 where

@@ -1,18 +1,14 @@
 -- How the trees are built: the values of the symbols that have been read stand on a stack, the last one first, and where a
 -- production ends, its parts are taken from there and its tree is put there.
-use Rattle.std.specs.Prelude.{ℕ, Bool, true, false, List, [], ◌∷◌, ◌++◌, Option, Some, None, suc, cond}
+use Rattle.std.specs.Prelude.{ℕ, true, false, List, [], ◌∷◌, Option, Some, None}
 use Rattle.c_lex.specs.declared.token.Keyword.{Keyword}
 use Rattle.c_lex.specs.declared.token.Keyword.TheVariants as word
-use Rattle.c_lex.specs.Lexeme.{Lexeme, Kind, name, keyword, punct, character, number}
+use Rattle.c_lex.specs.Lexeme.{Lexeme, Kind, name, keyword, character, number}
 use Rattle.c_parse.specs.declared.symbol.Production.{Production}
 use Rattle.c_parse.specs.declared.symbol.Production.TheVariants as ends
-use Rattle.c_parse.specs.declared.symbol.Symbol.{Symbol}
-use Rattle.c_parse.specs.declared.symbol.Symbol.TheVariants as symbol
 use Rattle.c_parse.specs.Tree as tree
 use Rattle.c_parse.specs.Tree.{Name, Exp, TypeName, Words, Word, Members, Declarators, Declarator, Dimensions, Enumerators, Enumerator, Call, Rhs, Simple, Init, Local, Label, Start, Stmt, Items, Groups, Bracket, Param, Top, External}
-use Rattle.c_parse.specs.Operators.{is_made}
 use Rattle.c_parse.specs.Spells.{parameters}
-use Rattle.c_parse.specs.Choice.{Choice, Refuse, Pass, Take, choice_of}
 
 pub data Value : Type 0 where
   Tok : Lexeme → Value

@@ -3,7 +3,6 @@
 use Rattle.std.specs.Prelude.{ℕ, Bool, true, false, ◌&&◌, nat_le, ◌==◌, List, [], ◌∷◌, ◌++◌, Option, Some, None, suc, if◌then◌else◌}
 use Rattle.c_lex.specs.declared.token.Keyword.{Keyword}
 use Rattle.c_lex.specs.declared.token.Keyword.TheVariants as word
-use Rattle.c_lex.specs.declared.token.Punct.{Punct}
 use Rattle.c_lex.specs.declared.token.Punct.TheVariants as sign
 use Rattle.c_lex.specs.Lexeme.{Kind, name, keyword, punct, character, number}
 use Rattle.c_parse.specs.declared.operator.UnaryOperator.{UnaryOperator}
@@ -19,7 +18,7 @@ use Rattle.c_parse.specs.declared.symbol.Production.{Production}
 use Rattle.c_parse.specs.declared.symbol.Production.TheVariants as ends
 use Rattle.c_parse.specs.declared.symbol.Symbol.{Symbol}
 use Rattle.c_parse.specs.declared.symbol.Symbol.TheVariants as symbol
-use Rattle.c_parse.specs.Operators.{level, add, complete, update_of}
+use Rattle.c_parse.specs.Operators.{level, add, complete}
 
 pub data Choice : Type 0 where
   Refuse : Choice

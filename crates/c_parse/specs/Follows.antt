@@ -1,6 +1,5 @@
 -- What a step of the parser leaves on its stack, whose top is at the end of the vector.
-use Rattle.std.specs.Prelude.{◌≡◌, List, ◌++◌, reverse}
-use Rattle.std.specs.declared.vec.Vec.{Vec}
+use Rattle.std.specs.Prelude.{◌≡◌, List, ◌++◌}
 use Rattle.c_parse.specs.declared.symbol.Symbol.{Symbol}
 use Rattle.c_parse.specs.declared.choose.Answer.{Answer}
 use Rattle.c_parse.specs.declared.choose.Answer.TheVariants.{Refused, Passed, Taken}

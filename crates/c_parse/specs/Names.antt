@@ -1,5 +1,5 @@
 -- The names of types as the parser keeps them: all that it has met, the oldest first, and how many of them are made.
-use Rattle.std.specs.Prelude.{ℕ, Bool, true, false, List, [], ◌∷◌, reverse, take}
+use Rattle.std.specs.Prelude.{ℕ, List, reverse, take}
 use Rattle.c_parse.specs.Tree.{Name}
 
 -- the names that are made, the newest first

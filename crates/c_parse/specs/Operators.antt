@@ -5,7 +5,6 @@ use Rattle.c_lex.specs.declared.token.Keyword.{Keyword}
 use Rattle.c_lex.specs.declared.token.Keyword.TheVariants as word
 use Rattle.c_lex.specs.declared.token.Punct.{Punct}
 use Rattle.c_lex.specs.declared.token.Punct.TheVariants as sign
-use Rattle.c_lex.specs.Lexeme.{Kind, name, keyword, punct, character, number}
 use Rattle.c_parse.specs.declared.operator.UnaryOperator.{UnaryOperator}
 use Rattle.c_parse.specs.declared.operator.UnaryOperator.TheVariants as unary
 use Rattle.c_parse.specs.declared.operator.BinaryOperator.{BinaryOperator}

@@ -1,13 +1,13 @@
 -- The parser as a machine that takes one token after the other: a stack of symbols that are still to come, the values of
 -- those that have been read, and the names of types: those that were made, and those that will be at the external's end.
-use Rattle.std.specs.Prelude.{ℕ, Bool, true, false, List, [], ◌∷◌, ◌++◌, Option, Some, None}
-use Rattle.c_lex.specs.Lexeme.{Lexeme, Kind, name, keyword, punct, character, number}
+use Rattle.std.specs.Prelude.{Bool, true, false, List, [], ◌∷◌, ◌++◌, Option, Some, None}
+use Rattle.c_lex.specs.Lexeme.{Lexeme, Kind, name}
 use Rattle.c_parse.specs.declared.symbol.Production.{Production}
 use Rattle.c_parse.specs.declared.symbol.Symbol.{Symbol}
 use Rattle.c_parse.specs.declared.symbol.Symbol.TheVariants as symbol
 use Rattle.c_parse.specs.Tree.{Name}
 use Rattle.c_parse.specs.Operators.{is_made}
-use Rattle.c_parse.specs.Choice.{Choice, Refuse, Pass, Take, choice_of}
+use Rattle.c_parse.specs.Choice.{Refuse, Pass, Take, choice_of}
 use Rattle.c_parse.specs.Build.{Value, Tok, OfUnit, act, acts}
 
 -- the token is a name that a typedef made

@@ -1,6 +1,6 @@
 -- The trees of the C subset, as plain data: a variant for each production (C99 6.5, 6.7, 6.8, 6.9).
 -- A node keeps the offset of its first token, as its first field, unless that token is its first part's.
-use Rattle.std.specs.Prelude.{ℕ, Bool, List, [], ◌∷◌, Option, Some, None}
+use Rattle.std.specs.Prelude.{ℕ, Bool, List, Option}
 use Rattle.c_lex.specs.declared.token.Keyword.{Keyword}
 use Rattle.c_parse.specs.declared.operator.UnaryOperator.{UnaryOperator}
 use Rattle.c_parse.specs.declared.operator.BinaryOperator.{BinaryOperator}

@@ -1,7 +1,7 @@
 use Rattle.std.proofs.Common.{◌≡◌, drop, map, reverse, Some}
 use Rattle.c_lex.specs.Lexeme.{lexemes_of}
 use Rattle.c_parse.specs.Names.{made_of, next_of}
-use Rattle.c_parse.specs.Accepts.{Stage, accepts, first_stage}
+use Rattle.c_parse.specs.Accepts.{accepts, first_stage}
 use Rattle.c_parse.proofs.recogniser.accepts.Given as goal
 
 abbrev pub invariant-loop-token : goal.invariant-loop-token

@@ -1,4 +1,3 @@
-use Rattle.std.proofs.Common.{◌≡◌, rules}
 use Rattle.c_parse.proofs.Kept.{kept_made, kept_next}
 use Rattle.c_parse.proofs.names.Names.end.Goals as goal
 

@@ -1,4 +1,4 @@
-use Rattle.std.proofs.Common.{◌≡◌, ◌≤◌, ◌-◌, sym, ◌∙◌, arith, rules}
+use Rattle.std.proofs.Common.{sym, ◌∙◌, arith}
 use Rattle.c_parse.proofs.Kept.{found, passed}
 use Rattle.c_parse.proofs.names.Names.is_made.Goals as goal
 
