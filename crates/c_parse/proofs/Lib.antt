@@ -5,3 +5,4 @@ mod Means
 mod Sound
 pub mod Accepted
 pub mod Kept
+pub mod Samples

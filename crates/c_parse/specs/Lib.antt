@@ -7,3 +7,4 @@ pub mod Stack
 pub mod Accepts
 pub mod Follows
 pub mod Names
+pub mod Examples

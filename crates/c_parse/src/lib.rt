@@ -5,6 +5,7 @@ ghost use Rattle.std.specs.Prelude.{◌≡◌, List};
 ghost use Rattle.c_lex.specs.Lexeme.{Lexeme};
 ghost use Rattle.c_parse.specs.Tree.{External};
 ghost use Rattle.c_parse.specs.Spells.{Spells};
+ghost use Rattle.c_parse.specs.Examples.{cast, dangling_else, difference, inner_else, left_sum, levels, with_typedef, without_typedef};
 
 mod choose;
 mod names;
@@ -20,6 +21,17 @@ pub use recogniser::recognise;
 pub fn one_tree()
     ensures { (u v : List External) (s : List Lexeme) → Spells u s → Spells v s → u ≡ v }
 {}
+
+/// Examples of the grammar: an `else` belongs to the last `if` without one; operators bind by their levels, each to the
+/// left; and `(t)-a` is a difference, or a cast of `-a` where a typedef made `t`.
+#[tactic(auto, using(crate::proofs::Samples::inner, crate::proofs::Samples::left, crate::proofs::Samples::minus, crate::proofs::Samples::casts))]
+pub fn examples()
+    ensures dangling_else { Spells inner_else dangling_else }
+    ensures levels { Spells left_sum levels }
+    ensures difference { Spells difference without_typedef }
+    ensures cast { Spells cast with_typedef }
+{
+}
 
 #[cfg(test)]
 mod tests;
