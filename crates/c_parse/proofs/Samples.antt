@@ -1,10 +1,10 @@
 -- The trees of the examples.
-use Rattle.std.proofs.Common.{◌≡◌, true, List, [], ◌∷◌, Option, Some, None, refl, sym, ◌∙◌, subst}
+use Rattle.std.proofs.Common.{◌≡◌, true, List, [], ◌∷◌, Some, refl, sym, ◌∙◌, subst}
 use Rattle.c_lex.specs.Lexeme.{Lexeme}
 use Rattle.c_parse.specs.Tree.{External}
 use Rattle.c_parse.specs.Spells.{Spells}
 use Rattle.c_parse.specs.Choice.{choice_of}
-use Rattle.c_parse.specs.Build.{Value, OfUnit, act}
+use Rattle.c_parse.specs.Build.{OfUnit, act}
 use Rattle.c_parse.specs.Stack.{read, go}
 use Rattle.c_parse.specs.Accepts.{accepts, first_stage}
 use Rattle.c_parse.specs.Examples.{dangling_else, inner_else, levels, left_sum, without_typedef, difference, with_typedef, cast}

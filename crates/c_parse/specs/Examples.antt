@@ -1,5 +1,5 @@
 -- Texts as lists of tokens, and their trees.
-use Rattle.std.specs.Prelude.{ℕ, List, [], ◌∷◌, Option, Some, None}
+use Rattle.std.specs.Prelude.{List, [], ◌∷◌, Some, None}
 use Rattle.c_lex.specs.declared.token.Keyword.TheVariants as word
 use Rattle.c_lex.specs.declared.token.Punct.TheVariants as sign
 use Rattle.c_lex.specs.Lexeme.{Lexeme}

@@ -119,4 +119,4 @@ complete _ = true
 -- a typedef made the name
 abbrev pub is_made : List Name → Name → Bool
 is_made [] x = false
-is_made (y ∷ ys) x = pointwise nat_eq y x || is_made ys x
+is_made (y ∷ ys) x = pointwise nat_eq x y || is_made ys x

@@ -30,8 +30,7 @@ pub fn examples()
     ensures levels { Spells left_sum levels }
     ensures difference { Spells difference without_typedef }
     ensures cast { Spells cast with_typedef }
-{
-}
+{}
 
 #[cfg(test)]
 mod tests;

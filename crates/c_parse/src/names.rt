@@ -1,6 +1,8 @@
 //! The names that typedefs made.
 
-ghost use Rattle.std.specs.Prelude.{◌≡◌, ◌∷◌, ◌≤◌, [], OnOk, map, vec_len};
+ghost use Rattle.std.specs.Prelude.{◌≡◌, ◌∷◌, ◌≤◌, ℕ, [], List, OnOk, map, nat_eq, vec_len};
+ghost use Rattle.std.specs.HashSet.{contains_by};
+ghost use lib.Pointwise.{pointwise};
 ghost use Rattle.c_lex.specs.Lexeme.{kind_of};
 ghost use Rattle.c_parse.specs.Names.{made_of, next_of};
 ghost use Rattle.c_parse.specs.Operators as operators;
@@ -9,6 +11,7 @@ ghost use Rattle.c_parse.specs.Stack as stack;
 use crate::symbol::Symbol;
 use c_lex::TokenKind;
 use std::alloc::{AllocError, Global};
+use std::collections::HashSet;
 
 /// The names that typedefs made, and those that the present external declares.
 #[derive(Drop)]
@@ -17,7 +20,10 @@ pub(crate) struct Names<'a> {
     all: Vec<&'a str>,
     /// How many of them are types by now.
     made: usize,
+    /// Those that are.
+    types: HashSet<&'a str>,
     ghost within: { made ≤ vec_len all },
+    ghost same: { (n : List ℕ) → contains_by (λ name. pointwise nat_eq n name.now) types ≡ operators.is_made (made_of (map (λ name. name.now) all.items) made) n },
 }
 
 impl<'a> Names<'a> {
@@ -29,21 +35,8 @@ impl<'a> Names<'a> {
         Names {
             all: Vec::new(alloc),
             made: 0,
+            types: HashSet::new(alloc),
         }
-    }
-
-    /// Whether a typedef made the name.
-    fn is_made(&self, name: &str) -> bool
-        ensures { result ≡ operators.is_made (made_of (map (λ name. name.now) self.now.all.items) self.now.made) name.now }
-    {
-        let mut left = self.made;
-        while left > 0 {
-            left -= 1;
-            if self.all[left] == name {
-                return true;
-            }
-        }
-        false
     }
 
     /// Whether the token is a name that a typedef made.
@@ -51,7 +44,7 @@ impl<'a> Names<'a> {
         ensures { result ≡ stack.is_type (made_of (map (λ name. name.now) self.now.all.items) self.now.made) (kind_of kind.now) }
     {
         match kind {
-            TokenKind::Name(name) => self.is_made(name.as_str()),
+            TokenKind::Name(name) => self.types.contains(name.as_str()),
             _ => false,
         }
     }
@@ -66,14 +59,19 @@ impl<'a> Names<'a> {
     }
 
     /// Here an external ends: a typedef's names are types from here on, and others are forgotten.
-    pub(crate) fn end(&mut self, typedef: bool)
-        ensures made { made_of (map (λ name. name.now) self.new.all.items) self.new.made ≡ stack.made_behind (Symbol.Made typedef) (made_of (map (λ name. name.now) self.old.all.items) self.old.made) (next_of (map (λ name. name.now) self.old.all.items)) }
-        ensures next { next_of (map (λ name. name.now) self.new.all.items) ≡ stack.next_behind (Symbol.Made typedef) (made_of (map (λ name. name.now) self.old.all.items) self.old.made) (next_of (map (λ name. name.now) self.old.all.items)) }
+    pub(crate) fn end(&mut self, typedef: bool) -> Result<(), AllocError>
+        ensures made { OnOk result (made_of (map (λ name. name.now) self.new.all.items) self.new.made ≡ stack.made_behind (Symbol.Made typedef) (made_of (map (λ name. name.now) self.old.all.items) self.old.made) (next_of (map (λ name. name.now) self.old.all.items))) }
+        ensures next { OnOk result (next_of (map (λ name. name.now) self.new.all.items) ≡ stack.next_behind (Symbol.Made typedef) (made_of (map (λ name. name.now) self.old.all.items) self.old.made) (next_of (map (λ name. name.now) self.old.all.items))) }
     {
         if typedef {
-            self.made = self.all.len();
+            while self.made < self.all.len() {
+                let name = self.all[self.made];
+                self.types.insert(name)?;
+                self.made += 1;
+            }
         } else {
             self.all.truncate(self.made);
         }
+        Ok(())
     }
 }

@@ -50,7 +50,7 @@ fn advance<'a>(
             Answer::Refused => return Ok(false),
             Answer::Passed => {
                 if let Symbol::Made(typedef) = symbol {
-                    names.end(typedef);
+                    names.end(typedef)?;
                 }
             }
             Answer::Taken => {
