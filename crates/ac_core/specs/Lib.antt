@@ -4,5 +4,6 @@ pub mod ProgramText
 pub mod Words
 pub mod Code
 pub mod FirstForm
+pub mod Sum
 pub mod Answer
 pub mod Status
