@@ -5,5 +5,6 @@ pub mod Words
 pub mod Code
 pub mod FirstForm
 pub mod Sum
+pub mod SumCode
 pub mod Answer
 pub mod Status
