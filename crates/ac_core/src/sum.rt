@@ -116,3 +116,6 @@ fn expression(alloc: Global, sum: &Sum) -> Result<Exp, AllocError>
         )),
     }
 }
+
+#[cfg(test)]
+mod tests;
