@@ -3,12 +3,12 @@ use Rattle.std.proofs.Common.{◌≡◌, ℕ, suc, Bool, true, false, not, cond,
 use Rattle.std.specs.Prelude.{codes}
 use Rattle.std.specs.List.{list_any, list_all}
 use Rattle.std.proofs.lemmas.List.{drop-map, length-map}
-use Rattle.std.proofs.lemmas.List.Folds.{list_all-map}
+use Rattle.std.proofs.Math.Bool.{and-true}
 use Rattle.std.proofs.lemmas.Bool.{le-leb, ne_eqb}
 use Rattle.std.proofs.lemmas.Bool.Decides.{nat_tests}
 use Rattle.std.proofs.lemmas.Grind.{common_steps}
 use Rattle.c_values.specs.Name.{Name, same_name}
-use Rattle.ac_core.specs.Words.{Command, Show, Print, Translate, Check, Run, Prove, Sample, Trial, are_options, is_last_target, is_count, is_digit, has_options, has_files, has_count, where_holds, with_options, check_of, of_three, sample_of, trial_of, command_of, plain_show}
+use Rattle.ac_core.specs.Words.{Command, Show, Print, Translate, Check, Run, Prove, Sample, Trial, are_options, is_last_target, is_count, is_digit, has_files, has_count, where_holds, with_options, check_of, of_three, sample_of, trial_of, command_of, plain_show}
 
 pub list_any-map : {X : Type 0} (p : X → Bool) → {Y : Type 0} (h : Y → X) (ys : List Y) → list_any p (map h ys) ≡ list_any (λ y. p (h y)) ys
 list_any-map p h [] = refl
@@ -19,10 +19,6 @@ list_any-map p h (y ∷ ys) = ap (λ b. p (h y) || b) (list_any-map p h ys)
 is_some-where_holds : (b : Bool) (c : Command) → is_some (where_holds b c) ≡ b
 is_some-where_holds true c = refl
 is_some-where_holds false c = refl
-
-pub is_some-with_options : (make : Name → List Name → Command) (ws : List Name) → is_some (with_options make ws) ≡ has_options ws
-is_some-with_options make [] = refl
-is_some-with_options make (file ∷ ws) = is_some-where_holds (are_options ws) (make file ws)
 
 two_more : (w x : Name) (ws : List Name) → has_files 2 (w ∷ x ∷ ws) ≡ is_last_target ws
 two_more w x ws = ap (λ b. b && is_last_target ws) (le-leb 2 (suc (suc (length ws))) (omega arith))
@@ -40,10 +36,6 @@ is_some-of_three make [] = refl
 is_some-of_three make (w ∷ []) = refl
 is_some-of_three make (w ∷ x ∷ []) = refl
 is_some-of_three make (w ∷ x ∷ y ∷ ws) = is_some-where_holds (is_last_target ws) (make w x y ws) ∙ sym (three_more w x y ws)
-
-and-true : (b : Bool) → (b && true) ≡ b
-and-true true = refl
-and-true false = refl
 
 not_one : (n : ℕ) → false ≡ eqb (suc (suc n)) 1
 not_one n = grind (arith, nat_tests)
@@ -125,22 +117,11 @@ has_files-drop f xs n h =
     let long : leb n (length (map f xs)) ≡ true = le-leb n (length (map f xs)) (omega (arith, length-map xs f, h)) in
     ap (λ ys. is_last_target (map f ys)) all ∙ ap is_last_target (sym (drop-map f n xs)) ∙ ap (λ b. b && is_last_target (drop n (map f xs))) (sym long)
 
-and-false : (a b : Bool) → b ≡ false → (a && (false || b)) ≡ b
-and-false true b h = refl
-and-false false b h = sym h
-
-not_zero : (n : ℕ) → eqb (suc n) 0 ≡ false
-not_zero n = grind (arith, nat_tests)
-
 of_digits : (digits short zero alone : Bool) → short ≡ true → zero ≡ false → ((digits && short) && (not zero || alone)) ≡ digits
 of_digits true short zero alone h k = cc
 of_digits false short zero alone h k = refl
 
--- a count that begins with `0`, and any other
-pub is_count-zero : (cs : List ℕ) → is_count (48 ∷ cs) ≡ eqb (length cs) 0
-is_count-zero [] = refl
-is_count-zero (c ∷ cs) = and-false (list_all is_digit (48 ∷ c ∷ cs) && leb (length (48 ∷ c ∷ cs)) 9) (eqb (length (c ∷ cs)) 0) (not_zero (length cs))
-
+-- a word of at most nine bytes that does not begin with `0` is a count where each byte is a digit
 pub is_count-other : (word : Name) (c : ℕ) (cs : List ℕ) (answer : Bool) → word ≡ c ∷ cs → (c ≡ 48 → ⊥) → length word ≤ 9 → answer ≡ list_all is_digit word → answer ≡ is_count word
 is_count-other word c cs answer e h le a =
     a ∙ ap (list_all is_digit) e ∙ sym (of_digits (list_all is_digit (c ∷ cs)) _ _ _ (le-leb (length (c ∷ cs)) 9 (omega (arith, le, ap length e))) (ne_eqb c 48 h)) ∙ ap is_count (sym e)

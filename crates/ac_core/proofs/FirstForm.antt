@@ -36,7 +36,7 @@ use Rattle.c_parse.specs.declared.operand.Operand.{Operand}
 use Rattle.c_parse.specs.declared.operand.Operand.TheVariants.{Parameter, Constant}
 use Rattle.c_parse.specs.Operand.{IsOperand}
 use Rattle.c_parse.specs.FirstForm.{Function, AreOperands}
-use Rattle.ac_core.specs.Exact.{AreArguments, Begin, state_of, heap_for, c_ends, program_ends, Fails, IsUndefined, seen, ReturnsAs, KeepsMemory, ExactFrom, Exact, IsExact}
+use Rattle.ac_core.specs.Exact.{AreArguments, Begin, state_of, heap_for, c_ends, program_ends, Fails, IsUndefined, seen, ReturnsAs, KeepsMemory, ExactFrom, Exact, IsExact, AreProgramsOf}
 use Rattle.ac_core.specs.FirstForm.{unsigned_type, layout, c_operand, c_sum, c_parameter, typed_fn_of, typed_unit_of, levels, operand, fits, guarded_sum, body, parameter, final_fn_of, final_unit_of}
 
 -- the word of a number
@@ -435,3 +435,15 @@ pub first_form_numbers : (u : Function) → is_numbers (body (map (operand u.par
 first_form_numbers u = λ i.
     not (body_skipped is_load is_stored (record { var = λ _. refl; number = λ _. refl; arith_is = λ _ _. refl; between = λ _ _ _. refl }) u.params u.operands i)
     && not (body_skipped is_word_arithmetic no_place (record { var = λ _. refl; number = λ _. refl; arith_is = λ _ _. refl; between = λ _ _ _. refl }) u.params u.operands i)
+
+parameters_are : (xs : List Name) → map parameter xs ≡ variables Ilp32 Numbers (map c_parameter xs)
+parameters_are [] = refl
+parameters_are (x ∷ xs) = ap (λ bs. parameter x ∷ bs) (parameters_are xs)
+
+-- the program is that of the C function, at the level of numbers
+pub first_form_programs : (u : Function) → AreProgramsOf (typed_unit_of u) levels (final_unit_of u)
+first_form_programs u = record {
+  layout = refl;
+  globals = refl;
+  functions = (record { name = refl; at_level = refl; params = parameters_are u.params; results = refl }, tt);
+}

@@ -10,7 +10,7 @@ use Rattle.ac_base.specs.Shelf.{AreWhole, IsLonger}
 use Rattle.ac_base.specs.Sink.{grown, TakesPart}
 use Rattle.ac_core.specs.Words.{command_of, plain_show}
 use Rattle.ac_core.specs.FirstForm.{typed_unit_of, levels}
-use Rattle.ac_core.specs.Exact.{IsExact}
+use Rattle.ac_core.specs.Exact.{AreProgramsOf, IsExact}
 use Rattle.ac_core.specs.ProgramText.{unit_text}
 use Rattle.ac_core.specs.declared.status.Status.{Status}
 use Rattle.ac_core.specs.declared.status.Status.TheVariants.{Done, No, Words, Source, Text, ReadFault, WriteFault, Limit, Memory, NotYet}
@@ -24,12 +24,13 @@ abbrev pub AreInNumbers : List FinalFn → Type 0
 AreInNumbers [] = Unit {0}
 AreInNumbers (f ∷ fs) = (is_numbers f.body ≡ true) × AreInNumbers fs
 
--- The text is of the first form, and what is written is the text of programs in numbers form that are exact against its
--- C function.
+-- The text is of the first form, and what is written is the text of the program of its C function: at the level of numbers,
+-- in numbers form, and exact.
 pub record ShowsExact (text lines : List ℕ) : Type 0 where
   pub unit : Function
   pub programs : FinalUnit
   pub is_unit : IsFirstForm text unit
+  pub of_unit : AreProgramsOf (typed_unit_of unit) levels programs
   pub exact : IsExact (typed_unit_of unit) levels programs
   pub numbers : AreInNumbers programs.functions
   pub written : lines ≡ unit_text programs

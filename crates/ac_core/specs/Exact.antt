@@ -4,7 +4,7 @@
 use Rattle.std.specs.Prelude.{◌≡◌, ℕ, ◌+◌, ◌<◌, ◌≤◌, Bool, true, false, List, [], ◌∷◌, Option, Some, None, ◌⊎◌, ◌↔◌}
 use Rattle.correspondence.specs.Outcome.{Done, Failed, Ends}
 use Rattle.c_values.specs.Name.{Name}
-use Rattle.c_values.specs.Types.{CType}
+use Rattle.c_values.specs.Types.{Target}
 use Rattle.c_values.specs.Value.{Value}
 use Rattle.c_values.specs.Layout.{Layout, GlobalVar, shape_of, size_of}
 use Rattle.c_values.specs.Path.{HasShape}
@@ -19,7 +19,7 @@ use Rattle.ac_expr.specs.View.{view_at, views_at}
 use Rattle.ac_expr.specs.Signature.{Invocation, kinds_of}
 use Rattle.simpl_lang.specs.Command.{GuardKind}
 use Rattle.simpl_lang.specs.Exec.{Returned}
-use Rattle.monad_lang.specs.Program.{FinalUnit}
+use Rattle.monad_lang.specs.Program.{FinalUnit, FinalFn}
 use Rattle.monad_lang.specs.Run.{Answer, Failure, program_runs}
 use Rattle.c_types.specs.Typed.{TypedUnit, TypedFn, Variable, typed_fn}
 use Rattle.simpl_gen.specs.CRun.{c_runs, plain}
@@ -116,6 +116,29 @@ pub record ExactFrom (u : TypedUnit) (levels : Name → Level) (a : FinalUnit) (
 pub record Exact (u : TypedUnit) (levels : Name → Level) (a : FinalUnit) (f : TypedFn) : Type 0 where
   pub on_its_heap : (b : Begin) → IsBegin u f b → ExactFrom u levels a f b (heap_for u.layout (is_lifted (levels f.name)))
   pub on_bytes : is_lifted (levels f.name) ≡ true → (b : Begin) → IsBegin u f b → ExactFrom u levels a f b OnBytes
+
+abbrev pub results_of : Option Kind → List Kind
+results_of None = []
+results_of (Some k) = k ∷ []
+
+-- the program of a C function at a level: its name, and the kinds that the level gives its parameters and its result
+pub record IsProgramOf (t : Target) (level : Level) (f : TypedFn) (g : FinalFn) : Type 0 where
+  pub name : g.name ≡ f.name
+  pub at_level : g.level ≡ level
+  pub params : g.params ≡ variables t level f.params
+  pub results : g.results ≡ results_of (result_kind t level f.result)
+
+abbrev pub ArePrograms : Target → (Name → Level) → List TypedFn → List FinalFn → Type 0
+ArePrograms t levels [] [] = Unit {0}
+ArePrograms t levels (f ∷ fs) (g ∷ gs) = IsProgramOf t (levels f.name) f g × ArePrograms t levels fs gs
+ArePrograms t levels [] (g ∷ gs) = ⊥
+ArePrograms t levels (f ∷ fs) [] = ⊥
+
+-- one program for each function of the unit, in its order, over its layout and its globals
+pub record AreProgramsOf (u : TypedUnit) (levels : Name → Level) (a : FinalUnit) : Type 0 where
+  pub layout : a.layout ≡ u.layout
+  pub globals : a.globals ≡ u.globals
+  pub functions : ArePrograms u.layout.target levels u.functions a.functions
 
 -- of every function of the unit
 abbrev pub IsExact : TypedUnit → (Name → Level) → FinalUnit → Type 0

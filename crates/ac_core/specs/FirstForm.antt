@@ -21,7 +21,7 @@ unsigned_type = Integer UInt
 abbrev pub layout : Layout
 layout = record { target = Ilp32; structs = [] }
 
--- the name of the parameter at a position
+-- an operand: the parameter at a position, or a constant
 abbrev pub c_operand : List Name → Operand → C.Expr
 c_operand params (Parameter position) = C.Local (slice_index_or params position []) unsigned_type
 c_operand params (Constant number) = C.Constant UInt (pos number)

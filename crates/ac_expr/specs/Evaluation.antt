@@ -1,6 +1,6 @@
 -- The value of an expression in an environment and a state. Every expression has one: what is out of range, not covered
 -- or divided by zero has a value that the tables of words, numbers and heaps give.
-use Rattle.std.specs.Prelude.{ℕ, ◌*◌, Bool, true, false, not, ◌&&◌, ◌||◌, List, [], ◌∷◌, Option, Some, None, ℤ, pos, neg_ℤ, ◌*ℤ◌, int_lt, int_le}
+use Rattle.std.specs.Prelude.{ℕ, Bool, true, false, not, ◌&&◌, ◌||◌, List, [], ◌∷◌, Option, Some, None, ℤ, pos, neg_ℤ, ◌*ℤ◌, int_lt, int_le}
 use Rattle.c_values.specs.Name.{Name}
 use Rattle.c_values.specs.Types.{address_width}
 use Rattle.c_values.specs.Word.{Word, unsigned, signed, word, word_op, word_shift, word_unary, word_test, cast}

@@ -48,6 +48,7 @@ mutual
     Tagged : CType → Exp → Exp
     PtrOk : CType → Exp → Exp
     Global : Name → Path → Exp
+    -- a part, by one step, and a value with the part at a path replaced: in assertions alone
     Sel : Exp → Path → Exp
     Upd : Exp → Path → Exp → Exp
 

@@ -1,8 +1,7 @@
 -- Sorts, kinds and levels, and which expressions are well-sorted.
-use Rattle.std.specs.Prelude.{ℕ, ◌==◌, nat_lt, ◌^◌, Bool, true, false, not, ◌&&◌, ◌||◌, List, [], ◌∷◌, Option, Some, None, is_some, if◌then◌else◌}
+use Rattle.std.specs.Prelude.{ℕ, ◌==◌, nat_lt, ◌^◌, Bool, true, false, not, ◌&&◌, ◌||◌, Option, Some, None, if◌then◌else◌}
 use Rattle.c_values.specs.Name.{Name}
-use Rattle.c_values.specs.Types.{CType, Integer, Ptr, same_type, address_width}
-use Rattle.c_values.specs.Word.{Word}
+use Rattle.c_values.specs.Types.{CType, same_type, address_width}
 use Rattle.c_values.specs.Number.{NumberOp, Neg}
 use Rattle.c_values.specs.Layout.{Layout, Shape, Incomplete, Scalar as WordShape, Record, Row, type_of, shape_of, is_object}
 use Rattle.c_values.specs.Path.{Spot, member_spot}
@@ -68,6 +67,17 @@ pub record Scope : Type 0 where
 
 abbrev pub is_width : ℕ → Bool
 is_width n = (n == 8) || (n == 16) || (n == 32) || (n == 64)
+
+-- of one of the four widths
+abbrev pub is_kind : Kind → Bool
+is_kind (WordKind n) = is_width n
+is_kind (NatKind n) = is_width n
+is_kind (IntKind n) = is_width n
+is_kind BoolKind = true
+
+abbrev pub are_kinds : List Kind → Bool
+are_kinds [] = true
+are_kinds (k ∷ ks) = is_kind k && are_kinds ks
 
 abbrev pub sort_at : Shape → Option Sort
 sort_at Incomplete = None
@@ -148,6 +158,12 @@ abbrev pub is_unary : NumberOp → Bool
 is_unary Neg = true
 is_unary _ = false
 
+-- nothing but one step
+abbrev pub is_one_step : Expression.Path → Bool
+is_one_step (Expression.IntoField k Expression.Here) = true
+is_one_step (Expression.IntoElement e Expression.Here) = true
+is_one_step path = false
+
 abbrev mutual
   -- the sort of a well-sorted expression
   pub sort_of : Scope → Expression.Exp → Option Sort
@@ -181,7 +197,7 @@ abbrev mutual
   sort_of g (Expression.Tagged t p) = where_holds (is_object g.layout t && is_word_of (address_width g.layout.target) (sort_of g p)) truth_sort
   sort_of g (Expression.PtrOk t p) = where_holds (is_object g.layout t && is_word_of (address_width g.layout.target) (sort_of g p)) truth_sort
   sort_of g (Expression.Global x path) = of_type (g.globals x) (λ t. of_shape (shape_along g path (shape_of g.layout t)) sort_at)
-  sort_of g (Expression.Sel e path) = of_shape (parts_shape g.layout (sort_of g e)) (λ s. of_shape (shape_along g path s) sort_at)
+  sort_of g (Expression.Sel e path) = where_holds (is_one_step path) (of_shape (parts_shape g.layout (sort_of g e)) (λ s. of_shape (shape_along g path s) sort_at))
   sort_of g (Expression.Upd e path v) = of_shape (parts_shape g.layout (sort_of g e)) (λ s. of_shape (shape_along g path s) (λ q. where_holds (are_same (sort_at q) (sort_of g v)) (sort_of g e)))
 
   -- the shape at the end of a path whose members are there, its indices being numbers of any value

@@ -1,10 +1,10 @@
 -- The view of a value at a kind: a word as itself, or by its unsigned or its signed value.
-use Rattle.std.specs.Prelude.{◌≡◌, ℕ, ◌^◌, List, [], ◌∷◌, true, false}
+use Rattle.std.specs.Prelude.{◌≡◌, List, [], ◌∷◌, true, false}
 use Rattle.correspondence.specs.Outcome.{Ends, any, done, Then}
 use Rattle.c_values.specs.Choice.{Choice, Any, Fill, picked}
-use Rattle.c_values.specs.Word.{Word, IsWord, unsigned, signed}
+use Rattle.c_values.specs.Word.{IsWord, unsigned, signed}
 use Rattle.c_values.specs.Number.{is_between, least, greatest}
-use Rattle.c_values.specs.Value.{Value, Bits, Number, Truth, Parts, word_in}
+use Rattle.c_values.specs.Value.{Value, Bits, Number, Truth, word_in}
 use Rattle.ac_expr.specs.Sort.{Kind, WordKind, NatKind, IntKind, BoolKind}
 
 abbrev pub view_at : Kind → Value → Value

@@ -56,7 +56,7 @@ stored_elements store step a (suc n) (more v vs) bytes = stored_elements store s
 stored_elements store step a _ _ bytes = bytes
 
 abbrev mutual
-  -- the bytes after a value of a shape is stored at an address; a value of another shape stores nothing
+  -- the bytes after a value of a shape is stored at an address; what doesn't fit the shape isn't stored
   pub store : ℕ → Shape → ℕ → Value → (ℕ → ℕ) → ℕ → ℕ
   store space (Scalar t width) a (Bits w) bytes = with_bytes space a (width / 8) w.bits bytes
   store space (Record x n align fs) a (Parts vs) bytes = stored_members space fs a vs bytes

@@ -63,6 +63,7 @@ abbrev pub size_type : Target → IntType
 size_type Ilp32 = UInt
 size_type Lp64 = ULong
 
+-- a number for each, to compare them by
 abbrev pub number_of : IntType → ℕ
 number_of Char = 0
 number_of SChar = 1

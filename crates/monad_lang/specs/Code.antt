@@ -1,6 +1,5 @@
 -- What the code's programs stand for.
-use Rattle.std.specs.Prelude.{List, map, string_bytes}
-use Rattle.c_values.specs.Name.{Name}
+use Rattle.std.specs.Prelude.{map, string_bytes}
 use Rattle.ac_expr.specs.Signature.{Binder}
 use Rattle.ac_expr.specs.Code.{exp_of, level_of, kind_of}
 use Rattle.monad_lang.specs.declared.program.Mon as M

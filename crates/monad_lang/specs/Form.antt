@@ -1,10 +1,9 @@
 -- The forms of programs: on bytes, on typed heaps, on numbers, and tidy.
-use Rattle.std.specs.Prelude.{ℕ, ◌==◌, Bool, true, false, not, ◌&&◌, ◌||◌, List, [], ◌∷◌, length}
+use Rattle.std.specs.Prelude.{Bool, true, false, not, ◌&&◌, ◌||◌, List, [], ◌∷◌}
 use Rattle.c_values.specs.Name.{Name, same_name, is_among}
-use Rattle.ac_expr.specs.Expression.{Exp, Var, WordLit, NumberLit, TruthLit, Path}
+use Rattle.ac_expr.specs.Expression.{Exp, Var, WordLit, NumberLit, TruthLit}
 use Rattle.ac_expr.specs.Form.{has, path_has, is_load, is_read, is_word_arithmetic}
 use Rattle.monad_lang.specs.Program.{Place, Stored, Written, Global, Start, Mon, Ret, Bind, Guard, If, Write, Loop, Call, Pick}
-use Rattle.monad_lang.specs.Run.{start_names}
 use Rattle.monad_lang.specs.Names.{is_free, is_captured}
 
 abbrev pub some_has : (Exp → Bool) → List Exp → Bool

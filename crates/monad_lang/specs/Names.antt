@@ -1,5 +1,5 @@
 -- Free names of expressions and programs, and names that a binder would capture.
-use Rattle.std.specs.Prelude.{Bool, true, false, not, ◌&&◌, ◌||◌, List, [], ◌∷◌}
+use Rattle.std.specs.Prelude.{Bool, false, not, ◌&&◌, ◌||◌, List, [], ◌∷◌}
 use Rattle.c_values.specs.Name.{Name, same_name, is_among}
 use Rattle.ac_expr.specs.Expression.{Exp, Var}
 use Rattle.ac_expr.specs.Form.{has, path_has}

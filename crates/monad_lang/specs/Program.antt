@@ -1,5 +1,5 @@
 -- Monadic programs as plain trees: the nondeterministic state monad with failure of AutoCorres, with values, memory and globals.
-use Rattle.std.specs.Prelude.{ℕ, List, [], ◌∷◌, Option, Some, None, if◌then◌else◌}
+use Rattle.std.specs.Prelude.{List, [], ◌∷◌, Option, Some, None, if◌then◌else◌}
 use Rattle.c_values.specs.Name.{Name, same_name}
 use Rattle.c_values.specs.Types.{CType}
 use Rattle.c_values.specs.Layout.{Layout, GlobalVar}

@@ -1,10 +1,10 @@
 -- What programs do: which ends a run may have, at a bound and a choice, from an environment and a state.
-use Rattle.std.specs.Prelude.{ℕ, Bool, true, false, List, [], ◌∷◌, map, Option, Some, None, ◌⊎◌}
+use Rattle.std.specs.Prelude.{ℕ, List, [], ◌∷◌, Option, Some, None, ◌⊎◌}
 use Rattle.std.proofs.Common.{inl, inr}
 use Rattle.correspondence.specs.Outcome.{Turns, Ends, done, fault, stop, Then, choose, loop}
 use Rattle.correspondence.specs.Bound.{Functions, called, below}
 use Rattle.c_values.specs.Name.{Name, with_name}
-use Rattle.c_values.specs.Value.{Value, nothing, word_in}
+use Rattle.c_values.specs.Value.{Value, word_in}
 use Rattle.c_values.specs.Layout.{Layout}
 use Rattle.c_values.specs.Path.{upd}
 use Rattle.c_values.specs.Choice.{Choice}

@@ -3,7 +3,7 @@ use Rattle.std.specs.Prelude.{◌≡◌, ◌==◌, length, Bool, true, false, �
 use Rattle.c_values.specs.Name.{Name}
 use Rattle.c_values.specs.Layout.{IsLayout, global_type}
 use Rattle.ac_expr.specs.Expression.{Exp}
-use Rattle.ac_expr.specs.Sort.{Scalar, Sort, Kind, Scope, is_truth, sort_of_kind}
+use Rattle.ac_expr.specs.Sort.{Scalar, Sort, Kind, Scope, is_truth, sort_of_kind, is_kind, are_kinds}
 use Rattle.ac_expr.specs.Signature.{Signature, names_of, kinds_of, signature}
 use Rattle.ac_expr.specs.Sorted.{are_distinct, scope_with, program_sort, scalar_in, with_scalar, scalars_of, same_scalars, typed_place, global_place, fits_place, call_scalars}
 use Rattle.monad_lang.specs.Program.{Place, Stored, Written, Global, Start, Mon, Ret, Bind, Guard, If, Write, Loop, Call, Pick, FinalFn, FinalUnit}
@@ -54,7 +54,7 @@ scalars_given t (Loop starts guard test m) = and_then_scalars (start_scalars t.s
     let inner = setting_with (start_names starts) ss t in
     where_fits (are_distinct (start_names starts) && is_truth (program_sort inner.scope guard) && is_truth (program_sort inner.scope test) && are_scalars ss (scalars_given inner m)) (Some ss))
 scalars_given t (Call f es) = call_scalars t.sort_for (signature t.functions f) (scalars_of t.scope es)
-scalars_given t (Pick k) = Some (sort_of_kind k ∷ [])
+scalars_given t (Pick k) = where_fits (is_kind k) (Some (sort_of_kind k ∷ []))
 
 abbrev pub signature_of : FinalFn → Signature
 signature_of f = record { name = f.name; level = f.level; params = f.params; result = first f.results }
@@ -76,7 +76,7 @@ setting_of u f = record {
 }
 
 abbrev pub is_fn_sorted : FinalUnit → FinalFn → Bool
-is_fn_sorted u f = are_distinct (names_of f.params) && has_few f.results && are_scalars (map sort_of_kind f.results) (scalars_given (setting_of u f) f.body)
+is_fn_sorted u f = are_kinds (kinds_of f.params) && are_kinds f.results && are_distinct (names_of f.params) && has_few f.results && are_scalars (map sort_of_kind f.results) (scalars_given (setting_of u f) f.body)
 
 abbrev pub are_fns_sorted : FinalUnit → List FinalFn → Bool
 are_fns_sorted u [] = true

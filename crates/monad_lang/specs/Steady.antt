@@ -1,5 +1,5 @@
 -- Programs in range, and programs that do the same on bytes and on the typed heaps that view them.
-use Rattle.std.specs.Prelude.{◌≡◌, ℕ, true, List, [], ◌∷◌, Option, Some, None}
+use Rattle.std.specs.Prelude.{◌≡◌, ℕ, true, List, Option, Some, None}
 use Rattle.correspondence.specs.Corresponds.{Corresponds}
 use Rattle.c_values.specs.Name.{Name}
 use Rattle.c_values.specs.Value.{Value, word_in}
@@ -7,12 +7,12 @@ use Rattle.c_values.specs.Layout.{Layout, shape_of}
 use Rattle.c_values.specs.Path.{in_range}
 use Rattle.c_values.specs.Choice.{Choice}
 use Rattle.c_memory.specs.Memory.{Memory}
-use Rattle.c_memory.specs.TypedHeap.{TypedHeap, view}
+use Rattle.c_memory.specs.TypedHeap.{view}
 use Rattle.c_memory.specs.Heap.{Heap, OnBytes, OnTypes, is_tagged}
 use Rattle.ac_expr.specs.Evaluation.{Env, State, value, steps}
 use Rattle.ac_expr.specs.Signature.{kinds_of, values_of}
 use Rattle.ac_expr.specs.View.{AreOfKinds}
-use Rattle.monad_lang.specs.Program.{Place, Stored, Written, Global, Mon, Write, Call, FinalFn, FinalUnit, final_fn}
+use Rattle.monad_lang.specs.Program.{Written, Mon, Write, Call, FinalFn, FinalUnit, final_fn}
 use Rattle.monad_lang.specs.Run.{Answer, Failure, Runs, runs}
 use Rattle.monad_lang.specs.Reach.{AtEach}
 
@@ -25,7 +25,7 @@ abbrev pub CallInRange : FinalUnit → Mon → Env → State → Type 0
 CallInRange u (Call f es) env s = TakesThem (final_fn u.functions f) (values_of u.layout env s es)
 CallInRange u _ env s = Unit {0}
 
--- each call that a run reaches has arguments that are values of the called function's kinds
+-- each call of the program itself that a run reaches has arguments that are values of the called function's kinds
 abbrev pub IsInRange : FinalUnit → Choice → Mon → Env → Option ℕ → List Runs → State → Type 0
 IsInRange u p m env depth fs s = AtEach u.layout p (CallInRange u) m env depth fs s
 
@@ -48,8 +48,8 @@ Alike f g = Unit {0}
 abbrev pub state_with : Heap → (Name → Value) → State
 state_with h g = record { heap = h; globals = g }
 
--- Each write that a run reaches has a covered root and indices in range, and from a memory and from its view the program
--- fails alike, gives the same values with memories whose views are the typed heaps, and stops alike.
+-- Each write of the program itself that a run reaches has a covered root and indices in range, and from a well-tagged memory
+-- and from its view the program fails alike, gives the same values with memories whose views are the typed heaps, and stops alike.
 pub record IsSteady (l : Layout) (p : Choice) (m : Mon) (env : Env) (depth : Option ℕ) (fs : List Runs) (memory : Memory) (globals : Name → Value) : Type 0 where
   pub covered_on_bytes : AtEach l p (WriteCovered l) m env depth fs (state_with (OnBytes memory) globals)
   pub covered_on_types : AtEach l p (WriteCovered l) m env depth fs (state_with (OnTypes (view l memory)) globals)

@@ -1,0 +1,4 @@
+pub mod OneEnd
+pub mod Continues
+pub mod WatchedValue
+pub mod WatchedRun

@@ -1,7 +1,7 @@
 -- What C statements and functions do (C99 6.8), as the set of a run's ends. A statement ends by going on, by break, by
 -- continue or by return; or it is undefined, with the kind of its first undefined step; or it stops at a bound. There are
 -- no exceptions and there is no Simpl in this.
-use Rattle.std.specs.Prelude.{ℕ, Bool, true, false, ◌||◌, List, [], ◌∷◌, Option, Some, None, Result, Ok, Err, ℤ, pos, ◌⊎◌, if◌then◌else◌}
+use Rattle.std.specs.Prelude.{ℕ, Bool, true, false, ◌||◌, List, [], ◌∷◌, Option, Some, None, Ok, ℤ, ◌⊎◌, if◌then◌else◌}
 use Rattle.std.proofs.Common.{inl, inr}
 use Rattle.std.specs.Ordering.{int_eq}
 use Rattle.correspondence.specs.Outcome.{Turns, Ends, done, fault, stop, given, Then, choose, loop}
@@ -14,7 +14,6 @@ use Rattle.c_values.specs.Path.{upd}
 use Rattle.c_values.specs.Choice.{Choice, picked}
 use Rattle.c_memory.specs.Heap.{write_heap}
 use Rattle.ac_expr.specs.Sort.{Level, Bytes}
-use Rattle.ac_expr.specs.Evaluation.{Env, State}
 use Rattle.ac_expr.specs.Signature.{Invocation, bound, no_env}
 use Rattle.simpl_lang.specs.Command as K
 use Rattle.simpl_lang.specs.Exec.{Machine, machine_with, with_local, Returned}
@@ -165,11 +164,16 @@ ended result (Returning v m) = done (record { result = v; state = m.state })
 ended result (Broken m) = fault K.Unreached
 ended result (Continued m) = fault K.Unreached
 
+-- A local has zeros until its declaration is reached; no typed function reads it before.
+abbrev pub zero_locals : Layout → List C.Variable → Env
+zero_locals l [] = no_env
+zero_locals l (v ∷ vs) = with_name v.name (V.Bits (record { width = local_width l v.type; bits = 0 })) (zero_locals l vs)
+
 -- What isn't in the unit has no body: no typed unit calls it.
 abbrev pub function_runs : Layout → Choice → (Name → Level) → Option C.TypedFn → Option ℕ → List Runs → Invocation → Ends Returned K.GuardKind
 function_runs l p levels None depth fs c = stop Turns
 function_runs l p levels (Some f) depth fs c =
-    Then (statements (record { layout = l; choice = p; level = levels f.name; result = f.result }) f.body depth fs (machine_with (bound (C.variable_names f.params) c.arguments no_env) c.state)) (ended f.result)
+    Then (statements (record { layout = l; choice = p; level = levels f.name; result = f.result }) f.body depth fs (machine_with (bound (C.variable_names f.params) c.arguments (zero_locals l f.locals)) c.state)) (ended f.result)
 
 abbrev pub bodies : C.TypedUnit → (Name → Level) → Choice → List Runs → Runs
 bodies u levels p fs depth c = function_runs u.layout p levels (C.typed_fn u.functions c.name) depth fs c

@@ -2,18 +2,18 @@
 -- before its operation; `&&`, `||` and `?:` take only the operands that they need. Undefined here are the six hard kinds
 -- of the subset's profile; a function's level adds what it watches beside them: from typed heaps on a root that no tag
 -- covers, and with numbers an unsigned result that doesn't fit.
-use Rattle.std.specs.Prelude.{ℕ, ◌*◌, ◌-◌, ◌^◌, Bool, true, false, not, ◌&&◌, ◌||◌, List, [], ◌∷◌, Option, Some, None, Result, Ok, Err, ℤ, pos, negsuc, neg_ℤ, ◌+ℤ◌, ◌*ℤ◌, int_lt, int_le, if◌then◌else◌}
+use Rattle.std.specs.Prelude.{ℕ, Bool, true, false, not, ◌&&◌, ◌||◌, List, [], ◌∷◌, Result, Ok, Err, ℤ, pos, neg_ℤ, ◌*ℤ◌, int_lt, int_le, if◌then◌else◌}
 use Rattle.std.specs.Int.{int_div_euclid}
 use Rattle.std.specs.Ordering.{int_eq}
-use Rattle.c_values.specs.Types.{Target, IntType, Int, CType, Integer, Void, Ptr, Struct, Array, width_of, is_signed, address_width}
-use Rattle.c_values.specs.Number.{NumberOp, Add, Sub, Mul, Div, Mod, number_op, is_of_type, greatest_of}
+use Rattle.c_values.specs.Types.{IntType, Int, CType, Integer, Ptr, width_of, is_signed, address_width}
+use Rattle.c_values.specs.Number.{NumberOp, Add, Sub, Mul, Div, Mod, number_op, is_of_type}
 use Rattle.c_values.specs.Word.{Word, unsigned, signed, word, word_op, word_unary, Wand, Wor, Wxor, Wnot, is_shift, power_of_two}
 use Rattle.c_values.specs.Value as V
-use Rattle.c_values.specs.Layout.{Layout, size_of, shape_of, space}
+use Rattle.c_values.specs.Layout.{Layout, size_of, shape_of}
 use Rattle.c_values.specs.Path.{Step, Field, Index, is_index, sel, spot}
 use Rattle.c_memory.specs.Tags.{is_pointer_ok}
 use Rattle.c_memory.specs.Heap.{read_heap, is_tagged}
-use Rattle.ac_expr.specs.Sort.{Level, Bytes, Words, Numbers, is_lifted}
+use Rattle.ac_expr.specs.Sort.{Level, Numbers, is_lifted}
 use Rattle.ac_expr.specs.Evaluation.{Env, State, moved, moved_to}
 use Rattle.simpl_lang.specs.Command as K
 use Rattle.c_types.specs.Typed as C

@@ -4,10 +4,10 @@
 use Rattle.std.specs.Prelude.{ℕ, Bool, true, false, List, [], ◌∷◌, ◌++◌, map, Option, Some, None, ℤ, pos, codes, if◌then◌else◌}
 use Rattle.std.specs.Fmt.{decimal}
 use Rattle.c_values.specs.Name.{Name}
-use Rattle.c_values.specs.Types.{Target, IntType, Int, CType, Integer, Void, Ptr, Struct, Array, width_of, is_signed, address_width}
+use Rattle.c_values.specs.Types.{Target, IntType, CType, Integer, width_of, is_signed}
 use Rattle.c_values.specs.Layout.{Layout, scalar_width}
 use Rattle.ac_expr.specs.Expression as E
-use Rattle.ac_expr.specs.Sort.{Level, Bytes, Words, Numbers, Kind, WordKind, NatKind, IntKind, BoolKind}
+use Rattle.ac_expr.specs.Sort.{Level, Numbers, Kind, WordKind, NatKind, IntKind, BoolKind}
 use Rattle.ac_expr.specs.Signature.{Binder, Signature}
 use Rattle.simpl_lang.specs.Command as K
 use Rattle.simpl_lang.specs.Command.{Condition, Simpl, Skip, Throw, Set, SetGlobal, Store, Pick, Seq, Cond, Guard, Catch, While, Call, SimplFn, SimplUnit}

@@ -1,13 +1,12 @@
 -- Generation, for expressions: what stands for the value and the truth of a C expression, and which conditions have to hold
 -- first, in order. The conditions of operands come before those of the operation.
-use Rattle.std.specs.Prelude.{ℕ, ◌-◌, ◌^◌, ◌==◌, nat_lt, Bool, true, false, List, [], ◌∷◌, ◌++◌, Option, Some, None, ℤ, pos, if◌then◌else◌}
-use Rattle.c_values.specs.Name.{Name}
-use Rattle.c_values.specs.Types.{Target, IntType, Int, CType, Integer, Void, Ptr, Struct, Array, width_of, is_signed, address_width}
-use Rattle.c_values.specs.Number.{NumberOp, Add, Sub, Mul, Div, Mod, least_of, greatest_of}
-use Rattle.c_values.specs.Word.{Word, word, WordOp, Wadd, Wsub, Wmul, Wand, Wor, Wxor, Wudiv, Wumod, Wsdiv, Wsmod, Wshl, Wushr, Wsshr, Wneg, Wnot, Wult, Wule, Wslt, Wsle}
+use Rattle.std.specs.Prelude.{ℕ, ◌-◌, ◌==◌, nat_lt, Bool, false, List, [], ◌∷◌, ◌++◌, ℤ, pos, if◌then◌else◌}
+use Rattle.c_values.specs.Types.{Target, IntType, CType, Integer, Ptr, width_of, is_signed, address_width}
+use Rattle.c_values.specs.Number.{Add, Sub, Mul, Div, least_of, greatest_of}
+use Rattle.c_values.specs.Word.{word, WordOp, Wadd, Wsub, Wmul, Wand, Wor, Wxor, Wudiv, Wumod, Wsdiv, Wsmod, Wshl, Wushr, Wsshr, Wneg, Wnot, Wult, Wule, Wslt, Wsle}
 use Rattle.c_values.specs.Layout.{Layout, scalar_width}
 use Rattle.ac_expr.specs.Expression as E
-use Rattle.ac_expr.specs.Sort.{Level, Bytes, Words, Numbers, is_lifted}
+use Rattle.ac_expr.specs.Sort.{Level, Numbers, is_lifted}
 use Rattle.simpl_lang.specs.Command.{GuardKind, Condition}
 use Rattle.simpl_lang.specs.Command as K
 use Rattle.c_types.specs.Typed as C

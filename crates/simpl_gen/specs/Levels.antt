@@ -1,8 +1,8 @@
 -- The level of each function. By default a function works on bytes where it, or a function that it calls, makes a pointer
 -- to an object type from something of another type, or where it is named so; every other one works on typed heaps.
 use Rattle.std.specs.Prelude.{◌≡◌, Bool, true, false, not, ◌&&◌, ◌||◌, List, [], ◌∷◌, ◌++◌, Option, Some, None, if◌then◌else◌}
-use Rattle.c_values.specs.Name.{Name, same_name, is_among}
-use Rattle.c_values.specs.Types.{CType, Integer, Void, Ptr, same_type}
+use Rattle.c_values.specs.Name.{Name, is_among}
+use Rattle.c_values.specs.Types.{CType, Void, Ptr, same_type}
 use Rattle.ac_expr.specs.Sort.{Level, Bytes, Words, Numbers}
 use Rattle.c_types.specs.Typed as C
 

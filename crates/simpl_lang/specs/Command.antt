@@ -1,6 +1,6 @@
 -- Simpl commands as plain trees (Schirmer, Verification of Sequential Imperative Programs in Isabelle/HOL), cut to the
 -- commands that generation makes.
-use Rattle.std.specs.Prelude.{ℕ, List, [], ◌∷◌, Option, Some, None, if◌then◌else◌}
+use Rattle.std.specs.Prelude.{List, [], ◌∷◌, Option, Some, None, if◌then◌else◌}
 use Rattle.c_values.specs.Name.{Name, same_name}
 use Rattle.c_values.specs.Types.{CType}
 use Rattle.c_values.specs.Layout.{Layout, GlobalVar}

@@ -1,6 +1,6 @@
 -- What commands do (Schirmer's big-step semantics), as the set of a run's ends: normal or abrupt with a machine, a fault
 -- with its kind, or stopped. It isn't stuck anywhere, since each called function has a body.
-use Rattle.std.specs.Prelude.{ℕ, Bool, true, false, List, [], ◌∷◌, Option, Some, None, ◌⊎◌, codes}
+use Rattle.std.specs.Prelude.{ℕ, Bool, List, [], ◌∷◌, Option, Some, None, ◌⊎◌, codes}
 use Rattle.std.proofs.Common.{inl, inr}
 use Rattle.correspondence.specs.Outcome.{Turns, Ends, done, fault, stop, Then, choose, loop}
 use Rattle.correspondence.specs.Bound.{Functions, called, below}

@@ -1,13 +1,14 @@
 -- Which commands are well-sorted, and which units are well-formed.
-use Rattle.std.specs.Prelude.{◌≡◌, Bool, true, false, not, ◌&&◌, List, [], ◌∷◌, map, Option, Some, None}
+use Rattle.std.specs.Prelude.{◌≡◌, ◌==◌, Bool, true, false, not, ◌&&◌, List, [], ◌∷◌, map, Option, Some, None}
 use Rattle.c_values.specs.Name.{Name, same_name}
 use Rattle.c_values.specs.Types.{CType}
 use Rattle.c_values.specs.Layout.{IsLayout, global_type}
 use Rattle.ac_expr.specs.Expression.{Exp, Path}
-use Rattle.ac_expr.specs.Sort.{Level, Scalar, Sort, Of, Kind, Scope, same_scalar, is_truth, word_sort_of}
+use Rattle.ac_expr.specs.Sort.{Level, Bytes, Words, Numbers, Scalar, Sort, Of, Kind, WordKind, NatKind, IntKind, BoolKind, Scope, same_scalar, is_truth, word_sort_of, are_kinds}
 use Rattle.ac_expr.specs.Signature.{Binder, Signature, names_of, kinds_of, signature}
 use Rattle.ac_expr.specs.Sorted.{are_distinct, names_with, program_sort, scalars_of, typed_place, global_place, fits_place, call_scalars}
-use Rattle.simpl_lang.specs.Command.{Condition, Simpl, Skip, Throw, Set, SetGlobal, Store, Pick, Seq, Cond, Guard, Catch, While, Call, SimplFn, SimplUnit}
+use Rattle.simpl_lang.specs.Command.{Condition, Simpl, Skip, Throw, Set, SetGlobal, Store, Pick, Seq, Cond, Guard, Catch, While, Call, SimplFn, SimplUnit, kind_of}
+use Rattle.simpl_lang.specs.Exec.{result_local}
 
 abbrev pub is_scalar_of : Option Scalar → Option Sort → Bool
 is_scalar_of (Some s) (Some (Of t)) = same_scalar s t
@@ -46,12 +47,40 @@ scope_of u f = record { layout = u.layout; names = names_with (names_of f.locals
 
 abbrev pub are_fns_sorted : SimplUnit → List SimplFn → Bool
 are_fns_sorted u [] = true
-are_fns_sorted u (f ∷ fs) = are_distinct (names_of f.locals) && is_sorted (scope_of u f) u.signatures f.body && are_fns_sorted u fs
+are_fns_sorted u (f ∷ fs) = are_kinds (kinds_of f.locals) && are_distinct (names_of f.locals) && is_sorted (scope_of u f) u.signatures f.body && are_fns_sorted u fs
+
+abbrev pub same_kind : Kind → Kind → Bool
+same_kind (WordKind m) (WordKind n) = m == n
+same_kind (NatKind m) (NatKind n) = m == n
+same_kind (IntKind m) (IntKind n) = m == n
+same_kind BoolKind BoolKind = true
+same_kind _ _ = false
+
+abbrev pub same_level : Level → Level → Bool
+same_level Bytes Bytes = true
+same_level Words Words = true
+same_level Numbers Numbers = true
+same_level _ _ = false
+
+-- the parameters are the first locals
+abbrev pub come_first : List Binder → List Binder → Bool
+come_first [] bs = true
+come_first (p ∷ ps) (b ∷ bs) = same_name p.name b.name && same_kind p.kind b.kind && come_first ps bs
+come_first (p ∷ ps) [] = false
+
+abbrev pub is_kind_of : Kind → Option Kind → Bool
+is_kind_of k (Some j) = same_kind k j
+is_kind_of k None = false
+
+-- the local that holds the result has its kind
+abbrev pub holds_result : Option Kind → List Binder → Bool
+holds_result None bs = true
+holds_result (Some k) bs = is_kind_of k (kind_of bs result_local)
 
 -- the signatures are of the functions, in their order
 abbrev pub are_signed : List SimplFn → List Signature → Bool
 are_signed [] [] = true
-are_signed (f ∷ fs) (s ∷ ss) = same_name f.name s.name && are_distinct (names_of s.params) && are_signed fs ss
+are_signed (f ∷ fs) (s ∷ ss) = same_name f.name s.name && same_level f.level s.level && come_first s.params f.locals && holds_result s.result f.locals && are_signed fs ss
 are_signed _ _ = false
 
 -- names are distinct, each body is well-sorted, and each call is of a function of the unit

@@ -3,10 +3,10 @@ use Rattle.c_parse.specs.FirstUnit.{unit_of}
 use Rattle.c_parse.specs.FirstForm.{IsFirstForm}
 use Rattle.monad_lang.specs.Program.{FinalUnit}
 use Rattle.ac_core.specs.Code.{final_unit_of}
-use Rattle.ac_core.specs.Exact.{IsExact}
+use Rattle.ac_core.specs.Exact.{AreProgramsOf, IsExact}
 use Rattle.ac_core.specs.FirstForm.{typed_unit_of, levels}
 use Rattle.ac_core.specs.Answer.{AreInNumbers}
-use Rattle.ac_core.proofs.FirstForm.{first_form_exact, first_form_numbers}
+use Rattle.ac_core.proofs.FirstForm.{first_form_exact, first_form_numbers, first_form_programs}
 use Rattle.ac_core.proofs.answer.show_text.Goals as goal
 
 pub returns-in_ok-write_program-in-Some : goal.returns-in_ok-write_program-in-Some
@@ -17,6 +17,7 @@ returns-in_ok-write_program-in-Some c =
       unit = unit;
       programs = final_unit_of c.in_ok-programs-in-Some.programs;
       is_unit = form;
+      of_unit = subst (λ (programs : FinalUnit). AreProgramsOf (typed_unit_of unit) levels programs) (sym c.in_ok-programs-in-Some.ensures) (first_form_programs unit);
       exact = subst (λ (programs : FinalUnit). IsExact (typed_unit_of unit) levels programs) (sym c.in_ok-programs-in-Some.ensures) (first_form_exact unit form.operands);
       numbers = subst (λ (programs : FinalUnit). AreInNumbers programs.functions) (sym c.in_ok-programs-in-Some.ensures) (first_form_numbers unit, tt);
       written = c.in_ok-write_program-in-Some.ensures;

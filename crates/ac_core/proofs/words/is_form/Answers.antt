@@ -1,8 +1,8 @@
 -- Each form's first word tells which words may follow.
-use Rattle.std.proofs.Common.{◌≡◌, ℕ, ◌⊎◌, inl, inr, Bool, true, false, ◌&&◌, eqb, List, length, map, string_bytes, sym, ap, ◌∙◌}
+use Rattle.std.proofs.Common.{◌≡◌, ℕ, inl, inr, Bool, ◌&&◌, eqb, length, string_bytes, sym, ap, ◌∙◌}
 use Rattle.std.proofs.lemmas.List.{length-map}
 use Rattle.std.proofs.lemmas.Bool.{ne_eqb}
-use Rattle.ac_core.specs.Words.{Run, Prove, has_options, has_files, has_count}
+use Rattle.ac_core.specs.Words.{Run, Prove, has_files, has_count}
 use Rattle.ac_core.proofs.Commands.{is_form_of, is_some-check_of, is_some-of_three, is_some-sample_of, is_some-trial_of}
 use Rattle.ac_core.proofs.words.is_form.Goals as goal
 

@@ -1,0 +1,9 @@
+use Rattle.std.proofs.Common.{refl}
+use Rattle.worked_rows.proofs.Computed
+use Rattle.worked_rows.proofs.calls.char_sum.Goals as goal
+
+pub returns : goal.returns
+returns c = record {
+  plainly = Computed.returns _ _ _ refl refl refl refl;
+  at_numbers = Computed.returns _ _ _ refl refl refl refl;
+}
