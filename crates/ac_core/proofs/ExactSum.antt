@@ -2,6 +2,7 @@
 use Rattle.std.proofs.Common.{◌≡◌, ℕ, ◌+◌, Bool, true, false, ◌||◌, ◌&&◌, not, List, [], ◌∷◌, map, sym, refl, ap, ◌∙◌, subst, Option, Some, None, Ok, Err, ℤ, pos, if◌then◌else◌}
 use Rattle.correspondence.specs.Outcome.{Outcome, Done, Failed, Ends, done}
 use Rattle.c_values.specs.Name.{Name, same_name, is_among}
+use Rattle.c_values.specs.Types.{Ilp32}
 use Rattle.c_values.specs.Number.{Add}
 use Rattle.c_values.specs.Choice.{Choice}
 use Rattle.c_values.specs.Value.{Number}
@@ -18,8 +19,9 @@ use Rattle.monad_lang.specs.Form.{program_has, is_stored, no_place, is_numbers}
 use Rattle.monad_lang.specs.Run as M
 use Rattle.c_types.specs.Typed as C
 use Rattle.simpl_gen.specs.CValue as V
-use Rattle.ac_core.specs.Exact.{AreArguments, Begin, state_of, heap_for, ExactFrom, Exact, IsExact}
-use Rattle.ac_core.specs.Sum.{Sum, Named, Constant, Plus, SumFunction, IsSum, layout, c_sum, c_parameter, typed_fn_of, typed_unit_of, levels, exp_of_sum, guard, guarded, body, final_unit_of}
+use Rattle.simpl_gen.specs.Generate.{variables}
+use Rattle.ac_core.specs.Exact.{AreArguments, Begin, state_of, heap_for, ExactFrom, Exact, IsExact, AreProgramsOf}
+use Rattle.ac_core.specs.Sum.{Sum, Named, Constant, Plus, SumFunction, IsSum, layout, c_sum, c_parameter, typed_fn_of, typed_unit_of, levels, exp_of_sum, guard, guarded, body, parameter, final_unit_of}
 use Rattle.ac_core.proofs.Unsigned.{Same, c_bound, m_bound, word_is, parameter_is, fits_test, tested_only, tested_does, tested_fails, context, Means, adds, wraps, left_undefined, right_undefined, guard_is}
 use Rattle.ac_core.proofs.OneReturn as one
 
@@ -172,3 +174,15 @@ pub sum_numbers : (sum : Sum) → is_numbers (body sum) ≡ true
 sum_numbers sum = λ i.
     not (body_skipped is_load is_stored (record { var = λ _. refl; number = λ _. refl; arith_is = λ _ _. refl; between = λ _ _ _. refl }) sum i)
     && not (body_skipped is_word_arithmetic no_place (record { var = λ _. refl; number = λ _. refl; arith_is = λ _ _. refl; between = λ _ _ _. refl }) sum i)
+
+parameters_are : (xs : List Name) → map parameter xs ≡ variables Ilp32 Numbers (map c_parameter xs)
+parameters_are [] = refl
+parameters_are (x ∷ xs) = ap (λ bs. parameter x ∷ bs) (parameters_are xs)
+
+-- the program is that of the C function, at the level of numbers
+pub sum_programs : (u : SumFunction) → AreProgramsOf (typed_unit_of u) levels (final_unit_of u)
+sum_programs u = record {
+  layout = refl;
+  globals = refl;
+  functions = (record { name = refl; at_level = refl; params = parameters_are u.params; results = refl }, tt);
+}
