@@ -1,6 +1,7 @@
 -- When abstract programs are exact against C: a program fails where, and only where, the C hits what its level watches, and
--- otherwise the C hits nothing at all and both have the same results. A bound is a number of turns and a limit of nested
--- calls, or none.
+-- otherwise the C hits nothing at all and both have the same results. (AutoCorres has one half of this, its refinement
+-- theorem.) A bound is a number of turns and a limit of nested calls, or none. C trees stand against sets of results; nothing
+-- between them is mentioned.
 use Rattle.std.specs.Prelude.{◌≡◌, ℕ, ◌+◌, ◌<◌, ◌≤◌, Bool, true, false, List, [], ◌∷◌, Option, Some, None, ◌⊎◌, ◌↔◌}
 use Rattle.correspondence.specs.Outcome.{Done, Failed, Ends}
 use Rattle.c_values.specs.Name.{Name}

@@ -1,4 +1,4 @@
--- Hoare triples, of an abstract program and of the C that it stands for.
+-- Hoare triples (Hoare 1969, with logical variables), of an abstract program and of the C that it stands for.
 use Rattle.std.specs.Prelude.{◌≡◌, ℕ, Bool, true, false, not, ◌&&◌, List, [], ◌∷◌, ◌++◌, map, Option, Some, None, codes, if◌then◌else◌}
 use Rattle.correspondence.specs.Outcome.{Done, Failed}
 use Rattle.c_values.specs.Name.{Name, with_name}

@@ -1,5 +1,6 @@
--- The value of an expression in an environment and a state. Every expression has one: what is out of range, not covered
--- or divided by zero has a value that the tables of words, numbers and heaps give.
+-- The value of an expression in an environment and a state, by recursion on the expression. Every expression has one: what is
+-- out of range, not covered or divided by zero has a value that the tables of words, numbers and heaps give. Numbers have no
+-- limit here; the code says where 128 bits don't do.
 use Rattle.std.specs.Prelude.{ℕ, Bool, true, false, not, ◌&&◌, ◌||◌, List, [], ◌∷◌, Option, Some, None, ℤ, pos, neg_ℤ, ◌*ℤ◌, int_lt, int_le}
 use Rattle.c_values.specs.Name.{Name}
 use Rattle.c_values.specs.Types.{address_width}

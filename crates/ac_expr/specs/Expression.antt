@@ -1,4 +1,5 @@
--- Expressions as plain trees, one case for each row of the language's table of expressions.
+-- Expressions as plain trees, one case for each row of the language's table of expressions (docs/PROGRAMS.md): C's words and
+-- addresses, the numbers that stand for them, and both kinds of heap. The code's trees have pointers; these have none.
 use Rattle.std.specs.Prelude.{ℕ, ℤ, Bool}
 use Rattle.c_values.specs.Name.{Name}
 use Rattle.c_values.specs.Types.{CType}

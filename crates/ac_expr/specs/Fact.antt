@@ -1,4 +1,4 @@
--- Facts: what is known at a place of a program. A fact stands for an expression without building it.
+-- Facts: what is known at a place of a program. A fact stands for an expression, which the code doesn't build.
 use Rattle.std.specs.Prelude.{◌≡◌, ℤ, true}
 use Rattle.c_values.specs.Types.{CType}
 use Rattle.c_values.specs.Layout.{Layout}

@@ -1,5 +1,6 @@
--- Sorts, kinds and levels, and which expressions are well-sorted.
-use Rattle.std.specs.Prelude.{ℕ, ◌==◌, nat_lt, ◌^◌, Bool, true, false, not, ◌&&◌, ◌||◌, Option, Some, None, if◌then◌else◌}
+-- Sorts, kinds and levels, and which expressions are well-sorted: simple sorts, without subtypes, by recursion on the
+-- expression.
+use Rattle.std.specs.Prelude.{ℕ, ◌==◌, nat_lt, ◌^◌, Bool, true, false, not, ◌&&◌, ◌||◌, Option, Some, None, if◌then◌else◌, List, [], ◌∷◌}
 use Rattle.c_values.specs.Name.{Name}
 use Rattle.c_values.specs.Types.{CType, same_type, address_width}
 use Rattle.c_values.specs.Number.{NumberOp, Neg}

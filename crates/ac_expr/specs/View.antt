@@ -1,4 +1,5 @@
--- The view of a value at a kind: a word as itself, or by its unsigned or its signed value.
+-- The view of a value at a kind (the word abstraction of AutoCorres): a word as itself, or by its unsigned or its signed
+-- value. And what a pick gives at a kind.
 use Rattle.std.specs.Prelude.{◌≡◌, List, [], ◌∷◌, true, false}
 use Rattle.correspondence.specs.Outcome.{Ends, any, done, Then}
 use Rattle.c_values.specs.Choice.{Choice, Any, Fill, picked}

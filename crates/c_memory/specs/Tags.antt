@@ -1,5 +1,6 @@
--- Tags: which objects lie in memory, and which roots they cover. A tag covers itself and, through its members and
--- elements, every part of it that is an integer, a pointer or a struct.
+-- Tags: which objects lie in memory, and which roots they cover (after the typed heaps of Tuch, Klein and Norrish, with a
+-- fixed list of tags in place of retyping). A tag covers itself and, through its members and elements, every part of it that
+-- is an integer, a pointer or a struct.
 use Rattle.std.specs.Prelude.{◌≡◌, ℕ, suc, ◌+◌, ◌-◌, ◌*◌, ◌/◌, ◌%◌, ◌<◌, ◌≤◌, nat_eq, nat_lt, nat_le, Bool, true, false, not, ◌&&◌, ◌||◌, List, [], ◌∷◌, Option, Some, None, is_some, ◌⊎◌, if◌then◌else◌, pos}
 use Rattle.c_values.specs.Types.{CType, Integer, Void, Ptr, Struct, Array, same_type}
 use Rattle.c_values.specs.Layout.{Layout, Shape, Incomplete, Scalar, Record, Row, Fields, no_fields, field, size, type_of, shape_of, size_of, align_of, is_object, space}

@@ -1,5 +1,5 @@
--- Typed heaps: for each tag the value that lies there, in place of bytes. (Tuch's typed views of memory, here with a
--- fixed list of tags.) The values of one type are a map from its tagged addresses; a heap is all these maps at once.
+-- Typed heaps: for each tag the value that lies there, in place of bytes (the split heaps of AutoCorres). The values of one
+-- type are a map from its tagged addresses; a heap is all these maps at once, as a list. The code keeps a map for each type.
 use Rattle.std.specs.Prelude.{ℕ, List, [], ◌∷◌, ◌++◌, map, Option, Some, None}
 use Rattle.c_values.specs.Types.{CType}
 use Rattle.c_values.specs.Value.{Value, nothing}

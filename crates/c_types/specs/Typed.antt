@@ -43,7 +43,7 @@ mutual
     Local : Name → CType → Expr
     -- what lies at a place
     Value : Place → Expr
-    -- to another scalar type
+    -- to a scalar type; a cast and a unary `+` have this node also where the type is there already
     Convert : CType → Expr → Expr
     -- the same of a null pointer constant
     ConvertNull : CType → Expr → Expr
@@ -62,14 +62,16 @@ mutual
     Or : Expr → Expr → Expr
     -- both branches have the type
     Choose : CType → Expr → Expr → Expr → Expr
-    -- a pointer to a type, and an integer
+    -- a pointer to a type, and then an integer
     Move : Sign → CType → Expr → Expr → Expr
+    -- an integer, and then a pointer to a type
+    MoveBy : CType → Expr → Expr → Expr
     -- `&` of a place through a pointer, whose type the place has
     Address : Place → CType → Expr
     -- an array place as a pointer to its first element, whose type this is
     Decay : Place → CType → Expr
 
-  -- a place in memory or in a global, of the type at its end
+  -- a place in memory, by the type of its root, the pointer, the path and the type at its end; or in a global
   pub data Place : Type 0 where
     Through : CType → Expr → Path → CType → Place
     InGlobal : Name → Path → CType → Place
@@ -81,21 +83,21 @@ mutual
     Element : ℕ → Expr → Path → Path
 
 -- what is assigned
-pub data Target : Type 0 where
-  ToLocal : Name → CType → Target
-  ToPlace : Place → Target
+pub data Destination : Type 0 where
+  ToLocal : Name → CType → Destination
+  ToPlace : Place → Destination
 
--- what becomes of a called function's result, which has a type
+-- what becomes of a called function's result: each has its type, and a returned one the type that it is returned as
 pub data Use : Type 0 where
   NoResult : Use
   Ignored : CType → Use
-  Assigned : CType → Target → Use
+  Assigned : CType → Destination → Use
   Returned : CType → CType → Use
 
 -- a loop's test; an absent one is true
 pub data Test : Type 0 where
   Always : Test
-  While_true : Expr → Test
+  Tested : Expr → Test
 
 mutual
   pub data Statement : Type 0 where
@@ -104,7 +106,7 @@ mutual
     -- a declaration without initialiser
     Declare : Name → CType → Statement
     -- the right side has the target's type
-    Assign : Target → Expr → Statement
+    Assign : Destination → Expr → Statement
     -- the call's number, the function, its arguments at the parameters' types
     Call : ℕ → Name → List Expr → Use → Statement
     If : Expr → Statement → Statement → Statement
@@ -139,7 +141,8 @@ pub record TypedFn : Type 0 where
   pub params : List Variable
   -- those that are declared, in the order of the text
   pub locals : List Variable
-  -- a conversion to a pointer stands where only a value is left of it: in an operand of `sizeof`, or in a constant
+  -- where only a value is left, in an operand of `sizeof` or in a constant, a conversion stood to a pointer to a type that
+  -- isn't void, from another type, and not of a null pointer constant
   pub folds_cast : Bool
   pub body : Statements
 
@@ -171,10 +174,11 @@ type_of (And a b) = Integer Int
 type_of (Or a b) = Integer Int
 type_of (Choose t c a b) = t
 type_of (Move s t p a) = Ptr t
+type_of (MoveBy t a p) = Ptr t
 type_of (Address p t) = Ptr t
 type_of (Decay p t) = Ptr t
 
-abbrev pub target_type : Target → CType
+abbrev pub target_type : Destination → CType
 target_type (ToLocal x t) = t
 target_type (ToPlace p) = place_type p
 

@@ -1,4 +1,5 @@
--- What is chosen where nothing says which value: any word of the width, or that of one fill number.
+-- What is chosen where nothing says which value (C99 6.2.6.1, an indeterminate value without trap): any word of the width,
+-- or that of one fill number.
 use Rattle.std.specs.Prelude.{ℕ, pos}
 use Rattle.correspondence.specs.Outcome.{Ends, any, done}
 use Rattle.c_values.specs.Word.{Word, IsWord, word}

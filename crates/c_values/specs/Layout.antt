@@ -1,6 +1,6 @@
--- How types lie in memory (C99 6.7.2.1, with the alignments of the two targets): a scalar's alignment is its size, a
--- member stands at the least offset that is aligned for it, a struct's alignment is its largest member's, and its size
--- is rounded up to that.
+-- How types lie in memory (C99 6.7.2.1p12 to p15): a scalar's alignment is its size, a member stands at the least offset
+-- that is aligned for it, a struct's alignment is its largest member's, and its size is rounded up to that. By recursion on
+-- types, each struct from those before it; the code keeps tables.
 use Rattle.std.specs.Prelude.{◌≡◌, ℕ, ◌+◌, ◌-◌, ◌*◌, ◌/◌, ◌^◌, max, nat_lt, nat_le, Bool, true, false, not, ◌&&◌, List, [], ◌∷◌, Option, Some, None, if◌then◌else◌}
 use Rattle.c_values.specs.Name.{Name, same_name, with_name, is_among}
 use Rattle.c_values.specs.Value.{Value}

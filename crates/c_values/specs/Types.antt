@@ -1,4 +1,5 @@
--- The target and the types of the C subset (C99 6.2.5). `char` is unsigned; an enum type is `int`.
+-- The target and the types of the C subset (C99 6.2.5, 6.2.6.2; the widths are those of the two data models ILP32 and LP64).
+-- `char` is unsigned, and an enum type is `int`.
 use Rattle.std.specs.Prelude.{ℕ, ◌==◌, Bool, true, false, ◌&&◌, List, [], ◌∷◌}
 use Rattle.c_values.specs.Name.{Name, same_name}
 

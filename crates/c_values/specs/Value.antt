@@ -1,4 +1,4 @@
--- Values: words, whole numbers, truth values, and the parts of structs and arrays.
+-- Values: words, whole numbers, truth values, and the parts of structs and arrays in order (C99 6.2.5p20).
 use Rattle.std.specs.Prelude.{ℕ, zero, suc, ◌==◌, nat_lt, Bool, true, false, not, ◌&&◌, ◌||◌, ℤ, pos, negsuc, if◌then◌else◌}
 use Rattle.std.specs.Ordering.{int_eq}
 use Rattle.c_values.specs.Word.{Word, word}

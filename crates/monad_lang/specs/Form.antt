@@ -1,4 +1,5 @@
--- The forms of programs: on bytes, on typed heaps, on numbers, and tidy.
+-- The forms of programs: on bytes, on typed heaps, on numbers, and tidy, which is to be without a place where one of the
+-- rules of the state monad would make the program simpler.
 use Rattle.std.specs.Prelude.{Bool, true, false, not, ◌&&◌, ◌||◌, List, [], ◌∷◌}
 use Rattle.c_values.specs.Name.{Name, same_name, is_among}
 use Rattle.ac_expr.specs.Expression.{Exp, Var, WordLit, NumberLit, TruthLit}

@@ -1,4 +1,5 @@
--- Monadic programs as plain trees: the nondeterministic state monad with failure of AutoCorres, with values, memory and globals.
+-- Monadic programs as plain trees: the nondeterministic state monad with failure of AutoCorres (Greenaway's thesis, after
+-- Cock, Klein and Sewell), with values, a heap and globals.
 use Rattle.std.specs.Prelude.{List, [], ◌∷◌, Option, Some, None, if◌then◌else◌}
 use Rattle.c_values.specs.Name.{Name, same_name}
 use Rattle.c_values.specs.Types.{CType}

@@ -1,4 +1,5 @@
--- What holds wherever a run of a program comes: at each write and each call that it reaches, whatever it does afterwards.
+-- What holds wherever a run of a program comes: at each write and each call that stands in the program itself and that the
+-- run reaches, whatever it does afterwards. What a called function reaches is said of that function's program.
 use Rattle.std.specs.Prelude.{◌≡◌, ℕ, Bool, true, false, List, [], ◌∷◌, Option}
 use Rattle.correspondence.specs.Outcome.{Done}
 use Rattle.c_values.specs.Layout.{Layout}

@@ -1,4 +1,6 @@
--- What programs do: which ends a run may have, at a bound and a choice, from an environment and a state.
+-- What programs do: which ends a run may have, at a bound and a choice, from an environment and a state. Results are a set,
+-- as in the nondeterministic state monad of the AutoCorres thesis, beside failure and the stop at a bound. By recursion on the
+-- program; the code's interpreter makes one run.
 use Rattle.std.specs.Prelude.{ℕ, List, [], ◌∷◌, Option, Some, None, ◌⊎◌}
 use Rattle.std.proofs.Common.{inl, inr}
 use Rattle.correspondence.specs.Outcome.{Turns, Ends, done, fault, stop, Then, choose, loop}

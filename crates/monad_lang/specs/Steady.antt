@@ -1,4 +1,5 @@
--- Programs in range, and programs that do the same on bytes and on the typed heaps that view them.
+-- Programs in range, and programs that do the same on bytes and on the typed heaps that view them (the heap lifting of
+-- AutoCorres, in both directions).
 use Rattle.std.specs.Prelude.{◌≡◌, ℕ, true, List, Option, Some, None}
 use Rattle.correspondence.specs.Corresponds.{Corresponds}
 use Rattle.c_values.specs.Name.{Name}

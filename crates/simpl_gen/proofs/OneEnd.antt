@@ -22,7 +22,7 @@ and_next_once rest h (Broken m) = done_once _
 and_next_once rest h (Continued m) = done_once _
 and_next_once rest h (Returning v m) = done_once _
 
-assigned_once : (t : Setting) (target : C.Target) (v : V.Value) (m : Machine) → OneEnd (assigned t target v m)
+assigned_once : (t : Setting) (target : C.Destination) (v : V.Value) (m : Machine) → OneEnd (assigned t target v m)
 assigned_once t (C.ToLocal x u) v m = done_once _
 assigned_once t (C.ToPlace p) v m = then_once _ _ (λ s. done_once _) (given_once _)
 
@@ -34,7 +34,7 @@ used_once t (C.Returned from to) v m = done_once _
 
 tested_once : (t : Setting) (test : C.Test) (m : Machine) → OneEnd (tested t test m)
 tested_once t C.Always m = done_once _
-tested_once t (C.While_true e) m = then_once _ _ (λ v. choose_once _ _ _ (done_once _) (done_once _)) (given_once _)
+tested_once t (C.Tested e) m = then_once _ _ (λ v. choose_once _ _ _ (done_once _) (done_once _)) (given_once _)
 
 turned_once : (rest : Machine → Ends (Machine ⊎ Flow) K.GuardKind) → ((m : Machine) → OneEnd (rest m)) → (f : Flow) → OneEnd (turned rest f)
 turned_once rest h (Next m) = h m
@@ -90,9 +90,9 @@ mutual
   statement_once t q (C.If e a b) depth fs h m =
       then_once _ _ (λ v. choose_once _ _ _ (statement_once t q a depth fs h m) (statement_once t q b depth fs h m)) (given_once _)
   statement_once t q (C.While e a) depth fs h m =
-      loop_once _ _ (tested_once t (C.While_true e)) (λ gs hs n. then_once _ _ (turned_once _ (λ j. done_once _)) (statement_once t q a depth gs hs n)) fs h m
+      loop_once _ _ (tested_once t (C.Tested e)) (λ gs hs n. then_once _ _ (turned_once _ (λ j. done_once _)) (statement_once t q a depth gs hs n)) fs h m
   statement_once t q (C.DoWhile n a e) depth fs h m =
-      loop_once _ _ (tested_after_first_once t (C.While_true e)) (λ gs hs x. then_once _ _ turned_later_once (statement_once t q a depth gs hs x.1)) fs h _
+      loop_once _ _ (tested_after_first_once t (C.Tested e)) (λ gs hs x. then_once _ _ turned_later_once (statement_once t q a depth gs hs x.1)) fs h _
   statement_once t q (C.For init test step a) depth fs h m =
       then_once _ _ (and_next_once _ (loop_once _ _ (tested_once t test)
       (λ gs hs n. then_once _ _ (turned_once _ (stepped_once _ (statement_once t q step depth gs hs))) (statement_once t q a depth gs hs n)) fs h))
@@ -116,7 +116,7 @@ mutual
 
 function_once : (l : Layout) (k : ℕ) (levels : Name → Level) (f : Option C.TypedFn) (depth : Option ℕ) (fs : List Runs) → HaveOneEnd fs → (c : Invocation) → OneEnd (function_runs l (Fill k) levels f depth fs c)
 function_once l k levels None depth fs h c = stop_once _
-function_once l k levels (Some f) depth fs h c = then_once _ _ (ended_once f.result) (statements_once (record { layout = l; choice = Fill k; level = levels f.name; result = f.result }) (picked_once k) f.body depth fs h _)
+function_once l k levels (Some f) depth fs h c = then_once _ _ (ended_once f.result) (statements_once (record { layout = l; choice = Fill k; level = levels f.name }) (picked_once k) f.body depth fs h _)
 
 module _ (u : C.TypedUnit) (levels : Name → Level) (k : ℕ) where
   bodies_once : (fs : List Runs) → HaveOneEnd fs → (depth : Option ℕ) (c : Invocation) → OneEnd (bodies u levels (Fill k) fs depth c)

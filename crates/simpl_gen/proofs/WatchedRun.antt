@@ -12,18 +12,18 @@ use Rattle.ac_expr.specs.Signature.{Invocation}
 use Rattle.simpl_lang.specs.Command as K
 use Rattle.simpl_lang.specs.Exec.{Machine}
 use Rattle.c_types.specs.Typed as C
-use Rattle.simpl_gen.specs.CValue.{Known}
+use Rattle.simpl_gen.specs.CValue.{Defined}
 use Rattle.simpl_gen.specs.CRun.{Flow, Next, Broken, Continued, Returning, Runs, Setting, Ended, context, and_next, assigned, used, tested, turned, stepped, tested_after_first, statement, statements, groups, function_runs, bodies, c_runs, plain}
 use Rattle.simpl_gen.proofs.WatchedValue.{IsExtra, tag, wrap, Watched, same, extra, bind_watched, accessible_watched, value_watched, located_watched, values_watched}
 
 -- the same setting, where only the six hard kinds are watched
 abbrev pub plain_setting : Setting → Setting
-plain_setting t = record { layout = t.layout; choice = t.choice; level = Bytes; result = t.result }
+plain_setting t = record { layout = t.layout; choice = t.choice; level = Bytes }
 
 itself : {A : Type 0} (p : Ends A K.GuardKind) → Watches IsExtra p p
 itself p = watches_itself IsExtra p
 
-given_watches : {A : Type 0} (r s : Known A) → Watched r s → Watches IsExtra (given r) (given s)
+given_watches : {A : Type 0} (r s : Defined A) → Watched r s → Watches IsExtra (given r) (given s)
 given_watches _ _ (same {r}) = itself (given r)
 given_watches {A} _ _ (extra {k} {r = s} e) = record {
   done = λ a h. absurd h;
@@ -36,7 +36,7 @@ given_watches {A} _ _ (extra {k} {r = s} e) = record {
     failed f h = inr (subst IsExtra (sym h) e)
 
 -- the value of an expression, and then the rest
-module _ {A B : Type 0} (r s : Known A) (f g : A → Ends B K.GuardKind) where
+module _ {A B : Type 0} (r s : Defined A) (f g : A → Ends B K.GuardKind) where
   evaluated_watches : Watched r s → ((a : A) → Watches IsExtra (f a) (g a)) → Watches IsExtra (Then (given r) f) (Then (given s) g)
   evaluated_watches h k = then_watches IsExtra _ _ _ _ (given_watches r s h) k
 
@@ -46,7 +46,7 @@ and_next_watches r s h (Broken m) = itself _
 and_next_watches r s h (Continued m) = itself _
 and_next_watches r s h (Returning v m) = itself _
 
-assigned_watches : (t : Setting) (target : C.Target) (v : V.Value) (m : Machine) → Watches IsExtra (assigned t target v m) (assigned (plain_setting t) target v m)
+assigned_watches : (t : Setting) (target : C.Destination) (v : V.Value) (m : Machine) → Watches IsExtra (assigned t target v m) (assigned (plain_setting t) target v m)
 assigned_watches t (C.ToLocal x u) v m = itself _
 assigned_watches t (C.ToPlace p) v m =
     evaluated_watches _ _ _ _ (bind_watched _ _ _ _ (located_watched (context t m) p) (λ s. accessible_watched (context t m) s _ _ same)) (λ s. itself _)
@@ -59,7 +59,7 @@ used_watches t (C.Returned from to) v m = itself _
 
 tested_watches : (t : Setting) (test : C.Test) (m : Machine) → Watches IsExtra (tested t test m) (tested (plain_setting t) test m)
 tested_watches t C.Always m = itself _
-tested_watches t (C.While_true e) m = evaluated_watches _ _ _ _ (value_watched (context t m) e) (λ v. itself _)
+tested_watches t (C.Tested e) m = evaluated_watches _ _ _ _ (value_watched (context t m) e) (λ v. itself _)
 
 turned_watches : (r s : Machine → Ends (Machine ⊎ Flow) K.GuardKind) → ((m : Machine) → Watches IsExtra (r m) (s m)) → (f : Flow) → Watches IsExtra (turned r f) (turned s f)
 turned_watches r s h (Next m) = h m
@@ -87,10 +87,10 @@ mutual
       evaluated_watches _ _ _ _ (value_watched (context t m) e) (λ v.
       choose_watches IsExtra _ _ _ _ _ (statement_watches t a depth fs gs k m) (statement_watches t b depth fs gs k m))
   statement_watches t (C.While e a) depth fs gs k m =
-      loop_watches IsExtra _ _ _ _ (tested_watches t (C.While_true e))
+      loop_watches IsExtra _ _ _ _ (tested_watches t (C.Tested e))
       (λ fs' gs' k' n. then_watches IsExtra _ _ _ _ (statement_watches t a depth fs' gs' k' n) (λ f. itself _)) fs gs k m
   statement_watches t (C.DoWhile n a e) depth fs gs k m =
-      loop_watches IsExtra _ _ _ _ (tested_after_first_watches t (C.While_true e))
+      loop_watches IsExtra _ _ _ _ (tested_after_first_watches t (C.Tested e))
       (λ fs' gs' k' x. then_watches IsExtra _ _ _ _ (statement_watches t a depth fs' gs' k' x.1) (λ f. itself _)) fs gs k _
   statement_watches t (C.For init test step a) depth fs gs k m =
       then_watches IsExtra _ _ _ _ (statements_watch t init depth fs gs k m)

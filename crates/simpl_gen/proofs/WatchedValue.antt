@@ -10,7 +10,7 @@ use Rattle.c_memory.specs.Tags.{is_pointer_ok}
 use Rattle.ac_expr.specs.Sort.{Level, Bytes, Words, Numbers, is_lifted}
 use Rattle.simpl_lang.specs.Command as K
 use Rattle.c_types.specs.Typed as C
-use Rattle.simpl_gen.specs.CValue.{Context, Known, ◌>>=◌, unless, Spot, InMemory, InGlobal, value_at, int_of, is_true, fitted, computed, accessible, content, value, located, indexed, values}
+use Rattle.simpl_gen.specs.CValue.{Context, Defined, ◌>>=◌, unless, Located, InMemory, InGlobal, value_at, int_of, is_true, fitted, computed, accessible, content, value, located, indexed, values}
 
 -- the kinds that a level alone watches
 pub data IsExtra : K.GuardKind → Type 0 where
@@ -18,20 +18,20 @@ pub data IsExtra : K.GuardKind → Type 0 where
   wrap : IsExtra K.Wrap
 
 -- the same, or an extra undefined step
-pub data Watched {A : Type 0} : Known A → Known A → Type 0 where
-  same : {r : Known A} → Watched r r
-  extra : {k : K.GuardKind} {r : Known A} → IsExtra k → Watched (Err k) r
+pub data Watched {A : Type 0} : Defined A → Defined A → Type 0 where
+  same : {r : Defined A} → Watched r r
+  extra : {k : K.GuardKind} {r : Defined A} → IsExtra k → Watched (Err k) r
 
-pub bind_watched : {A B : Type 0} (r s : Known A) (f g : A → Known B) → Watched r s → ((a : A) → Watched (f a) (g a)) → Watched (r >>= f) (s >>= g)
+pub bind_watched : {A B : Type 0} (r s : Defined A) (f g : A → Defined B) → Watched r s → ((a : A) → Watched (f a) (g a)) → Watched (r >>= f) (s >>= g)
 bind_watched _ _ f g (same {r = Ok a}) h = h a
 bind_watched _ _ f g (same {r = Err k}) h = same
 bind_watched _ _ f g (extra e) h = extra e
 
-unless_watched : {A : Type 0} (t : Bool) (k : K.GuardKind) (r s : Known A) → Watched r s → Watched (unless t k r) (unless t k s)
+unless_watched : {A : Type 0} (t : Bool) (k : K.GuardKind) (r s : Defined A) → Watched r s → Watched (unless t k r) (unless t k s)
 unless_watched true k r s h = h
 unless_watched false k r s h = same
 
-if_watched : {A : Type 0} (t : Bool) (r s r' s' : Known A) → Watched r s → Watched r' s' → Watched (if t then r else r') (if t then s else s')
+if_watched : {A : Type 0} (t : Bool) (r s r' s' : Defined A) → Watched r s → Watched r' s' → Watched (if t then r else r') (if t then s else s')
 if_watched true r s r' s' h k = h
 if_watched false r s r' s' h k = k
 
@@ -39,7 +39,7 @@ if_watched false r s r' s' h k = k
 abbrev pub plainly : Context → Context
 plainly c = record { layout = c.layout; level = Bytes; locals = c.locals; state = c.state }
 
-by_sign : {A : Type 0} (t s : Bool) (r : Known A) → Watched (unless t (if s then K.Signed else K.Wrap) r) (unless (t || not s) K.Signed r)
+by_sign : {A : Type 0} (t s : Bool) (r : Defined A) → Watched (unless t (if s then K.Signed else K.Wrap) r) (unless (t || not s) K.Signed r)
 by_sign true s r = same
 by_sign false true r = same
 by_sign false false r = extra wrap
@@ -56,24 +56,24 @@ computed_watched l level i C.Multiply a b = fitted_watched l level i _
 computed_watched l level i C.Divide a b = same
 computed_watched l level i C.Remainder a b = same
 
-tag_watched : {A : Type 0} (t : Bool) (r s : Known A) → Watched r s → Watched (unless t K.Tag r) s
+tag_watched : {A : Type 0} (t : Bool) (r s : Defined A) → Watched r s → Watched (unless t K.Tag r) s
 tag_watched true r s h = h
 tag_watched false r s h = extra tag
 
-pub accessible_watched : {A : Type 0} (c : Context) (s : Spot) (r r' : Known A) → Watched r r' → Watched (accessible c s r) (accessible (plainly c) s r')
+pub accessible_watched : {A : Type 0} (c : Context) (s : Located) (r r' : Defined A) → Watched r r' → Watched (accessible c s r) (accessible (plainly c) s r')
 accessible_watched c (InMemory t p ps) r r' h =
     unless_watched (is_pointer_ok c.layout t p.bits) K.Pointer _ _ (tag_watched (not (is_lifted c.level) || is_tagged c.layout c.state.heap t p.bits) r r' h)
 accessible_watched c (InGlobal x ps) r r' h = h
 
-read_watched : (c : Context) (s : Spot) → Watched (accessible c s (Ok (content c s))) (accessible (plainly c) s (Ok (content (plainly c) s)))
+read_watched : (c : Context) (s : Located) → Watched (accessible c s (Ok (content c s))) (accessible (plainly c) s (Ok (content (plainly c) s)))
 read_watched c (InMemory t p ps) = accessible_watched c (InMemory t p ps) _ _ same
 read_watched c (InGlobal x ps) = same
 
 -- an operand's truth as an int
-abbrev int : Context → Bool → Known V.Value
+abbrev int : Context → Bool → Defined V.Value
 int c t = Ok (int_of c.layout t)
 
-truth_watched : (c : Context) (r s : Known V.Value) → Watched r s → Watched (r >>= λ w. int c (is_true w)) (s >>= λ w. int c (is_true w))
+truth_watched : (c : Context) (r s : Defined V.Value) → Watched r s → Watched (r >>= λ w. int c (is_true w)) (s >>= λ w. int c (is_true w))
 truth_watched c r s h = bind_watched r s (λ w. int c (is_true w)) (λ w. int c (is_true w)) h (λ w. same)
 
 mutual
@@ -99,6 +99,7 @@ mutual
   value_watched c (C.Choose t e a b) =
       bind_watched _ _ _ _ (value_watched c e) (λ v. if_watched _ _ _ _ _ (value_watched c a) (value_watched c b))
   value_watched c (C.Move s t p a) = bind_watched _ _ _ _ (value_watched c p) (λ v. bind_watched _ _ _ _ (value_watched c a) (λ w. same))
+  value_watched c (C.MoveBy t a p) = bind_watched _ _ _ _ (value_watched c a) (λ w. bind_watched _ _ _ _ (value_watched c p) (λ v. same))
   value_watched c (C.Address p t) = bind_watched _ _ _ _ (located_watched c p) (λ s. same)
   value_watched c (C.Decay p t) = bind_watched _ _ _ _ (located_watched c p) (λ s. same)
 
@@ -116,6 +117,6 @@ values_watched c [] = same
 values_watched c (e ∷ es) = bind_watched _ _ _ _ (value_watched c e) (λ v. bind_watched _ _ _ _ (values_watched c es) (λ vs. same))
 
 -- A value that is watched is the plain value.
-pub keeps_value : {A : Type 0} (r s : Known A) (a : A) → Watched r s → r ≡ Ok a → s ≡ Ok a
+pub keeps_value : {A : Type 0} (r s : Defined A) (a : A) → Watched r s → r ≡ Ok a → s ≡ Ok a
 keeps_value _ _ a same e = e
-keeps_value {A} _ _ a (extra {k} x) e = absurd (let h : ◌≡◌ {A = Known A} (Err k) (Ok a) = e in cc)
+keeps_value {A} _ _ a (extra {k} x) e = absurd (let h : ◌≡◌ {A = Defined A} (Err k) (Ok a) = e in cc)

@@ -14,11 +14,12 @@ use Rattle.c_values.specs.Path.{upd}
 use Rattle.c_values.specs.Choice.{Choice, picked}
 use Rattle.c_memory.specs.Heap.{write_heap}
 use Rattle.ac_expr.specs.Sort.{Level, Bytes}
+use Rattle.ac_expr.specs.Evaluation.{Env}
 use Rattle.ac_expr.specs.Signature.{Invocation, bound, no_env}
 use Rattle.simpl_lang.specs.Command as K
 use Rattle.simpl_lang.specs.Exec.{Machine, machine_with, with_local, Returned}
 use Rattle.c_types.specs.Typed as C
-use Rattle.simpl_gen.specs.CValue.{Context, Known, ◌>>=◌, Spot, InMemory, InGlobal, value, values, located, accessible, converted, is_true, number_at}
+use Rattle.simpl_gen.specs.CValue.{Context, Defined, ◌>>=◌, Located, InMemory, InGlobal, value, values, located, accessible, converted, is_true, number_at}
 
 pub data Flow : Type 0 where
   Next : Machine → Flow
@@ -29,12 +30,11 @@ pub data Flow : Type 0 where
 abbrev pub Runs : Type 1
 Runs = Functions Invocation Returned K.GuardKind
 
--- what a statement is run in: the unit's layout, the choice, and the level and the result type of its function
+-- what a statement is run in: the unit's layout, the choice, and the level of its function
 pub record Setting : Type 0 where
   pub layout : Layout
   pub choice : Choice
   pub level : Level
-  pub result : Option CType
 
 abbrev pub Ended : Type 1
 Ended = Ends Flow K.GuardKind
@@ -43,7 +43,7 @@ abbrev pub context : Setting → Machine → Context
 context t m = record { layout = t.layout; level = t.level; locals = m.locals; state = m.state }
 
 -- the value of an expression, and then the rest
-abbrev pub evaluated : {A : Type 0} → Known A → (A → Ended) → Ended
+abbrev pub evaluated : {A : Type 0} → Defined A → (A → Ended) → Ended
 evaluated r rest = Then (given r) rest
 
 abbrev pub and_next : (Machine → Ended) → Flow → Ended
@@ -52,12 +52,12 @@ and_next rest (Broken m) = done (Broken m)
 and_next rest (Continued m) = done (Continued m)
 and_next rest (Returning v m) = done (Returning v m)
 
-abbrev pub stored : Layout → Spot → V.Value → Machine → Machine
+abbrev pub stored : Layout → Located → V.Value → Machine → Machine
 stored l (InMemory t p ps) v m = machine_with m.locals (record { heap = write_heap l m.state.heap t p.bits ps v; globals = m.state.globals })
 stored l (InGlobal x ps) v m = machine_with m.locals (record { heap = m.state.heap; globals = with_name x (upd (m.state.globals x) ps v) m.state.globals })
 
 -- a value goes to its target, which is evaluated now
-abbrev pub assigned : Setting → C.Target → V.Value → Machine → Ended
+abbrev pub assigned : Setting → C.Destination → V.Value → Machine → Ended
 assigned t (C.ToLocal x u) v m = done (Next (with_local x v m))
 assigned t (C.ToPlace p) v m = evaluated (located (context t m) p >>= λ s. accessible (context t m) s (Ok s)) (λ s. done (Next (stored t.layout s v m)))
 
@@ -79,7 +79,7 @@ and_use t use' m r = used t use' (result_value r.result) (machine_with m.locals 
 -- a turn is made where the test is true
 abbrev pub tested : Setting → C.Test → Machine → Ends (Machine ⊎ Flow) K.GuardKind
 tested t C.Always m = done (inl m)
-tested t (C.While_true e) m = Then (given (value (context t m) e)) (λ v. choose (is_true v) (done (inl m)) (done (inr (Next m))))
+tested t (C.Tested e) m = Then (given (value (context t m) e)) (λ v. choose (is_true v) (done (inl m)) (done (inr (Next m))))
 
 -- Break ends the loop, and Continue the body.
 abbrev pub turned : (Machine → Ends (Machine ⊎ Flow) K.GuardKind) → Flow → Ends (Machine ⊎ Flow) K.GuardKind
@@ -133,8 +133,8 @@ abbrev mutual
   statement t (C.Call n f es use') depth fs m =
       evaluated (values (context t m) es) (λ vs. Then (called fs depth (record { name = f; arguments = vs; state = m.state })) (and_use t use' m))
   statement t (C.If e a b) depth fs m = evaluated (value (context t m) e) (λ v. choose (is_true v) (statement t a depth fs m) (statement t b depth fs m))
-  statement t (C.While e a) depth fs m = loop (tested t (C.While_true e)) (λ gs n. Then (statement t a depth gs n) (turned (λ k. done (inl k)))) fs m
-  statement t (C.DoWhile k a e) depth fs m = loop (tested_after_first t (C.While_true e)) (λ gs x. Then (statement t a depth gs x.1) turned_later) fs (true, m)
+  statement t (C.While e a) depth fs m = loop (tested t (C.Tested e)) (λ gs n. Then (statement t a depth gs n) (turned (λ k. done (inl k)))) fs m
+  statement t (C.DoWhile k a e) depth fs m = loop (tested_after_first t (C.Tested e)) (λ gs x. Then (statement t a depth gs x.1) turned_later) fs (true, m)
   statement t (C.For init test step a) depth fs m =
       Then (statements t init depth fs m) (and_next (λ n.
       loop (tested t test) (λ gs k. Then (statement t a depth gs k) (turned (stepped (λ j. statement t step depth gs j)))) fs n))
@@ -173,7 +173,7 @@ zero_locals l (v ∷ vs) = with_name v.name (V.Bits (record { width = local_widt
 abbrev pub function_runs : Layout → Choice → (Name → Level) → Option C.TypedFn → Option ℕ → List Runs → Invocation → Ends Returned K.GuardKind
 function_runs l p levels None depth fs c = stop Turns
 function_runs l p levels (Some f) depth fs c =
-    Then (statements (record { layout = l; choice = p; level = levels f.name; result = f.result }) f.body depth fs (machine_with (bound (C.variable_names f.params) c.arguments (zero_locals l f.locals)) c.state)) (ended f.result)
+    Then (statements (record { layout = l; choice = p; level = levels f.name }) f.body depth fs (machine_with (bound (C.variable_names f.params) c.arguments (zero_locals l f.locals)) c.state)) (ended f.result)
 
 abbrev pub bodies : C.TypedUnit → (Name → Level) → Choice → List Runs → Runs
 bodies u levels p fs depth c = function_runs u.layout p levels (C.typed_fn u.functions c.name) depth fs c

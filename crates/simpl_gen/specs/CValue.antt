@@ -26,16 +26,16 @@ pub record Context : Type 0 where
   pub locals : Env
   pub state : State
 
-abbrev pub Known : Type 0 → Type 0
-Known A = Result A K.GuardKind
+abbrev pub Defined : Type 0 → Type 0
+Defined A = Result A K.GuardKind
 
 infixl 10 ◌>>=◌
-abbrev pub ◌>>=◌ : {A B : Type 0} → Known A → (A → Known B) → Known B
+abbrev pub ◌>>=◌ : {A B : Type 0} → Defined A → (A → Defined B) → Defined B
 (Ok a) >>= f = f a
 (Err k) >>= f = Err k
 
 -- undefined unless the test holds
-abbrev pub unless : {A : Type 0} → Bool → K.GuardKind → Known A → Known A
+abbrev pub unless : {A : Type 0} → Bool → K.GuardKind → Defined A → Defined A
 unless true k r = r
 unless false k r = Err k
 
@@ -72,15 +72,15 @@ number_op_of C.Divide = Div
 number_op_of C.Remainder = Mod
 
 -- a signed result that isn't of the type is undefined; an unsigned one wraps, which numbers watch
-abbrev pub fitted : Layout → Level → IntType → ℤ → Known V.Value
+abbrev pub fitted : Layout → Level → IntType → ℤ → Defined V.Value
 fitted l Numbers i n = unless (is_of_type l.target i n) (if is_signed i then K.Signed else K.Wrap) (Ok (value_at l i n))
 fitted l level i n = unless (is_of_type l.target i n || not (is_signed i)) K.Signed (Ok (value_at l i n))
 
 -- of a quotient or a remainder the divisor isn't zero, and the quotient is of the type
-abbrev pub divided : Layout → IntType → NumberOp → ℤ → ℤ → Known V.Value
+abbrev pub divided : Layout → IntType → NumberOp → ℤ → ℤ → Defined V.Value
 divided l i op a b = unless (not (int_eq b (pos 0))) K.Div (unless (is_of_type l.target i (number_op Div a b)) K.Signed (Ok (value_at l i (number_op op a b))))
 
-abbrev pub computed : Layout → Level → IntType → C.Arithmetic → ℤ → ℤ → Known V.Value
+abbrev pub computed : Layout → Level → IntType → C.Arithmetic → ℤ → ℤ → Defined V.Value
 computed l level i C.Divide a b = divided l i Div a b
 computed l level i C.Remainder a b = divided l i Mod a b
 computed l level i op a b = fitted l level i (number_op (number_op_of op) a b)
@@ -92,7 +92,7 @@ combined C.BitXor a b = V.Bits (word_op Wxor a b)
 
 -- The count is from 0 to the width, less one. A signed value that is shifted left isn't negative, and its result fits. A
 -- negative value is shifted right arithmetically.
-abbrev pub shifted : Layout → IntType → C.Direction → ℤ → ℤ → Known V.Value
+abbrev pub shifted : Layout → IntType → C.Direction → ℤ → ℤ → Defined V.Value
 shifted l i C.Left a n =
     unless (is_shift (width_of l.target i) n) K.Shift
     (unless (not (is_signed i) || (int_le (pos 0) a && is_of_type l.target i (a *ℤ power_of_two n))) K.Shift
@@ -114,9 +114,9 @@ signed_offset C.Plus n = n
 signed_offset C.Minus n = neg_ℤ n
 
 -- where a place is: at a root in memory, or in a global, and the steps from there
-pub data Spot : Type 0 where
-  InMemory : CType → Word → List Step → Spot
-  InGlobal : List ℕ → List Step → Spot
+pub data Located : Type 0 where
+  InMemory : CType → Word → List Step → Located
+  InGlobal : List ℕ → List Step → Located
 
 -- each index is of an element that is there
 abbrev pub are_in_bounds : C.Path → List Step → Bool
@@ -125,22 +125,23 @@ are_in_bounds (C.Element n e path) (Index i ∷ ps) = is_index i n && are_in_bou
 are_in_bounds _ _ = true
 
 -- a root that may be accessed: aligned, not null, inside the space; and from typed heaps on covered by a tag
-abbrev pub accessible : {A : Type 0} → Context → Spot → Known A → Known A
+abbrev pub accessible : {A : Type 0} → Context → Located → Defined A → Defined A
 accessible c (InMemory t p ps) r =
     unless (is_pointer_ok c.layout t p.bits) K.Pointer (unless (not (is_lifted c.level) || is_tagged c.layout c.state.heap t p.bits) K.Tag r)
 accessible c (InGlobal x ps) r = r
 
 -- what lies there
-abbrev pub content : Context → Spot → V.Value
+abbrev pub content : Context → Located → V.Value
 content c (InMemory t p ps) = read_heap c.layout c.state.heap t p.bits ps
 content c (InGlobal x ps) = sel (c.state.globals x) ps
 
-abbrev pub address_of : Layout → Spot → V.Value
-address_of l (InMemory t p ps) = moved_to l p (spot (shape_of l t) ps)
-address_of l (InGlobal x ps) = V.nothing
+-- the address of a place; a typed unit asks for none in a global, where it has the content in its stead
+abbrev pub address_of : Context → Located → V.Value
+address_of c (InMemory t p ps) = moved_to c.layout p (spot (shape_of c.layout t) ps)
+address_of c (InGlobal x ps) = content c (InGlobal x ps)
 
 abbrev mutual
-  pub value : Context → C.Expr → Known V.Value
+  pub value : Context → C.Expr → Defined V.Value
   value c (C.Constant i n) = Ok (value_at c.layout i n)
   value c (C.Local x t) = Ok (c.locals x)
   value c (C.Value p) = located c p >>= λ s. accessible c s (Ok (content c s))
@@ -158,21 +159,22 @@ abbrev mutual
   value c (C.Or a b) = value c a >>= λ v. if is_true v then Ok (int_of c.layout true) else (value c b >>= λ w. Ok (int_of c.layout (is_true w)))
   value c (C.Choose t e a b) = value c e >>= λ v. if is_true v then value c a else value c b
   value c (C.Move s t p a) = value c p >>= λ v. value c a >>= λ w. Ok (moved c.layout (V.word_in v) (pos (size_of c.layout t) *ℤ signed_offset s (number_of_type (C.type_of a) w)))
-  value c (C.Address p t) = located c p >>= λ s. Ok (address_of c.layout s)
-  value c (C.Decay p t) = located c p >>= λ s. Ok (address_of c.layout s)
+  value c (C.MoveBy t a p) = value c a >>= λ w. value c p >>= λ v. Ok (moved c.layout (V.word_in v) (pos (size_of c.layout t) *ℤ number_of_type (C.type_of a) w))
+  value c (C.Address p t) = located c p >>= λ s. Ok (address_of c s)
+  value c (C.Decay p t) = located c p >>= λ s. Ok (address_of c s)
 
   -- the root pointer, then each index, then the bounds of each
-  pub located : Context → C.Place → Known Spot
+  pub located : Context → C.Place → Defined Located
   located c (C.Through t p path u) = value c p >>= λ v. indexed c path >>= λ ps. unless (are_in_bounds path ps) K.Bounds (Ok (InMemory t (V.word_in v) ps))
   located c (C.InGlobal x path u) = indexed c path >>= λ ps. unless (are_in_bounds path ps) K.Bounds (Ok (InGlobal x ps))
 
   -- an index is a number of its own type
-  pub indexed : Context → C.Path → Known (List Step)
+  pub indexed : Context → C.Path → Defined (List Step)
   indexed c C.Here = Ok []
   indexed c (C.Member k path) = indexed c path >>= λ ps. Ok (Field k ∷ ps)
   indexed c (C.Element n e path) = value c e >>= λ v. indexed c path >>= λ ps. Ok (Index (number_of_type (C.type_of e) v) ∷ ps)
 
 -- the values of arguments, in order
-abbrev pub values : Context → List C.Expr → Known (List V.Value)
+abbrev pub values : Context → List C.Expr → Defined (List V.Value)
 values c [] = Ok []
 values c (e ∷ es) = value c e >>= λ v. values c es >>= λ vs. Ok (v ∷ vs)

@@ -1,6 +1,6 @@
--- Generation, for statements, functions and units: the Simpl program of a typed unit at the levels of its functions. The
--- conditions of a statement's own expressions stand around its command, the first outermost; break, continue and return
--- are exceptions that `$exn` tells apart.
+-- Generation, for statements, functions and units (after Norrish's C parser): the Simpl program of a typed unit at the levels
+-- of its functions. The conditions of a statement's own expressions stand around its command, the first outermost; break,
+-- continue and return are exceptions that `$exn` tells apart.
 use Rattle.std.specs.Prelude.{ℕ, Bool, true, false, List, [], ◌∷◌, ◌++◌, map, Option, Some, None, ℤ, pos, codes, if◌then◌else◌}
 use Rattle.std.specs.Fmt.{decimal}
 use Rattle.c_values.specs.Name.{Name}
@@ -62,12 +62,12 @@ guarded [] s = s
 guarded (g ∷ gs) s = Guard g (guarded gs s)
 
 -- a value that has been computed goes to its target
-abbrev pub assignment : Layout → C.Target → E.Exp → Simpl
+abbrev pub assignment : Layout → C.Destination → E.Exp → Simpl
 assignment l (C.ToLocal x t) e = Set x e
 assignment l (C.ToPlace (C.Through t p path u)) e = Store t (exp l p) (path_of l path) e
 assignment l (C.ToPlace (C.InGlobal x path u)) e = SetGlobal x (path_of l path) e
 
-abbrev pub target_guards : Layout → Level → C.Target → List Condition
+abbrev pub target_guards : Layout → Level → C.Destination → List Condition
 target_guards l level (C.ToLocal x t) = []
 target_guards l level (C.ToPlace p) = place_guards l level p ++ accesses l level p
 
@@ -85,11 +85,11 @@ call_of l level n f es use' = guarded (argument_guards l level es) (call l level
 
 abbrev pub test_guards : Layout → Level → C.Test → List Condition
 test_guards l level C.Always = []
-test_guards l level (C.While_true e) = guards l level e
+test_guards l level (C.Tested e) = guards l level e
 
 abbrev pub test_truth : Layout → C.Test → E.Exp
 test_truth l C.Always = E.TruthLit true
-test_truth l (C.While_true e) = truth l e
+test_truth l (C.Tested e) = truth l e
 
 abbrev pub after_first : ℕ → List Condition → List Condition
 after_first k [] = []

@@ -1,5 +1,5 @@
--- Generation, for expressions: what stands for the value and the truth of a C expression, and which conditions have to hold
--- first, in order. The conditions of operands come before those of the operation.
+-- Generation, for expressions (after Norrish's C parser): what stands for the value and the truth of a C expression, and
+-- which conditions have to hold first, in order. The conditions of operands come before those of the operation.
 use Rattle.std.specs.Prelude.{ℕ, ◌-◌, ◌==◌, nat_lt, Bool, false, List, [], ◌∷◌, ◌++◌, ℤ, pos, if◌then◌else◌}
 use Rattle.c_values.specs.Types.{Target, IntType, CType, Integer, Ptr, width_of, is_signed, address_width}
 use Rattle.c_values.specs.Number.{Add, Sub, Mul, Div, least_of, greatest_of}
@@ -16,10 +16,6 @@ when k e = record { kind = k; exp = e }
 
 abbrev pub word_of : Target → IntType → ℤ → E.Exp
 word_of t i n = E.WordLit (word (width_of t i) n)
-
--- an address of a number
-abbrev pub address_of : Target → ℤ → E.Exp
-address_of t n = E.WordLit (word (address_width t) n)
 
 abbrev pub int_literal : ℤ → E.Exp
 int_literal n = E.WordLit (word 32 n)
@@ -131,6 +127,7 @@ abbrev mutual
   exp l (C.Or a b) = of_truth (E.Or (truth l a) (truth l b))
   exp l (C.Choose t c a b) = E.If (truth l c) (exp l a) (exp l b)
   exp l (C.Move s t p a) = E.Padd t (exp l p) (moved_by s (number (C.type_of a) (exp l a)))
+  exp l (C.MoveBy t a p) = E.Padd t (exp l p) (number (C.type_of a) (exp l a))
   exp l (C.Address p t) = address l p
   exp l (C.Decay p t) = address l p
 
@@ -153,6 +150,7 @@ abbrev mutual
   truth l (C.Shift d i a b) = is_not_zero l.target (Integer i) (shift i d (exp l a) (number (C.type_of b) (exp l b)))
   truth l (C.Choose t c a b) = is_not_zero l.target t (E.If (truth l c) (exp l a) (exp l b))
   truth l (C.Move s t p a) = is_not_zero l.target (Ptr t) (E.Padd t (exp l p) (moved_by s (number (C.type_of a) (exp l a))))
+  truth l (C.MoveBy t a p) = is_not_zero l.target (Ptr t) (E.Padd t (exp l p) (number (C.type_of a) (exp l a)))
   truth l (C.Address p t) = is_not_zero l.target (Ptr t) (address l p)
   truth l (C.Decay p t) = is_not_zero l.target (Ptr t) (address l p)
 
@@ -201,6 +199,7 @@ abbrev mutual
   guards l level (C.Or a b) = guards l level a ++ under (E.Not (truth l a)) (guards l level b)
   guards l level (C.Choose t c a b) = guards l level c ++ under (truth l c) (guards l level a) ++ under (E.Not (truth l c)) (guards l level b)
   guards l level (C.Move s t p a) = guards l level p ++ guards l level a
+  guards l level (C.MoveBy t a p) = guards l level a ++ guards l level p
   guards l level (C.Address p t) = place_guards l level p
   guards l level (C.Decay p t) = place_guards l level p
 

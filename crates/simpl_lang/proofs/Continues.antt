@@ -7,7 +7,7 @@ use Rattle.c_values.specs.Choice.{Choice}
 use Rattle.c_values.specs.Layout.{Layout}
 use Rattle.ac_expr.specs.Signature.{Binder, Signature, Invocation, signature}
 use Rattle.simpl_lang.specs.Command.{GuardKind, Simpl, Skip, Throw, Set, SetGlobal, Store, Pick, Seq, Cond, Guard, Catch, While, Call, SimplFn, SimplUnit, simpl_fn}
-use Rattle.simpl_lang.specs.Exec.{Machine, Flow, Normal, Abrupt, Runs, normally, handled, holds_on, execs, function_execs, bodies, functions_below, function_runs}
+use Rattle.simpl_lang.specs.Exec.{Machine, Flow, Normal, Abrupt, Runs, normally, handled, holds_on, execs, function_runs, bodies, functions_below, simpl_runs}
 
 normally_continues : (r r' : Machine → Ends Flow GuardKind) → ((m : Machine) → Continues (r m) (r' m)) → (f : Flow) → Continues (normally r f) (normally r' f)
 normally_continues r r' h (Normal m) = h m
@@ -35,7 +35,7 @@ module _ (l : Layout) (p : Choice) where
       loop_continues _ _ _ (λ fs' gs' k' n. then_continues _ _ _ _ (execs_continue locals a d e h fs' gs' k' n) (λ f. continues_itself _)) fs gs k m
   execs_continue locals (Call x f es) d e h fs gs k m = then_continues _ _ _ _ (called_continues fs gs k d e h _) (λ r. continues_itself _)
 
-  function_continues : (f : Option SimplFn) (s : Option Signature) (d e : Option ℕ) → Deeper d e → (fs gs : List Runs) → AllContinue fs gs → (c : Invocation) → Continues (function_execs l p f s d fs c) (function_execs l p f s e gs c)
+  function_continues : (f : Option SimplFn) (s : Option Signature) (d e : Option ℕ) → Deeper d e → (fs gs : List Runs) → AllContinue fs gs → (c : Invocation) → Continues (function_runs l p f s d fs c) (function_runs l p f s e gs c)
   function_continues (Some f) (Some s) d e h fs gs k c = then_continues _ _ _ _ (execs_continue f.locals f.body d e h fs gs k _) (λ r. continues_itself _)
   function_continues (Some f) None d e h fs gs k c = continues_itself _
   function_continues None s d e h fs gs k c = continues_itself _
@@ -47,5 +47,5 @@ module _ (u : SimplUnit) (p : Choice) where
   pub functions_continue : (m n : ℕ) → m ≤ n → AllContinue (functions_below u p m) (functions_below u p n)
   functions_continue m n h = below_continues (bodies u p) bodies_continue m n h
 
-  pub call_continues : (m n : ℕ) → m ≤ n → (d e : Option ℕ) → Deeper d e → (c : Invocation) → Continues (function_runs u p m d c) (function_runs u p n e c)
+  pub call_continues : (m n : ℕ) → m ≤ n → (d e : Option ℕ) → Deeper d e → (c : Invocation) → Continues (simpl_runs u p m d c) (simpl_runs u p n e c)
   call_continues m n h d e k c = bodies_continue _ _ (functions_continue m n h) d e c k

@@ -10,7 +10,7 @@ use Rattle.ac_expr.specs.Sort.{Kind}
 use Rattle.ac_expr.specs.Signature.{Binder, Signature, Invocation, signature}
 use Rattle.ac_expr.proofs.Picked.{picked_word_at_once}
 use Rattle.simpl_lang.specs.Command.{GuardKind, Condition, Simpl, Skip, Throw, Set, SetGlobal, Store, Pick, Seq, Cond, Guard, Catch, While, Call, SimplFn, SimplUnit, simpl_fn, kind_of}
-use Rattle.simpl_lang.specs.Exec.{Machine, Flow, Normal, Abrupt, Runs, normally, handled, turned, checked, entered, picked_local, execs, ended, function_execs, bodies, functions_below, function_runs}
+use Rattle.simpl_lang.specs.Exec.{Machine, Flow, Normal, Abrupt, Runs, normally, handled, turned, checked, entered, picked_local, execs, ended, function_runs, bodies, functions_below, simpl_runs}
 
 normally_once : (next : Machine → Ends Flow GuardKind) → ((m : Machine) → OneEnd (next m)) → (f : Flow) → OneEnd (normally next f)
 normally_once next h (Normal m) = h m
@@ -55,7 +55,7 @@ module _ (l : Layout) (k : ℕ) where
       loop_once _ _ (entered_once l cs e) (λ gs hs n. then_once _ _ turned_once (execs_once locals a depth gs hs n)) fs h m
   execs_once locals (Call x f es) depth fs h m = then_once _ _ (λ r. done_once _) (called_once fs h depth _)
 
-  function_once : (f : Option SimplFn) (s : Option Signature) (depth : Option ℕ) (fs : List Runs) → HaveOneEnd fs → (c : Invocation) → OneEnd (function_execs l (Fill k) f s depth fs c)
+  function_once : (f : Option SimplFn) (s : Option Signature) (depth : Option ℕ) (fs : List Runs) → HaveOneEnd fs → (c : Invocation) → OneEnd (function_runs l (Fill k) f s depth fs c)
   function_once (Some f) (Some s) depth fs h c = then_once _ _ (ended_once s.result) (execs_once f.locals f.body depth fs h _)
   function_once (Some f) None depth fs h c = stop_once _
   function_once None s depth fs h c = stop_once _
@@ -67,5 +67,5 @@ module _ (u : SimplUnit) (k : ℕ) where
   pub functions_once : (n : ℕ) → HaveOneEnd (functions_below u (Fill k) n)
   functions_once n = below_once (bodies u (Fill k)) bodies_once n
 
-  pub call_once : (n : ℕ) (depth : Option ℕ) (c : Invocation) → OneEnd (function_runs u (Fill k) n depth c)
+  pub call_once : (n : ℕ) (depth : Option ℕ) (c : Invocation) → OneEnd (simpl_runs u (Fill k) n depth c)
   call_once n depth c = bodies_once _ (functions_once n) depth c

@@ -1,5 +1,6 @@
 -- What commands do (Schirmer's big-step semantics), as the set of a run's ends: normal or abrupt with a machine, a fault
--- with its kind, or stopped. It isn't stuck anywhere, since each called function has a body.
+-- with its kind, or stopped. It isn't stuck anywhere, since each called function has a body. The code only rewrites
+-- commands; it runs them in one interpreter.
 use Rattle.std.specs.Prelude.{ℕ, Bool, List, [], ◌∷◌, Option, Some, None, ◌⊎◌, codes}
 use Rattle.std.proofs.Common.{inl, inr}
 use Rattle.correspondence.specs.Outcome.{Turns, Ends, done, fault, stop, Then, choose, loop}
@@ -120,17 +121,17 @@ ended result (Normal m) = done (record { result = result_of result m; state = m.
 ended result (Abrupt m) = done (record { result = result_of result m; state = m.state })
 
 -- What isn't in the unit has no body: no well-formed unit calls it.
-abbrev pub function_execs : Layout → Choice → Option SimplFn → Option Signature → Option ℕ → List Runs → Invocation → Ends Returned GuardKind
-function_execs l p (Some f) (Some s) depth fs c =
+abbrev pub function_runs : Layout → Choice → Option SimplFn → Option Signature → Option ℕ → List Runs → Invocation → Ends Returned GuardKind
+function_runs l p (Some f) (Some s) depth fs c =
     Then (execs l p f.locals f.body depth fs (machine_with (bound (names_of s.params) c.arguments (zero_locals f.locals)) c.state)) (ended s.result)
-function_execs l p _ _ depth fs c = stop Turns
+function_runs l p _ _ depth fs c = stop Turns
 
 abbrev pub bodies : SimplUnit → Choice → List Runs → Runs
-bodies u p fs depth c = function_execs u.layout p (simpl_fn u.functions c.name) (signature u.signatures c.name) depth fs c
+bodies u p fs depth c = function_runs u.layout p (simpl_fn u.functions c.name) (signature u.signatures c.name) depth fs c
 
 abbrev pub functions_below : SimplUnit → Choice → ℕ → List Runs
 functions_below u p n = below (bodies u p) n
 
 -- what a function does at a bound of n turns
-abbrev pub function_runs : SimplUnit → Choice → ℕ → Runs
-function_runs u p n = bodies u p (functions_below u p n)
+abbrev pub simpl_runs : SimplUnit → Choice → ℕ → Runs
+simpl_runs u p n = bodies u p (functions_below u p n)

@@ -1,4 +1,4 @@
--- Forms of commands.
+-- Forms of commands: flat ones, without exceptions, and how many commands there are.
 use Rattle.std.specs.Prelude.{ℕ, ◌+◌, Bool, true, false, ◌&&◌, length}
 use Rattle.simpl_lang.specs.Command.{Simpl, Skip, Throw, Set, SetGlobal, Store, Pick, Seq, Cond, Guard, Catch, While, Call}
 

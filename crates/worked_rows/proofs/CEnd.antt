@@ -24,8 +24,8 @@ FlowEnd = Outcome Flow K.GuardKind
 abbrev pub CallsEnd : Type 0
 CallsEnd = FunctionsEnd Invocation Returned K.GuardKind
 
-abbrev pub setting : Layout → Level → Option CType → ℕ → Setting
-setting l level result k = record { layout = l; choice = Fill k; level = level; result = result }
+abbrev pub setting : Layout → Level → ℕ → Setting
+setting l level k = record { layout = l; choice = Fill k; level = level }
 
 abbrev and_next : (Machine → FlowEnd) → Flow → FlowEnd
 and_next rest (Next m) = rest m
@@ -39,11 +39,11 @@ and_next_ends r k h (Broken m) = refl
 and_next_ends r k h (Continued m) = refl
 and_next_ends r k h (Returning v m) = refl
 
-abbrev assigned : Setting → C.Target → V.Value → Machine → FlowEnd
+abbrev assigned : Setting → C.Destination → V.Value → Machine → FlowEnd
 assigned t (C.ToLocal x u) v m = Done (Next (with_local x v m))
 assigned t (C.ToPlace p) v m = then_end (given_end (located (context t m) p >>= λ s. accessible (context t m) s (Ok s))) (λ s. Done (Next (stored t.layout s v m)))
 
-assigned_ends : (t : Setting) (target : C.Target) (v : V.Value) (m : Machine) → R.assigned t target v m (assigned t target v m)
+assigned_ends : (t : Setting) (target : C.Destination) (v : V.Value) (m : Machine) → R.assigned t target v m (assigned t target v m)
 assigned_ends t (C.ToLocal x u) v m = refl
 assigned_ends t (C.ToPlace p) v m = then_ends _ _ _ _ (given_ends _) (λ s. refl)
 
@@ -64,11 +64,11 @@ and_use t use' m r = used t use' (result_value r.result) (machine_with m.locals 
 
 abbrev tested : Setting → C.Test → Machine → Outcome (Machine ⊎ Flow) K.GuardKind
 tested t C.Always m = Done (inl m)
-tested t (C.While_true e) m = then_end (given_end (value (context t m) e)) (λ v. elim (is_true v) as (λ _. Outcome (Machine ⊎ Flow) K.GuardKind) [ true ↦ Done (inl m) | false ↦ Done (inr (Next m)) ])
+tested t (C.Tested e) m = then_end (given_end (value (context t m) e)) (λ v. elim (is_true v) as (λ _. Outcome (Machine ⊎ Flow) K.GuardKind) [ true ↦ Done (inl m) | false ↦ Done (inr (Next m)) ])
 
 tested_ends : (t : Setting) (test : C.Test) (m : Machine) → R.tested t test m (tested t test m)
 tested_ends t C.Always m = refl
-tested_ends t (C.While_true e) m = then_ends _ _ _ _ (given_ends _) (λ v. choose_ends (is_true v) _ _ _ _ refl refl)
+tested_ends t (C.Tested e) m = then_ends _ _ _ _ (given_ends _) (λ v. choose_ends (is_true v) _ _ _ _ refl refl)
 
 abbrev turned : (Machine → Outcome (Machine ⊎ Flow) K.GuardKind) → Flow → Outcome (Machine ⊎ Flow) K.GuardKind
 turned rest (Next m) = rest m
@@ -132,8 +132,8 @@ abbrev mutual
       then_end (given_end (values (context t m) xs)) (λ vs. then_end (called_end es depth (record { name = f; arguments = vs; state = m.state })) (and_use t use' m))
   statement t k (C.If e a b) depth es m =
       then_end (given_end (value (context t m) e)) (λ v. elim (is_true v) as (λ _. FlowEnd) [ true ↦ statement t k a depth es m | false ↦ statement t k b depth es m ])
-  statement t k (C.While e a) depth es m = loop_end (tested t (C.While_true e)) (λ gs n. then_end (statement t k a depth gs n) (turned (λ j. Done (inl j)))) es m
-  statement t k (C.DoWhile i a e) depth es m = loop_end (tested_after_first t (C.While_true e)) (λ gs x. then_end (statement t k a depth gs x.1) turned_later) es (true, m)
+  statement t k (C.While e a) depth es m = loop_end (tested t (C.Tested e)) (λ gs n. then_end (statement t k a depth gs n) (turned (λ j. Done (inl j)))) es m
+  statement t k (C.DoWhile i a e) depth es m = loop_end (tested_after_first t (C.Tested e)) (λ gs x. then_end (statement t k a depth gs x.1) turned_later) es (true, m)
   statement t k (C.For init test step a) depth es m =
       then_end (statements t k init depth es m) (and_next (λ n.
       loop_end (tested t test) (λ gs j. then_end (statement t k a depth gs j) (turned (stepped (λ i. statement t k step depth gs i)))) es n))
@@ -190,9 +190,9 @@ mutual
   statement_ends t k q (C.If e a b) depth fs es h m =
       then_ends _ _ _ _ (given_ends _) (λ v. choose_ends (is_true v) _ _ _ _ (statement_ends t k q a depth fs es h m) (statement_ends t k q b depth fs es h m))
   statement_ends t k q (C.While e a) depth fs es h m =
-      loop_ends _ _ _ _ (tested_ends t (C.While_true e)) (λ fs' es' h' n. then_ends _ _ _ _ (statement_ends t k q a depth fs' es' h' n) (turned_ends _ _ (λ j. refl))) fs es h m
+      loop_ends _ _ _ _ (tested_ends t (C.Tested e)) (λ fs' es' h' n. then_ends _ _ _ _ (statement_ends t k q a depth fs' es' h' n) (turned_ends _ _ (λ j. refl))) fs es h m
   statement_ends t k q (C.DoWhile i a e) depth fs es h m =
-      loop_ends _ _ _ _ (tested_after_first_ends t (C.While_true e)) (λ fs' es' h' x. then_ends _ _ _ _ (statement_ends t k q a depth fs' es' h' x.1) turned_later_ends) fs es h _
+      loop_ends _ _ _ _ (tested_after_first_ends t (C.Tested e)) (λ fs' es' h' x. then_ends _ _ _ _ (statement_ends t k q a depth fs' es' h' x.1) turned_later_ends) fs es h _
   statement_ends t k q (C.For init test step a) depth fs es h m =
       then_ends _ _ _ _ (statements_end t k q init depth fs es h m) (and_next_ends _ _ (loop_ends _ _ _ _ (tested_ends t test)
       (λ fs' es' h' n. then_ends _ _ _ _ (statement_ends t k q a depth fs' es' h' n) (turned_ends _ _ (stepped_ends _ _ (statement_ends t k q step depth fs' es' h')))) fs es h))
@@ -216,11 +216,11 @@ mutual
 abbrev pub function_end : Layout → ℕ → (Name → Level) → Option C.TypedFn → Option ℕ → List CallsEnd → Invocation → Outcome Returned K.GuardKind
 function_end l k levels None depth es c = Stopped Turns
 function_end l k levels (Some f) depth es c =
-    then_end (statements (setting l (levels f.name) f.result k) k f.body depth es (machine_with (bound (C.variable_names f.params) c.arguments no_env) c.state)) (ended f.result)
+    then_end (statements (setting l (levels f.name) k) k f.body depth es (machine_with (bound (C.variable_names f.params) c.arguments (R.zero_locals l f.locals)) c.state)) (ended f.result)
 
 function_ends : (l : Layout) (k : ℕ) (levels : Name → Level) (f : Option C.TypedFn) (depth : Option ℕ) (fs : List Runs) (es : List CallsEnd) → AllEnd fs es → (c : Invocation) → R.function_runs l (Fill k) levels f depth fs c (function_end l k levels f depth es c)
 function_ends l k levels None depth fs es h c = refl
-function_ends l k levels (Some f) depth fs es h c = then_ends _ _ _ _ (statements_end (setting l (levels f.name) f.result k) k refl f.body depth fs es h _) (ended_ends f.result)
+function_ends l k levels (Some f) depth fs es h c = then_ends _ _ _ _ (statements_end (setting l (levels f.name) k) k refl f.body depth fs es h _) (ended_ends f.result)
 
 abbrev pub bodies : C.TypedUnit → (Name → Level) → ℕ → List CallsEnd → CallsEnd
 bodies u levels k es depth c = function_end u.layout k levels (C.typed_fn u.functions c.name) depth es c

@@ -129,7 +129,7 @@ function_end l k (Some f) (Some s) depth es c =
     then_end (execs l k f.locals f.body depth es (machine_with (bound (names_of s.params) c.arguments (zero_locals f.locals)) c.state)) (ended s.result)
 function_end l k _ _ depth es c = Stopped Turns
 
-function_ends : (l : Layout) (k : ℕ) (f : Option SimplFn) (s : Option Signature) (depth : Option ℕ) (fs : List Runs) (es : List CallsEnd) → AllEnd fs es → (c : Invocation) → X.function_execs l (Fill k) f s depth fs c (function_end l k f s depth es c)
+function_ends : (l : Layout) (k : ℕ) (f : Option SimplFn) (s : Option Signature) (depth : Option ℕ) (fs : List Runs) (es : List CallsEnd) → AllEnd fs es → (c : Invocation) → X.function_runs l (Fill k) f s depth fs c (function_end l k f s depth es c)
 function_ends l k (Some f) (Some s) depth fs es h c = then_ends _ _ _ _ (execs_ends l k f.locals f.body depth fs es h _) (ended_ends s.result)
 function_ends l k (Some f) None depth fs es h c = refl
 function_ends l k None s depth fs es h c = refl
@@ -141,6 +141,6 @@ abbrev pub simpl_end : SimplUnit → ℕ → ℕ → CallsEnd
 simpl_end u k n = bodies u k (below_end (bodies u k) n)
 
 -- what is computed is an end of the run
-pub simpl_ends : (u : SimplUnit) (k n : ℕ) (depth : Option ℕ) (c : Invocation) → X.function_runs u (Fill k) n depth c (simpl_end u k n depth c)
+pub simpl_ends : (u : SimplUnit) (k n : ℕ) (depth : Option ℕ) (c : Invocation) → X.simpl_runs u (Fill k) n depth c (simpl_end u k n depth c)
 simpl_ends u k n depth c = function_ends u.layout k (simpl_fn u.functions c.name) (signature u.signatures c.name) depth _ _
     (below_ends (X.bodies u (Fill k)) (bodies u k) (λ fs es h d a. function_ends u.layout k (simpl_fn u.functions a.name) (signature u.signatures a.name) d fs es h a) n) c

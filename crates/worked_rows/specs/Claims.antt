@@ -12,7 +12,7 @@ use Rattle.c_memory.specs.Heap.{Heap, OnBytes, OnTypes, read_heap}
 use Rattle.ac_expr.specs.Sort.{Level, Words, Numbers}
 use Rattle.ac_expr.specs.Signature.{Invocation}
 use Rattle.simpl_lang.specs.Command.{GuardKind}
-use Rattle.simpl_lang.specs.Exec.{Returned, function_runs}
+use Rattle.simpl_lang.specs.Exec.{Returned, simpl_runs}
 use Rattle.c_types.specs.Typed.{TypedUnit}
 use Rattle.simpl_gen.specs.CRun.{c_runs}
 use Rattle.simpl_gen.specs.Generate.{generated}
@@ -73,7 +73,7 @@ heap_bytes (OnTypes cells) = zeros
 
 -- the ends of the same call in the Simpl that is generated for the unit
 abbrev pub simpl_ends : (Name → Level) → Case → Ends Returned GuardKind
-simpl_ends levels c = function_runs (generated c.unit levels) (Fill c.fill) c.turns c.depth (invocation c)
+simpl_ends levels c = simpl_runs (generated c.unit levels) (Fill c.fill) c.turns c.depth (invocation c)
 
 -- The run returns this result, in C and in the generated Simpl.
 pub record Returns (levels : Name → Level) (c : Case) (v : Option Value) : Type 0 where

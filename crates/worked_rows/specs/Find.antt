@@ -2,7 +2,7 @@
 use Rattle.std.specs.Prelude.{ℕ, [], ◌∷◌, Some, pos, codes}
 use Rattle.c_values.specs.Types.{Int, Ptr}
 use Rattle.c_memory.specs.Memory.{Memory}
-use Rattle.c_types.specs.Typed.{Expr, Local, Value, Through, Here, Negate, Compute, Add, Compare, Less, Equate, Equal, Move, Plus, ToLocal, While_true, Empty, Block, Declare, Assign, If, For, Return, TypedUnit}
+use Rattle.c_types.specs.Typed.{Expr, Local, Value, Through, Here, Negate, Compute, Add, Compare, Less, Equate, Equal, Move, Plus, ToLocal, Tested, Empty, Block, Declare, Assign, If, For, Return, TypedUnit}
 use Rattle.worked_rows.specs.Trees.{int, uint, value, literal, body, variable, function, unit_of}
 use Rattle.worked_rows.specs.Claims.{Case, bytes_from, zeros, tag}
 
@@ -14,7 +14,7 @@ unit = unit_of [] (function (codes "find") (Some int)
     (variable (codes "a") (Ptr uint) ∷ variable (codes "n") int ∷ variable (codes "k") uint ∷ []) (variable (codes "i") int ∷ [])
     (Declare (codes "i") int
     ∷ For (body (Assign (ToLocal (codes "i") int) (literal 0) ∷ []))
-    (While_true (Compare Less Int i (Local (codes "n") int)))
+    (Tested (Compare Less Int i (Local (codes "n") int)))
     (Assign (ToLocal (codes "i") int) (Compute Add Int i (literal 1)))
     (Block (body (If (Equate Equal uint (Value (Through uint (Move Plus uint (Local (codes "a") (Ptr uint)) i) Here uint)) (Local (codes "k") uint)) (Return i) Empty ∷ [])))
     ∷ Return (Negate Int (literal 1)) ∷ []) ∷ [])

@@ -1,7 +1,7 @@
 -- Statements that leave loops, switches and functions.
 use Rattle.std.specs.Prelude.{ℕ, true, false, List, [], ◌∷◌, Some, None, pos, codes}
 use Rattle.c_values.specs.Types.{Int}
-use Rattle.c_types.specs.Typed.{Expr, Local, Compute, Add, Compare, Less, Equate, Equal, ToLocal, While_true, Always, Statement, Empty, Block, Assign, If, While, DoWhile, For, Switch, Break, Continue, ReturnNothing, Return, no_groups, group, TypedUnit}
+use Rattle.c_types.specs.Typed.{Expr, Local, Compute, Add, Compare, Less, Equate, Equal, ToLocal, Tested, Always, Statement, Empty, Block, Assign, If, While, DoWhile, For, Switch, Break, Continue, ReturnNothing, Return, no_groups, group, TypedUnit}
 use Rattle.worked_rows.specs.Trees.{int, value, literal, body, variable, function, unit_of}
 use Rattle.worked_rows.specs.Claims.{Case, no_memory}
 
@@ -43,7 +43,7 @@ default_between = counting (Switch 1 Int x
 
 -- for(;x<4;x=x+1){if(x==2) continue; c=c+1;}
 abbrev pub for_with_continue : TypedUnit
-for_with_continue = counting (For (body []) (While_true (Compare Less Int x (literal 4))) step (Block (body (If (is 2) Continue Empty ∷ count_up ∷ []))) ∷ [])
+for_with_continue = counting (For (body []) (Tested (Compare Less Int x (literal 4))) step (Block (body (If (is 2) Continue Empty ∷ count_up ∷ []))) ∷ [])
 
 -- for(;;x=x+1){if(x==3) break; c=c+1;}
 abbrev pub for_with_break : TypedUnit

@@ -1,0 +1,15 @@
+pub mod Cases
+pub mod Spelled
+pub mod CommentLength
+pub mod NumberTypes
+pub mod Digits
+pub mod WordFront
+pub mod Leads
+pub mod FrontFits
+pub mod TokenSpelling
+pub mod TokenLength
+pub mod TokenReading
+pub mod ValueReading
+pub mod Examples
+pub mod GapReading
+pub mod Standing

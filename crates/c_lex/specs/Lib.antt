@@ -1,0 +1,12 @@
+pub mod Bytes
+pub mod Keyword
+pub mod Unsupported
+pub mod Punct
+pub mod Lexeme
+pub mod Number
+pub mod Character
+pub mod Gap
+pub mod Front
+pub mod Tokens
+pub mod Answer
+pub mod Spelling
