@@ -30,23 +30,23 @@ only_then p a r h o (fails {f = k} x) = absurd (h (Failed k) x)
 only_then p a r h o (stops {w = w} x) = absurd (h (Stopped w) x)
 
 -- what the function does, by the value of its expression
-abbrev returned : V.Known Value → Machine → Ends Returned K.GuardKind
+abbrev returned : V.Defined Value → Machine → Ends Returned K.GuardKind
 returned r m = Then (Then (Then (given r) (λ v. done (R.Returning (Some v) m))) (R.and_next (λ n. done (R.Next n)))) (R.ended (Some unsigned_type))
 
 abbrev result : Value → Machine → Returned
 result v m = record { result = Some v; state = m.state }
 
-returned_does : (r : V.Known Value) (v : Value) (m : Machine) → r ≡ Ok v → returned r m (Done (result v m))
+returned_does : (r : V.Defined Value) (v : Value) (m : Machine) → r ≡ Ok v → returned r m (Done (result v m))
 returned_does r v m h = subst (λ r. returned r m (Done (result v m))) (sym h) (goes_on (goes_on (goes_on {a = v} refl refl) refl) refl)
 
-returned_only : (r : V.Known Value) (v : Value) (m : Machine) → r ≡ Ok v → (o : Outcome Returned K.GuardKind) → returned r m o → done (result v m) o
+returned_only : (r : V.Defined Value) (v : Value) (m : Machine) → r ≡ Ok v → (o : Outcome Returned K.GuardKind) → returned r m o → done (result v m) o
 returned_only r v m h o x =
     let first = only_then (given (Ok v)) v (λ v. done (R.Returning (Some v) m)) (λ o y. y) in
     let second = only_then (Then (given (Ok v)) (λ v. done (R.Returning (Some v) m))) (R.Returning (Some v) m) (R.and_next (λ n. done (R.Next n))) first in
     only_then (Then (Then (given (Ok v)) (λ v. done (R.Returning (Some v) m))) (R.and_next (λ n. done (R.Next n)))) (R.Returning (Some v) m) (R.ended (Some unsigned_type)) second o
     (subst (λ r. returned r m o) h x)
 
-returned_fails : (r : V.Known Value) (k : K.GuardKind) (m : Machine) → r ≡ Err k → returned r m (Failed k)
+returned_fails : (r : V.Defined Value) (k : K.GuardKind) (m : Machine) → r ≡ Err k → returned r m (Failed k)
 returned_fails r k m h = subst (λ r. returned r m (Failed k)) (sym h) (fails (fails (fails refl)))
 
 -- the function and its program
@@ -80,7 +80,7 @@ module _ (name : Name) (params : List Name) (e : C.Expr) (body : Mon) where
     abbrev pub start : E.State
     start = state_of (heap b.memory) b.globals
 
-    abbrev c_value : Level → V.Known Value
+    abbrev c_value : Level → V.Defined Value
     c_value level = V.value (context machine.locals environment machine.state start level) e
 
     abbrev pub program : Ends M.Answer M.Failure
