@@ -97,11 +97,7 @@ fn guarded(alloc: Global, sum: &Sum, rest: Mon) -> Result<Mon, AllocError>
 fn guard(alloc: Global, number: Exp) -> Result<Mon, AllocError>
     ensures { IfOk result (λ guard. mon_of guard ≡ sums.guard (exp_of number)) }
 {
-    Ok(Mon::Guard(Exp::Between(
-        0,
-        Box::new(alloc, number)?,
-        u64::from(u32::MAX),
-    )))
+    Ok(Mon::Guard(Exp::Between(0, Box::new(alloc, number)?, u64::from(u32::MAX))))
 }
 
 fn expression(alloc: Global, sum: &Sum) -> Result<Exp, AllocError>
