@@ -5,6 +5,7 @@ mod answer;
 mod first_path;
 mod program_text;
 mod status;
+mod sum;
 mod top;
 mod words;
 
