@@ -1,10 +1,10 @@
 -- In a layout each struct has the shape that its own definition gives it, by the shapes of all the structs.
-use Rattle.std.proofs.Common.{◌≡◌, ◌≢◌, ℕ, zero, suc, ◌+◌, ◌<◌, Bool, true, false, not, cond, ◌&&◌, List, [], ◌∷◌, length, refl, sym, ap, ◌∙◌, subst, arith}
-use Rattle.std.proofs.lemmas.Bool.{false≢true, true≢false, and_parts, or_parts, cases_Bool, not-true, cond-true, cond-false}
-use Rattle.std.specs.Prelude.{Option, Some, None, slice_get}
+use Rattle.std.proofs.Common.{◌≡◌, ℕ, zero, suc, ◌+◌, Bool, true, false, not, cond, List, [], ◌∷◌, refl, sym, ap, ◌∙◌, subst}
+use Rattle.std.proofs.lemmas.Bool.{false≢true, and_parts, or_parts, not-true, cond-true, cond-false}
+use Rattle.std.specs.Prelude.{Some, slice_get}
 use Rattle.c_values.specs.Name.{Name, same_name, with_name, is_among}
 use Rattle.c_values.specs.Types.{Target, CType, Integer, Void, Ptr, Struct, Array}
-use Rattle.c_values.specs.Layout.{Layout, IsLayout, Shape, Incomplete, Scalar, Record, Row, Fields, no_fields, field, size, alignment, aligned, placed, end_of, widest, Member, StructDef, struct_shape, shape_from, shapes_after, shape_of, is_complete, are_complete, are_built, has_member, all_members_complete}
+use Rattle.c_values.specs.Layout.{Layout, IsLayout, Shape, Incomplete, Record, Row, field, size, alignment, aligned, placed, end_of, widest, Member, StructDef, struct_shape, shape_from, shapes_after, is_complete, are_built, has_member, all_members_complete}
 use Rattle.c_values.proofs.Laid.{same_name-refl, structs_of, OthersUnknown, name_is, other_name}
 
 module _ (t : Target) where

@@ -1,17 +1,17 @@
 -- The members of a struct that a table describes.
-use Rattle.std.proofs.Common.{◌≡◌, ℕ, zero, suc, ◌+◌, ◌<◌, ◌≤◌, Bool, true, false, List, [], ◌∷◌, length, get_or, map, pos, refl, sym, ap, ◌∙◌, subst, subst₂, arith}
+use Rattle.std.proofs.Common.{◌≡◌, ℕ, zero, suc, ◌+◌, ◌<◌, ◌≤◌, List, [], ◌∷◌, length, get_or, map, pos, refl, sym, ap, ◌∙◌, subst, arith}
 use Rattle.std.proofs.lemmas.List.{length-map}
 use Rattle.std.proofs.lemmas.Option.{slice_get_read}
 use Rattle.std.specs.HashMap.{get_by_text}
-use Rattle.std.specs.Prelude.{Option, Some, None, IfSome, slice_get, String, string_bytes}
+use Rattle.std.specs.Prelude.{Some, None, IfSome, String, string_bytes}
 use Rattle.std.specs.declared.alloc.Global.{Global}
 use Rattle.c_values.specs.declared.types.CType as C
 use Rattle.c_values.specs.declared.layouts.StructDef as D
 use Rattle.c_values.specs.declared.places.Places as P
 use Rattle.c_values.specs.Name.{Name}
-use Rattle.c_values.specs.Types.{Target, CType, Struct}
-use Rattle.c_values.specs.Layout.{Layout, Shape, Incomplete, Scalar, Record, Row, Fields, no_fields, field, size, alignment, aligned, placed, Member, StructDef, struct_shape, shape_from, shapes_after}
-use Rattle.c_values.specs.Path.{Field, Spot, step_spot, member_spot}
+use Rattle.c_values.specs.Types.{Target, CType}
+use Rattle.c_values.specs.Layout.{Layout, Shape, Incomplete, Scalar, Record, Row, Fields, no_fields, field, size, alignment, aligned, placed, Member, struct_shape, shape_from, shapes_after}
+use Rattle.c_values.specs.Path.{Field, step_spot, member_spot}
 use Rattle.c_values.specs.CodeTypes.{type_of}
 use Rattle.c_values.specs.CodeLayout.{member_of, struct_def_of}
 use Rattle.c_values.specs.StructTable.{Table, DescribesShape, IsNamed, IsTabled, offsets}

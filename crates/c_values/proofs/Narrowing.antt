@@ -1,10 +1,8 @@
 -- How an array type is narrowed to its element.
-use Rattle.std.proofs.Common.{◌≡◌, ℕ, zero, suc, ◌+◌, ◌*◌, ◌<◌, ◌≤◌, ◌⊎◌, inl, inr, min, Bool, true, false, ◌&&◌, ltb, refl, sym, ap, ◌∙◌, arith}
-use Rattle.std.proofs.Math.Nat.{min-eq_left, min-eq_right, le-mul_of_pos_right, mul_comm, mul_assoc}
+use Rattle.std.proofs.Common.{◌≡◌, ℕ, zero, suc, ◌*◌, ◌<◌, ◌≤◌, ◌⊎◌, inl, inr, min, Bool, true, false, ◌&&◌, ltb, refl, sym, ap, ◌∙◌, arith}
+use Rattle.std.proofs.Math.Nat.{min-eq_left, min-eq_right, mul_comm, mul_assoc}
 use Rattle.std.proofs.lemmas.Bool.{cases_lt}
-use Rattle.c_values.specs.Layout.{Shape, Row, size, alignment, is_complete, largest_size}
-use Rattle.c_values.specs.declared.places.Extent as E
-use Rattle.c_values.specs.StructTable.{Measures}
+use Rattle.c_values.specs.Layout.{Shape, Row, size, alignment, is_complete}
 
 -- a product of a number that stopped growing
 pub min-mul : (x z m : ℕ) → min (min x m * z) m ≡ min (x * z) m

@@ -1,18 +1,18 @@
 -- Placing the members of a struct one after another.
-use Rattle.std.proofs.Common.{◌≡◌, ℕ, zero, suc, ◌+◌, ◌-◌, ◌*◌, ◌/◌, ◌<◌, ◌≤◌, ◌⊎◌, inl, inr, max, min, Bool, true, false, leb, List, [], ◌∷◌, ◌++◌, refl, sym, ap, ◌∙◌, append_assoc, append-nil, add-one, length, get_or, drop, map, subst, subst₂, lit≤, arith}
+use Rattle.std.proofs.Common.{◌≡◌, ℕ, ◌+◌, ◌/◌, ◌<◌, ◌≤◌, max, min, true, false, leb, List, [], ◌∷◌, ◌++◌, refl, sym, ap, ◌∙◌, append_assoc, append-nil, add-one, length, get_or, drop, map, subst, subst₂, lit≤, arith}
 use Rattle.std.proofs.lemmas.Bool.{and_parts, lt-leb}
 use Rattle.std.proofs.Math.Seq.{drop-cons}
 use Rattle.std.specs.Prelude.{Option, Some, None, String}
 use Rattle.std.specs.HashMap.{get_by_text}
 use Rattle.c_values.specs.Name.{Name}
-use Rattle.c_values.specs.Types.{Target, Ilp32, Lp64, CType, Integer, Void, Ptr, Struct, Array, IntType, width_of, address_width}
+use Rattle.c_values.specs.Types.{Target, Ilp32, Lp64, CType, Integer, Void, Ptr, Struct, Array, IntType, width_of}
 use Rattle.c_values.specs.Layout.{Shape, Incomplete, Scalar, Record, Row, Fields, no_fields, field, size, alignment, aligned, placed, end_of, widest, Member, StructDef, struct_shape, shape_from, is_complete, are_complete, all_members_complete, largest_size}
 use Rattle.std.specs.declared.alloc.Global.{Global}
 use Rattle.c_values.specs.declared.types.CType as C
 use Rattle.c_values.specs.CodeLayout.{member_of}
 use Rattle.c_values.specs.declared.places.Places as P
 use Rattle.c_values.specs.declared.places.Extent as E
-use Rattle.c_values.specs.StructTable.{Table, Measures, Describes, DescribesShape, DescribesStruct, offsets}
+use Rattle.c_values.specs.StructTable.{Table, Measures, Describes, DescribesShape, offsets}
 use Rattle.c_values.proofs.Formed.{some_bytes, formed_alignment}
 use Rattle.c_values.proofs.Placed.{aligned_after}
 use Rattle.c_values.proofs.Laid.{integer_formed}

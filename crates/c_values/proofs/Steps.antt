@@ -1,11 +1,11 @@
 -- Offsets step by step.
-use Rattle.std.proofs.Common.{◌≡◌, ℕ, zero, suc, ◌+◌, ◌*◌, ◌<◌, ◌≤◌, Bool, true, false, cond, ◌&&◌, ltb, leb, List, [], ◌∷◌, length, get_or, map, ℤ, pos, ◌+ℤ◌, refl, sym, ap, ◌∙◌, subst, arith}
-use Rattle.std.proofs.lemmas.Bool.{false≢true, and_parts, and_from, lt-ltb}
+use Rattle.std.proofs.Common.{◌≡◌, ℕ, ◌+◌, ◌*◌, ◌<◌, ◌≤◌, Bool, true, false, cond, leb, List, [], ◌∷◌, ℤ, pos, ◌+ℤ◌, refl, arith}
+use Rattle.std.proofs.lemmas.Bool.{and_parts, and_from, lt-ltb}
 use Rattle.std.specs.Prelude.{Option, Some, None}
 use Rattle.std.specs.Option.{option_map}
 use Rattle.c_values.specs.Types.{CType, Struct, Array}
 use Rattle.c_values.specs.Name.{Name}
-use Rattle.c_values.specs.Layout.{Layout, IsLayout, Shape, Incomplete, Scalar, Record, Row, type_of, size, shape_of, size_of, is_complete, is_object, largest_size}
+use Rattle.c_values.specs.Layout.{Layout, IsLayout, Shape, Incomplete, Scalar, Record, Row, type_of, shape_of, size_of, is_complete, is_object, largest_size}
 use Rattle.c_values.specs.Path.{Step, Field, Index, Spot, spot, step_spot, step_in_range, in_range, spot_offset, further, offset_of}
 use Rattle.c_values.specs.PartOf.{IsPart}
 use Rattle.c_values.proofs.Laid.{shape_type}

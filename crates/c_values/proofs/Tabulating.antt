@@ -1,16 +1,16 @@
 -- Putting the structs of a layout into a table, one after another.
-use Rattle.std.proofs.Common.{◌≡◌, ℕ, suc, ◌+◌, ◌<◌, ◌≤◌, ◌⊎◌, inl, inr, Bool, true, false, not, cond, ◌&&◌, leb, List, [], ◌∷◌, ◌++◌, length, get_or, take, drop, map, refl, sym, ap, ◌∙◌, append_assoc, add-one, subst, subst₂, arith}
-use Rattle.std.proofs.lemmas.List.{append-nil, take_more, length-map, get_or-map, drop_all, take_all}
+use Rattle.std.proofs.Common.{◌≡◌, ℕ, ◌+◌, ◌<◌, ◌≤◌, Bool, true, false, cond, ◌&&◌, leb, List, [], ◌∷◌, ◌++◌, length, get_or, take, drop, map, refl, sym, ap, ◌∙◌, append_assoc, add-one, subst, arith}
+use Rattle.std.proofs.lemmas.List.{append-nil, take_more, length-map, get_or-map, take_all}
 use Rattle.std.proofs.Math.Seq.{drop-cons}
-use Rattle.std.proofs.lemmas.Bool.{cases_Bool, and_parts, cond-true, cond-false}
+use Rattle.std.proofs.lemmas.Bool.{and_parts}
 use Rattle.std.proofs.lemmas.Slice.Eq.{bytes_eq-Decides}
-use Rattle.std.specs.Prelude.{Option, Some, None, IfSome, slice_get, String, string_bytes}
+use Rattle.std.specs.Prelude.{Some, IfSome, string_bytes}
 use Rattle.std.proofs.lemmas.Option.{slice_get_read}
 use Rattle.std.specs.Str.{bytes_eq}
 use Rattle.std.specs.HashMap.{get_by_text}
-use Rattle.c_values.specs.Name.{Name, with_name, same_name, is_among}
+use Rattle.c_values.specs.Name.{Name, with_name}
 use Rattle.c_values.specs.Types.{Target, CType}
-use Rattle.c_values.specs.Layout.{Layout, IsLayout, Shape, Incomplete, size, StructDef, struct_shape, shape_from, shapes_after, are_built, are_small, has_member, all_members_complete, largest_size}
+use Rattle.c_values.specs.Layout.{Shape, Incomplete, size, StructDef, struct_shape, shape_from, shapes_after, are_built, are_small, all_members_complete, largest_size}
 use Rattle.c_values.specs.declared.layouts.StructDef as D
 use Rattle.c_values.specs.declared.places.Places as P
 use Rattle.c_values.specs.CodeLayout.{struct_def_of, IsFirstLarge}

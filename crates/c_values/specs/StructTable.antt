@@ -1,5 +1,5 @@
 -- A table of where the members of structs lie, against the shapes of the structs.
-use Rattle.std.specs.Prelude.{◌≡◌, ℕ, ◌<◌, ◌≤◌, Bool, true, false, nat_le, min, List, [], ◌∷◌, length, map, ◌+◌, String, string_bytes, Option, Some, None, slice_get, IfSome}
+use Rattle.std.specs.Prelude.{◌≡◌, ℕ, ◌<◌, Bool, true, false, nat_le, min, List, [], ◌∷◌, length, map, ◌+◌, String, string_bytes, Option, Some, None, slice_get, IfSome}
 use Rattle.std.specs.declared.alloc.Global.{Global}
 use Rattle.std.specs.declared.hash.FoldHasher.{FoldHasher}
 use Rattle.std.specs.declared.hash.BuildHasherDefault.{BuildHasherDefault}
@@ -9,7 +9,7 @@ use Rattle.c_values.specs.declared.places.Places as P
 use Rattle.c_values.specs.declared.places.Extent as E
 use Rattle.c_values.specs.Name.{Name}
 use Rattle.c_values.specs.Types.{Target, CType, Array}
-use Rattle.c_values.specs.Layout.{Shape, Incomplete, Scalar, Record, Row, Fields, no_fields, field, size, alignment, is_complete, are_complete, largest_size, shapes_after, IsLayout}
+use Rattle.c_values.specs.Layout.{Shape, Incomplete, Record, Fields, no_fields, field, size, alignment, is_complete, are_complete, largest_size, shapes_after, IsLayout}
 use Rattle.c_values.specs.CodeLayout.{struct_def_of}
 
 abbrev pub Table : Type 0

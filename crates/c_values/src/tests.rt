@@ -190,39 +190,52 @@ fn structs(alloc: Global, length: u32) -> Result<Vec<StructDef>, AllocError>
     Ok(structs)
 }
 
+// The size and the alignment of a type, where it is an object's.
+fn measured(l: &Layout, t: &CType) -> Option<(u32, u32)> {
+    if is_object(l, t) {
+        Some((size_of(l, t), align_of(l, t)))
+    } else {
+        None
+    }
+}
+
 #[test]
 fn places_in_structs(rt: HostRuntime) -> Result<(), Fail> {
     let alloc = rt.alloc();
-    for target in [Target::Ilp32, Target::Lp64] {
+    let layout = Layout::build(Target::Ilp32, structs(alloc, 16384)?)?;
+    assert_eq!(rt; layout.target(), Target::Ilp32);
+    assert_eq!(rt; layout.structs().len(), 2);
+    let small = CType::Struct(String::from_str(alloc, "p")?);
+    assert_eq!(rt; measured(&layout, &small), Some((8, 4)));
+    let row = CType::Array(Box::new(alloc, small)?, 3);
+    assert!(rt; is_object(&layout, &row));
+    let paths = [
+        ([PathStep::Index(0), PathStep::Field(0)], Some(0)),
+        ([PathStep::Index(0), PathStep::Field(1)], Some(4)),
+        ([PathStep::Index(2), PathStep::Field(1)], Some(20)),
+        ([PathStep::Index(3), PathStep::Field(0)], None),
+        ([PathStep::Index(0), PathStep::Field(2)], None),
+        ([PathStep::Index(0), PathStep::Index(0)], None),
+        ([PathStep::Field(0), PathStep::Index(0)], None),
+    ];
+    for (path, want) in paths {
+        assert_eq!(rt; offset_of(&layout, &row, &path), want, "{path:?}");
+    }
+    Ok(())
+}
+
+#[test]
+fn sizes_of_types(rt: HostRuntime) -> Result<(), Fail> {
+    let alloc = rt.alloc();
+    for (target, bytes) in [(Target::Ilp32, 4), (Target::Lp64, 8)] {
         let layout = Layout::build(target, structs(alloc, 16384)?)?;
-        assert_eq!(rt; layout.target(), target);
-        assert_eq!(rt; layout.structs().len(), 2);
-        let small = CType::Struct(String::from_str(alloc, "p")?);
-        assert!(rt; is_object(&layout, &small));
-        assert_eq!(rt; size_of(&layout, &small), 8);
-        assert_eq!(rt; align_of(&layout, &small), 4);
-        assert_eq!(rt; offset_of(&layout, &small, &[]), Some(0));
-        assert_eq!(rt; offset_of(&layout, &small, &[PathStep::Field(0)]), Some(0));
-        assert_eq!(rt; offset_of(&layout, &small, &[PathStep::Field(1)]), Some(4));
-        assert_eq!(rt; offset_of(&layout, &small, &[PathStep::Field(2)]), None);
-        assert_eq!(rt; offset_of(&layout, &small, &[PathStep::Index(0)]), None);
-        let row = CType::Array(Box::new(alloc, small)?, 3);
-        assert!(rt; is_object(&layout, &row));
-        assert_eq!(rt;
-            offset_of(&layout, &row, &[PathStep::Index(2), PathStep::Field(1)]),
-            Some(20)
-        );
-        assert_eq!(rt; offset_of(&layout, &row, &[PathStep::Index(3)]), None);
         let large = CType::Struct(String::from_str(alloc, "q")?);
-        assert!(rt; is_object(&layout, &large));
-        assert_eq!(rt; size_of(&layout, &large), 65536);
+        assert_eq!(rt; measured(&layout, &large), Some((65536, 4)));
         let pointer = CType::Ptr(Box::new(alloc, large)?);
-        assert!(rt; is_object(&layout, &pointer));
-        let bytes = if target == Target::Ilp32 { 4 } else { 8 };
-        assert_eq!(rt; size_of(&layout, &pointer), bytes);
-        assert_eq!(rt; align_of(&layout, &pointer), bytes);
-        assert!(rt; !is_object(&layout, &CType::Void));
-        assert!(rt; !is_object(&layout, &CType::Struct(String::from_str(alloc, "r")?)));
+        assert_eq!(rt; measured(&layout, &pointer), Some((bytes, bytes)));
+        let unknown = CType::Struct(String::from_str(alloc, "r")?);
+        assert_eq!(rt; measured(&layout, &unknown), None);
+        assert_eq!(rt; measured(&layout, &CType::Void), None);
     }
     Ok(())
 }

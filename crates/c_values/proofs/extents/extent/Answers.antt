@@ -1,4 +1,4 @@
-use Rattle.std.proofs.Common.{◌≡◌, ◌*◌, min, ltb, Bool, ◌&&◌, sym, ap, ◌∙◌, subst}
+use Rattle.std.proofs.Common.{◌≡◌, ◌*◌, min, ltb, Bool, ◌&&◌, ap, subst}
 use Rattle.std.proofs.Math.Nat.{min-le_right}
 use Rattle.c_values.specs.Types.{CType}
 use Rattle.c_values.specs.Layout.{shape_from}

@@ -1,4 +1,4 @@
-use Rattle.std.proofs.Common.{◌≤◌, true, ℕ}
+use Rattle.std.proofs.Common.{◌≤◌}
 use Rattle.c_values.specs.Name.{Name}
 use Rattle.c_values.specs.Layout.{Shape, shape_from}
 use Rattle.c_values.specs.CodeTypes.{target_of, type_of}

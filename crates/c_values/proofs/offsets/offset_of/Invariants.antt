@@ -1,6 +1,6 @@
 use Rattle.std.proofs.Common.{◌≡◌, ◌+◌, ◌≤◌, true, map, drop, pos, ◌+ℤ◌}
 use Rattle.std.specs.Option.{option_map}
-use Rattle.c_values.specs.Layout.{IsLayout, is_object, size_of}
+use Rattle.c_values.specs.Layout.{is_object, size_of}
 use Rattle.c_values.specs.Path.{offset_of}
 use Rattle.c_values.specs.CodeTypes.{type_of}
 use Rattle.c_values.specs.CodeValue.{step_of}

@@ -1,11 +1,7 @@
-use Rattle.std.proofs.Common.{◌≡◌, ◌*◌, ◌/◌, ◌<◌, true, pos, string_bytes, sym, ap, ◌∙◌, subst, rules, arith}
+use Rattle.std.proofs.Common.{◌≡◌, ◌*◌, ◌/◌, string_bytes, ap, ◌∙◌, arith}
 use Rattle.std.proofs.Math.Nat.{mul-div_cancel_left}
-use Rattle.c_values.specs.Types.{CType, Array, Struct}
-use Rattle.c_values.specs.Layout.{is_object, size_of, shape_of}
-use Rattle.c_values.specs.Path.{Step, Field, Index, step_spot}
-use Rattle.c_values.specs.PartOf.{IsPart}
+use Rattle.c_values.specs.Layout.{size_of}
 use Rattle.c_values.specs.CodeTypes.{type_of}
-use Rattle.c_values.specs.CodeValue.{step_of}
 use Rattle.c_values.proofs.Steps.{to_member, to_element, struct_index}
 use Rattle.c_values.proofs.offsets.part_of.Goals as goal
 

@@ -1,4 +1,4 @@
-use Rattle.std.proofs.Common.{◌≡◌, ◌+◌, List, [], refl, ap, sym, ◌∙◌, subst, lit≤, drop, map, rules}
+use Rattle.std.proofs.Common.{◌≡◌, ◌+◌, List, [], refl, subst, lit≤, drop, map, rules}
 use Rattle.std.proofs.Math.ListN.{drop_of_length-le}
 use Rattle.std.specs.Prelude.{String}
 use Rattle.std.specs.declared.alloc.Global.{Global}

@@ -1,6 +1,6 @@
-use Rattle.std.proofs.Common.{◌≡◌, ◌≤◌, true, map, drop}
+use Rattle.std.proofs.Common.{◌≤◌, map, drop}
 use Rattle.c_values.specs.Name.{Name}
-use Rattle.c_values.specs.Layout.{Shape, shape_from, all_members_complete}
+use Rattle.c_values.specs.Layout.{Shape, shape_from}
 use Rattle.c_values.specs.CodeTypes.{target_of}
 use Rattle.c_values.specs.CodeLayout.{member_of}
 use Rattle.c_values.specs.StructTable.{Describes}

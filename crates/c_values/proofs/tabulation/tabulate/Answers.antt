@@ -1,10 +1,10 @@
-use Rattle.std.proofs.Common.{◌≡◌, ℕ, ◌<◌, ◌∙◌, ap, map, length, cond, get_or, subst, sym, rules, refl}
+use Rattle.std.proofs.Common.{◌≡◌, ℕ, ◌<◌, map, length, cond, subst, sym, rules}
 use Rattle.std.proofs.lemmas.Map.Text.{hash_map_updates_text}
 use Rattle.std.specs.Prelude.{Some, string_bytes}
 use Rattle.std.specs.Str.{bytes_eq}
 use Rattle.std.specs.HashMap.{get_by_text}
 use Rattle.c_values.specs.Name.{Name}
-use Rattle.c_values.specs.Layout.{Shape, shape_from, struct_shape}
+use Rattle.c_values.specs.Layout.{shape_from, struct_shape}
 use Rattle.c_values.specs.CodeTypes.{target_of}
 use Rattle.c_values.specs.CodeLayout.{struct_def_of, IsFirstLarge}
 use Rattle.c_values.specs.StructTable.{IsPlacement, IsNamed}

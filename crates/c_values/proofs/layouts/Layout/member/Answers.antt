@@ -1,4 +1,4 @@
-use Rattle.std.proofs.Common.{◌≡◌, ◌<◌, length, map, refl, sym, ap, ◌∙◌, subst, arith, rules, Some, None, pos}
+use Rattle.std.proofs.Common.{◌≡◌, map, subst, arith, Some, None, pos}
 use Rattle.c_values.specs.Types.{Struct}
 use Rattle.c_values.specs.Layout.{Layout, shape_of}
 use Rattle.c_values.specs.Path.{step_spot, Field}
