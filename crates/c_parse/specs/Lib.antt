@@ -8,3 +8,4 @@ pub mod Accepts
 pub mod Follows
 pub mod Names
 pub mod Examples
+pub mod View

@@ -12,6 +12,7 @@ mod names;
 pub mod operator;
 mod recogniser;
 mod symbol;
+pub mod tree;
 
 pub use operator::{BinaryOperator, StepOperator, UnaryOperator};
 pub use recogniser::recognise;
