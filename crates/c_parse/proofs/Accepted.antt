@@ -11,7 +11,7 @@ use Rattle.c_parse.specs.Choice.{Choice, Refuse, Pass, Take, choice_of}
 use Rattle.c_parse.specs.Build.{Value, Tok, OfUnit, act, acts}
 use Rattle.c_parse.specs.Stack.{State, go, read, run, settle, advance, finish, is_type, noted, made_behind, next_behind}
 use Rattle.c_parse.specs.Accepts.{Stage, drop_ends, forward, is_complete, accepts, first_stage}
-use Rattle.c_parse.proofs.Reading.{false≢true}
+use Rattle.c_parse.proofs.Steps.{false≢true}
 use Rattle.c_parse.proofs.Means.{plain, made_true, made_false, externals, same, All, nil, cons, Sound, parts}
 use Rattle.c_parse.proofs.Sound.{sound}
 use Rattle.c_parse.proofs.Texts.{is_read}

@@ -23,7 +23,8 @@ use Rattle.c_parse.specs.Spells.{named, mark, reserved, SpellsExp, SpellsExps, S
 use Rattle.c_parse.specs.Choice.{Choice, Refuse, Pass, Take, take, choice_of, starts_type, tail, tail_end, operand, expression, end, declarator, words, and_then, only_if, arguments, return_value, for_test, for_start, for_start_rest, for_step, simple, statement, items, items_end, else_part, groups, labels, local_rest}
 use Rattle.c_parse.specs.Build.{Value, Tok, OfExp, OfExps, OfRhs, OfSimple, OfInits, OfLocal, OfLabels, OfStart, OfTest, OfStep, OfStmt, OfItems, OfGroups, act}
 use Rattle.c_parse.specs.Stack.{go, is_type, noted}
-use Rattle.c_parse.proofs.Reading.{passes, takes, ended_by, expands, rank, rank_least, needs, needs_kind, starts, false≢true, le_trans, le_zero, closes_zero, tail_nothing, takes_variable, never_passes, operand_takes, first_words_take, value_starts, words_start, ends_words, declarator_ends, reads, reads_words, reads_declarator}
+use Rattle.c_parse.proofs.Steps.{passes, takes, ended_by, expands, rank, rank_least, needs, needs_kind, starts, false≢true, le_trans, le_zero, closes_zero, tail_nothing, takes_variable, never_passes, operand_takes, first_words_take, value_starts, words_start, ends_words, declarator_ends}
+use Rattle.c_parse.proofs.Reading.{reads, reads_words, reads_declarator}
 
 -- A token that begins an expression.
 abbrev pub begins_value : Kind → Bool

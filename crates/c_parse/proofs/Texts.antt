@@ -17,7 +17,8 @@ use Rattle.c_parse.specs.Choice as choice
 use Rattle.c_parse.specs.Choice.{Choice, Refuse, Pass, Take, take, choice_of, starts_type, operand, expression, end, words, and_then, bracket_rest, parameter_rest, parameter_name, parameter_bracket, top_parameters, top_value, first_top, externals}
 use Rattle.c_parse.specs.Build.{Value, Tok, OfWords, OfStars, OfDeclarator, OfBracket, OfParamName, OfParam, OfParams, OfParameters, OfTest, OfTop, OfTops, OfExternal, OfUnit, act}
 use Rattle.c_parse.specs.Stack.{go, read, finish, is_type, made_behind, next_behind}
-use Rattle.c_parse.proofs.Reading.{passes, takes, ended_by, expands, rank, needs, starts, false≢true, le_zero, le_trans, needs_kind, is_brace, is_star, tail_nothing, operand_takes, first_words_take, words_start, ends_words, ends_stars, ends_dimensions, is_bracket, stars_end, declarator_ends, passes_stars, reads, reads_words, reads_stars, reads_dimensions}
+use Rattle.c_parse.proofs.Steps.{passes, takes, ended_by, expands, rank, needs, starts, false≢true, le_zero, le_trans, needs_kind, is_brace, is_star, tail_nothing, operand_takes, first_words_take, words_start, ends_words, ends_stars, ends_dimensions, is_bracket, stars_end, declarator_ends, passes_stars}
+use Rattle.c_parse.proofs.Reading.{reads, reads_words, reads_stars, reads_dimensions}
 use Rattle.c_parse.proofs.Statements.{begins_value, value_first, value_begins, reads_items}
 
 -- The brackets of a parameter.

@@ -1,5 +1,11 @@
 //! What is still to come: the symbols of the parser's stack.
+
+ghost use Rattle.std.specs.Prelude.{◌≡◌};
+ghost use Rattle.c_parse.specs.Choice as choice;
+ghost use Rattle.c_parse.specs.Operators as operators;
+
 use crate::operator::{BinaryOperator, StepOperator, UnaryOperator};
+use c_lex::Keyword;
 
 /// What an expression is wanted for, which says what may follow its operands.
 #[derive(Clone, Copy, Debug, PartialEq, Eq)]
@@ -47,6 +53,103 @@ pub enum Seen {
     Integer(Sign, Size, bool),
     /// A type that takes no further word.
     Whole,
+}
+
+impl Wanted {
+    /// The level that the expression has at least.
+    pub(crate) fn least(self) -> u8
+        ensures { result ≡ choice.least self }
+    {
+        match self {
+            Wanted::Level(level) => level,
+            Wanted::Right => 0,
+            Wanted::Place | Wanted::Sized => 12,
+        }
+    }
+
+    /// Whether a type name in parentheses may begin it.
+    pub(crate) fn may_open_type(self) -> bool
+        ensures { result ≡ choice.may_open_type self }
+    {
+        match self {
+            Wanted::Sized => true,
+            _ => self.least() <= 11,
+        }
+    }
+}
+
+impl Seen {
+    /// What has been seen after one more word, where the word may stand there.
+    pub(crate) fn with(self, keyword: Keyword) -> Option<Seen>
+        ensures { result ≡ operators.add self keyword }
+    {
+        match (keyword, self) {
+            (Keyword::Const | Keyword::Static | Keyword::Inline | Keyword::Extern, seen) => Some(
+                seen,
+            ),
+            (Keyword::Void, Seen::Nothing) => Some(Seen::Whole),
+            (Keyword::Int, Seen::Nothing) => Some(Seen::Integer(Sign::Plain, Size::Plain, true)),
+            (Keyword::Char, Seen::Nothing) => Some(Seen::Integer(Sign::Plain, Size::Char, false)),
+            (Keyword::Short, Seen::Nothing) => Some(Seen::Integer(Sign::Plain, Size::Short, false)),
+            (Keyword::Long, Seen::Nothing) => Some(Seen::Integer(Sign::Plain, Size::Long, false)),
+            (Keyword::Signed | Keyword::Unsigned, Seen::Nothing) => Some(Seen::Integer(
+                Sign::Told,
+                Size::Plain,
+                false,
+            )),
+            (Keyword::Signed | Keyword::Unsigned, Seen::Integer(Sign::Plain, size, int)) => Some(
+                Seen::Integer(Sign::Told, size, int),
+            ),
+            (Keyword::Char, Seen::Integer(sign, Size::Plain, false)) => Some(Seen::Integer(
+                sign,
+                Size::Char,
+                false,
+            )),
+            (Keyword::Short, Seen::Integer(sign, Size::Plain, int)) => Some(Seen::Integer(
+                sign,
+                Size::Short,
+                int,
+            )),
+            (Keyword::Long, Seen::Integer(sign, Size::Plain, int)) => Some(Seen::Integer(
+                sign,
+                Size::Long,
+                int,
+            )),
+            (Keyword::Long, Seen::Integer(sign, Size::Long, int)) => Some(Seen::Integer(
+                sign,
+                Size::LongLong,
+                int,
+            )),
+            (Keyword::Int, Seen::Integer(sign, Size::Plain, false)) => Some(Seen::Integer(
+                sign,
+                Size::Plain,
+                true,
+            )),
+            (Keyword::Int, Seen::Integer(sign, Size::Short, false)) => Some(Seen::Integer(
+                sign,
+                Size::Short,
+                true,
+            )),
+            (Keyword::Int, Seen::Integer(sign, Size::Long, false)) => Some(Seen::Integer(
+                sign,
+                Size::Long,
+                true,
+            )),
+            (Keyword::Int, Seen::Integer(sign, Size::LongLong, false)) => Some(Seen::Integer(
+                sign,
+                Size::LongLong,
+                true,
+            )),
+            _ => None,
+        }
+    }
+
+    /// Whether a type has been seen.
+    pub(crate) fn is_complete(self) -> bool
+        ensures { result ≡ operators.complete self }
+    {
+        !matches!(self, Seen::Nothing)
+    }
 }
 
 /// A production that is complete when the parser comes to it on its stack.

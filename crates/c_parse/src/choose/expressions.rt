@@ -13,52 +13,6 @@ use crate::symbol::{Production, Seen, Symbol, Wanted};
 use c_lex::{Keyword, Punct, TokenKind};
 use std::alloc::AllocError;
 
-impl Wanted {
-    /// The level that the expression has at least.
-    fn least(self) -> u8
-        ensures { result ≡ choice.least self }
-    {
-        match self {
-            Wanted::Level(level) => level,
-            Wanted::Right => 0,
-            Wanted::Place | Wanted::Sized => 12,
-        }
-    }
-
-    /// Whether a type name in parentheses may begin it.
-    fn may_open_type(self) -> bool
-        ensures { result ≡ choice.may_open_type self }
-    {
-        match self {
-            Wanted::Sized => true,
-            _ => self.least() <= 11,
-        }
-    }
-}
-
-impl BinaryOperator {
-    /// How tightly it binds: 1 is the weakest.
-    fn level(self) -> u8
-        ensures { result ≡ operators.level self }
-    {
-        match self {
-            BinaryOperator::LogicalOr => 1,
-            BinaryOperator::LogicalAnd => 2,
-            BinaryOperator::Or => 3,
-            BinaryOperator::ExclusiveOr => 4,
-            BinaryOperator::And => 5,
-            BinaryOperator::Equal | BinaryOperator::NotEqual => 6,
-            BinaryOperator::Less
-            | BinaryOperator::Greater
-            | BinaryOperator::LessEqual
-            | BinaryOperator::GreaterEqual => 7,
-            BinaryOperator::ShiftLeft | BinaryOperator::ShiftRight => 8,
-            BinaryOperator::Add | BinaryOperator::Subtract => 9,
-            BinaryOperator::Multiply | BinaryOperator::Divide | BinaryOperator::Remainder => 10,
-        }
-    }
-}
-
 /// An operator before its operand.
 fn unary(
     stack: &mut Vec<Symbol>,
