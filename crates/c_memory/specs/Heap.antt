@@ -1,13 +1,13 @@
 -- Either heap, and what expressions and programs ask of it. A program is written once and runs on both: on bytes a typed
 -- read is the load at its place, and on a typed heap a load is the read.
-use Rattle.std.specs.Prelude.{◌≡◌, ℕ, Bool, List, [], ◌∷◌}
+use Rattle.std.specs.Prelude.{ℕ, Bool, List, [], ◌∷◌}
 use Rattle.c_values.specs.Types.{CType}
 use Rattle.c_values.specs.Value.{Value}
 use Rattle.c_values.specs.Layout.{Layout, shape_of, space}
 use Rattle.c_values.specs.Path.{Step, HasShape}
 use Rattle.c_memory.specs.Memory.{Tag, Memory, load_at, store_at}
 use Rattle.c_memory.specs.Tags.{is_covered, IsWellTagged, AreTags}
-use Rattle.c_memory.specs.TypedHeap.{Cell, TypedHeap, tags_of, read_cells, write_cells}
+use Rattle.c_memory.specs.TypedHeap.{TypedHeap, tags_of, read_cells, write_cells}
 
 pub data Heap : Type 0 where
   OnBytes : Memory → Heap

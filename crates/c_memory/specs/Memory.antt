@@ -1,12 +1,12 @@
 -- Memory of bytes, little-endian (C99 6.2.6.1). An address is a number modulo the size of the space: what goes over the
 -- end of the space goes on at 0. Padding is neither read nor written. One function from addresses to bytes; the code keeps
 -- pages.
-use Rattle.std.specs.Prelude.{◌≡◌, ℕ, zero, suc, ◌+◌, ◌*◌, ◌/◌, ◌%◌, ◌<◌, List, nat_eq, ℤ, pos, ◌+ℤ◌, if◌then◌else◌, Option, Some, None}
+use Rattle.std.specs.Prelude.{ℕ, zero, suc, ◌+◌, ◌*◌, ◌/◌, ◌%◌, ◌<◌, List, nat_eq, ℤ, pos, ◌+ℤ◌, if◌then◌else◌, Option, Some, None}
 use Rattle.std.specs.Int.{int_rem_euclid}
 use Rattle.c_values.specs.Types.{CType}
 use Rattle.c_values.specs.Number.{natural}
-use Rattle.c_values.specs.Value.{Value, Values, Bits, Number, Truth, Parts, no_values, more, nothing}
-use Rattle.c_values.specs.Layout.{Layout, Shape, Incomplete, Scalar, Record, Row, Fields, no_fields, field, size}
+use Rattle.c_values.specs.Value.{Value, Values, Bits, Parts, no_values, more, nothing}
+use Rattle.c_values.specs.Layout.{Shape, Incomplete, Scalar, Record, Row, Fields, no_fields, field, size}
 use Rattle.c_values.specs.Path.{Step, Spot, spot}
 
 -- a tagged address: an object of this type lies there

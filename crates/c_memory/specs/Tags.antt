@@ -2,8 +2,8 @@
 -- fixed list of tags in place of retyping). A tag covers itself and, through its members and elements, every part of it that
 -- is an integer, a pointer or a struct.
 use Rattle.std.specs.Prelude.{◌≡◌, ℕ, suc, ◌+◌, ◌-◌, ◌*◌, ◌/◌, ◌%◌, ◌<◌, ◌≤◌, nat_eq, nat_lt, nat_le, Bool, true, false, not, ◌&&◌, ◌||◌, List, [], ◌∷◌, Option, Some, None, is_some, ◌⊎◌, if◌then◌else◌, pos}
-use Rattle.c_values.specs.Types.{CType, Integer, Void, Ptr, Struct, Array, same_type}
-use Rattle.c_values.specs.Layout.{Layout, Shape, Incomplete, Scalar, Record, Row, Fields, no_fields, field, size, type_of, shape_of, size_of, align_of, is_object, space}
+use Rattle.c_values.specs.Types.{CType, Integer, Ptr, Struct, same_type}
+use Rattle.c_values.specs.Layout.{Layout, Shape, Incomplete, Scalar, Record, Row, Fields, no_fields, field, size, shape_of, size_of, align_of, is_object, space}
 use Rattle.c_values.specs.Path.{Step, Field, Index}
 use Rattle.c_memory.specs.Memory.{Tag, Memory, AreBytes}
 

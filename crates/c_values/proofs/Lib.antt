@@ -8,3 +8,7 @@ pub mod SameType
 pub mod Height
 pub mod Shaped
 pub mod Replaced
+pub mod Modulo
+pub mod WordValues
+pub mod WordResults
+pub mod Wrapping

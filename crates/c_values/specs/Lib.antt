@@ -6,3 +6,8 @@ pub mod Value
 pub mod Layout
 pub mod Path
 pub mod Choice
+pub mod Width
+pub mod CodeTypes
+pub mod CodeWord
+pub mod CodeNumber
+pub mod SignAndMagnitude

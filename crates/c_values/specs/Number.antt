@@ -1,6 +1,6 @@
 -- Whole numbers without limit, and the ranges of types (C99 5.2.4.2.1). Quotients truncate toward zero (C99 6.5.5p6); by
 -- zero the quotient is 0 and the remainder the dividend. The code has 128 bits, and says where they don't do.
-use Rattle.std.specs.Prelude.{◌≡◌, ℕ, ◌-◌, ◌^◌, Bool, true, false, ◌&&◌, ℤ, pos, negsuc, neg_ℤ, ◌+ℤ◌, ◌-ℤ◌, ◌*ℤ◌, int_le, int_div, int_rem, if◌then◌else◌}
+use Rattle.std.specs.Prelude.{ℕ, ◌-◌, ◌^◌, Bool, true, false, ◌&&◌, ℤ, pos, negsuc, neg_ℤ, ◌+ℤ◌, ◌-ℤ◌, ◌*ℤ◌, int_le, int_div, int_rem, if◌then◌else◌}
 use Rattle.std.specs.Ordering.{int_eq}
 use Rattle.c_values.specs.Types.{Target, IntType, width_of, is_signed}
 

@@ -1,8 +1,8 @@
 -- Paths into structs and arrays, of shapes and of values (C99 6.5.2.1, 6.5.2.3): the sum of offsets along a path, and the
 -- part of a value at its end.
-use Rattle.std.specs.Prelude.{◌≡◌, ℕ, zero, suc, nat_lt, Bool, true, false, ◌&&◌, ◌||◌, List, [], ◌∷◌, Option, Some, None, ℤ, pos, negsuc, ◌+ℤ◌, ◌*ℤ◌, if◌then◌else◌, unwrap_or}
+use Rattle.std.specs.Prelude.{ℕ, zero, suc, nat_lt, Bool, true, false, ◌&&◌, List, [], ◌∷◌, Option, Some, None, ℤ, pos, negsuc, ◌+ℤ◌, ◌*ℤ◌, if◌then◌else◌, unwrap_or}
 use Rattle.c_values.specs.Types.{CType}
-use Rattle.c_values.specs.Word.{Word, IsWord, word}
+use Rattle.c_values.specs.Word.{IsWord, word}
 use Rattle.c_values.specs.Value.{Value, Values, Bits, Number, Truth, Parts, no_values, more, count, nothing, part, with_part}
 use Rattle.c_values.specs.Layout.{Layout, Shape, Incomplete, Scalar, Record, Row, Fields, no_fields, field, size, shape_of}
 

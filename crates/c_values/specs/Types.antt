@@ -1,6 +1,6 @@
 -- The target and the types of the C subset (C99 6.2.5, 6.2.6.2; the widths are those of the two data models ILP32 and LP64).
 -- `char` is unsigned, and an enum type is `int`.
-use Rattle.std.specs.Prelude.{ℕ, ◌==◌, Bool, true, false, ◌&&◌, List, [], ◌∷◌}
+use Rattle.std.specs.Prelude.{ℕ, ◌==◌, Bool, true, false, ◌&&◌}
 use Rattle.c_values.specs.Name.{Name, same_name}
 
 pub data Target : Type 0 where

@@ -1,5 +1,5 @@
 -- Values: words, whole numbers, truth values, and the parts of structs and arrays in order (C99 6.2.5p20).
-use Rattle.std.specs.Prelude.{ℕ, zero, suc, ◌==◌, nat_lt, Bool, true, false, not, ◌&&◌, ◌||◌, ℤ, pos, negsuc, if◌then◌else◌}
+use Rattle.std.specs.Prelude.{ℕ, zero, suc, ◌==◌, Bool, true, false, not, ◌&&◌, ℤ, pos}
 use Rattle.std.specs.Ordering.{int_eq}
 use Rattle.c_values.specs.Word.{Word, word}
 

@@ -1,6 +1,6 @@
 -- Words: bits of a width, with an unsigned and a signed value, and their operations (C99 6.2.6.2, 6.3.1.3, 6.5.3 to
 -- 6.5.12). All are total, and by arithmetic on whole numbers without limit; the code has words of 64 bits.
-use Rattle.std.specs.Prelude.{◌≡◌, ℕ, ◌-◌, ◌*◌, ◌/◌, ◌^◌, ◌<◌, Bool, true, false, ◌&&◌, ℤ, pos, negsuc, neg_ℤ, ◌+ℤ◌, ◌-ℤ◌, ◌*ℤ◌, int_lt, int_le, nat_lt, bit_and, bit_or, bit_xor, if◌then◌else◌}
+use Rattle.std.specs.Prelude.{◌≡◌, ℕ, ◌-◌, ◌^◌, ◌<◌, Bool, true, false, ◌&&◌, ℤ, pos, negsuc, neg_ℤ, ◌+ℤ◌, ◌-ℤ◌, ◌*ℤ◌, int_lt, int_le, nat_lt, bit_and, bit_or, bit_xor, if◌then◌else◌}
 use Rattle.std.specs.Int.{int_div_euclid, int_rem_euclid}
 use Rattle.c_values.specs.Number.{natural, quotient, remainder}
 

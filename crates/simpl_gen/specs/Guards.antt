@@ -1,7 +1,7 @@
 -- Generation, for expressions (after Norrish's C parser): what stands for the value and the truth of a C expression, and
 -- which conditions have to hold first, in order. The conditions of operands come before those of the operation.
 use Rattle.std.specs.Prelude.{ℕ, ◌-◌, ◌==◌, nat_lt, Bool, false, List, [], ◌∷◌, ◌++◌, ℤ, pos, if◌then◌else◌}
-use Rattle.c_values.specs.Types.{Target, IntType, CType, Integer, Ptr, width_of, is_signed, address_width}
+use Rattle.c_values.specs.Types.{Target, IntType, CType, Integer, Ptr, width_of, is_signed}
 use Rattle.c_values.specs.Number.{Add, Sub, Mul, Div, least_of, greatest_of}
 use Rattle.c_values.specs.Word.{word, WordOp, Wadd, Wsub, Wmul, Wand, Wor, Wxor, Wudiv, Wumod, Wsdiv, Wsmod, Wshl, Wushr, Wsshr, Wneg, Wnot, Wult, Wule, Wslt, Wsle}
 use Rattle.c_values.specs.Layout.{Layout, scalar_width}

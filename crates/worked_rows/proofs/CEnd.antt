@@ -9,7 +9,7 @@ use Rattle.c_values.specs.Value as V
 use Rattle.c_values.specs.Layout.{Layout}
 use Rattle.c_values.specs.Choice.{Choice, Fill, picked}
 use Rattle.ac_expr.specs.Sort.{Level}
-use Rattle.ac_expr.specs.Signature.{Invocation, bound, no_env}
+use Rattle.ac_expr.specs.Signature.{Invocation, bound}
 use Rattle.simpl_lang.specs.Command as K
 use Rattle.simpl_lang.specs.Exec.{Machine, machine_with, with_local, Returned}
 use Rattle.c_types.specs.Typed as C

@@ -8,7 +8,7 @@ use Rattle.c_values.specs.Name.{with_name}
 use Rattle.c_memory.specs.Heap.{OnBytes}
 use Rattle.ac_expr.specs.Sort.{Level, Bytes}
 use Rattle.ac_expr.specs.Signature.{no_env}
-use Rattle.c_types.specs.Typed.{Arithmetic, Divide, Direction, Relation, Expr, Constant, Local, Value, Convert, Negate, Compute, Shift, Compare, Move, Minus, Through, Member, Element, Here}
+use Rattle.c_types.specs.Typed.{Arithmetic, Divide, Direction, Relation, Expr, Constant, Local, Value, Convert, Negate, Compute, Shift, Compare, Move, Minus, Through, Member, Element, Here, MoveBy, Plus}
 use Rattle.simpl_gen.specs.CValue.{Context}
 use Rattle.worked_rows.specs.Trees.{int, value}
 use Rattle.worked_rows.specs.Claims.{bytes_from, zeros}
@@ -82,3 +82,15 @@ behind p = Value (Through int p Here int)
 -- p less so many ints
 abbrev pub back_by : ℤ → Expr
 back_by n = Move Minus int to_int (number n)
+
+-- so many ints and p
+abbrev pub forward_by : Expr → Expr → Expr
+forward_by n p = MoveBy int n p
+
+-- p and so many ints
+abbrev pub forward : Expr → Expr → Expr
+forward p n = Move Plus int p n
+
+-- what p points to, as a pointer to int
+abbrev pub pointer_behind : Expr
+pointer_behind = Value (Through (Ptr int) (Local (codes "p") (Ptr (Ptr int))) Here (Ptr int))

@@ -131,4 +131,7 @@ pub fn places()
     ensures past_the_space { IsUndefined (Edges.at_address Bytes 4294967292) (Edges.x_of_p) Pointer }
     ensures back_below_zero { Evaluates (Edges.at_address Bytes 0) (Edges.back_by (pos 1)) (value (pos 4294967292)) }
     ensures back_by_negative { Evaluates (Edges.at_address Numbers 4096) (Edges.back_by (minus 2)) (value (pos 4104)) }
+    ensures integer_before_pointer { Evaluates (Edges.at_address Numbers 4096) (Edges.forward_by (Edges.number (pos 2)) Edges.to_int) (value (pos 4104)) }
+    ensures integer_first { IsUndefined (Edges.at_address Bytes 4097) (Edges.forward_by Edges.one_by_zero Edges.pointer_behind) Div }
+    ensures pointer_first { IsUndefined (Edges.at_address Bytes 4097) (Edges.forward Edges.pointer_behind Edges.one_by_zero) Pointer }
 {}

@@ -18,4 +18,7 @@ returns c = record {
   past_the_space = record { in_c = refl; guard_fails = refl };
   back_below_zero = record { in_c = refl; no_guard_fails = refl; generated = refl };
   back_by_negative = record { in_c = refl; no_guard_fails = refl; generated = refl };
+  integer_before_pointer = record { in_c = refl; no_guard_fails = refl; generated = refl };
+  integer_first = record { in_c = refl; guard_fails = refl };
+  pointer_first = record { in_c = refl; guard_fails = refl };
 }
