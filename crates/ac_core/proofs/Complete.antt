@@ -1,11 +1,11 @@
 -- What an answer and its sink leave open: a call that ends, and a text that can be shown.
-use Rattle.std.proofs.Common.{◌≡◌, ℕ, ◌<◌, ◌≤◌, List, length, Option, Some, None, Bool, true, false, ◌⊎◌, inl, inr, refl, sym, ap, ◌∙◌, subst, arith, IfSome}
+use Rattle.std.proofs.Common.{◌≡◌, ℕ, ◌≤◌, List, length, Option, Some, None, ◌⊎◌, inl, inr, refl, sym, subst, arith}
 use Rattle.c_values.specs.Name.{Name}
 use Rattle.c_parse.specs.FirstForm.{Function, IsFirstForm}
 use Rattle.ac_base.specs.Count.{Rose}
-use Rattle.ac_base.specs.Sink.{grown, TakesPart}
+use Rattle.ac_base.specs.Sink.{grown}
 use Rattle.ac_core.specs.Words.{command_of, plain_show}
-use Rattle.ac_core.specs.Answer.{source_limit, ShowsNothing, Reads, IsTextAnswer, IsFileAnswer, IsUnshown, IsAnswerTo, IsAnswer, Writes, IsCutShort, EndsWith}
+use Rattle.ac_core.specs.Answer.{source_limit, IsFileAnswer, IsAnswerTo, IsAnswer, EndsWith}
 use Rattle.ac_core.specs.declared.status.Status.{Status}
 use Rattle.ac_core.specs.declared.status.Status.TheVariants.{Done, No, Words, Source, Text, ReadFault, WriteFault, Limit, Memory, NotYet}
 

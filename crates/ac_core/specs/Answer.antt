@@ -1,6 +1,6 @@
 -- What the program answers: the status that it ends with, and the lines that it writes where the sink doesn't fail, each
 -- with its cause. The order of work decides: the words, the file read whole, and then its text.
-use Rattle.std.specs.Prelude.{◌≡◌, ℕ, ◌<◌, ◌≤◌, List, [], ◌∷◌, ◌++◌, length, Option, Some, None, is_some, true, codes}
+use Rattle.std.specs.Prelude.{◌≡◌, ℕ, ◌≤◌, List, [], ◌∷◌, ◌++◌, length, Option, Some, None, is_some, true, codes}
 use Rattle.c_values.specs.Name.{Name}
 use Rattle.c_parse.specs.FirstForm.{Function, IsFirstForm}
 use Rattle.monad_lang.specs.Program.{FinalUnit, FinalFn}
@@ -9,11 +9,12 @@ use Rattle.ac_base.specs.Count.{Rose}
 use Rattle.ac_base.specs.Shelf.{AreWhole, IsLonger}
 use Rattle.ac_base.specs.Sink.{grown, TakesPart}
 use Rattle.ac_core.specs.Words.{command_of, plain_show}
-use Rattle.ac_core.specs.FirstForm.{typed_unit_of, levels}
+use Rattle.ac_core.specs.Sum.{typed_unit_of, levels}
+use Rattle.ac_core.specs.FirstForm.{sum_function_of}
 use Rattle.ac_core.specs.Exact.{AreProgramsOf, IsExact}
 use Rattle.ac_core.specs.ProgramText.{unit_text}
 use Rattle.ac_core.specs.declared.status.Status.{Status}
-use Rattle.ac_core.specs.declared.status.Status.TheVariants.{Done, No, Words, Source, Text, ReadFault, WriteFault, Limit, Memory, NotYet}
+use Rattle.ac_core.specs.declared.status.Status.TheVariants.{Done, Words, ReadFault, WriteFault, Limit, Memory, NotYet}
 
 -- bytes of C text that are read
 abbrev pub source_limit : ℕ
@@ -30,8 +31,8 @@ pub record ShowsExact (text lines : List ℕ) : Type 0 where
   pub unit : Function
   pub programs : FinalUnit
   pub is_unit : IsFirstForm text unit
-  pub of_unit : AreProgramsOf (typed_unit_of unit) levels programs
-  pub exact : IsExact (typed_unit_of unit) levels programs
+  pub of_unit : AreProgramsOf (typed_unit_of (sum_function_of unit)) levels programs
+  pub exact : IsExact (typed_unit_of (sum_function_of unit)) levels programs
   pub numbers : AreInNumbers programs.functions
   pub written : lines ≡ unit_text programs
 

@@ -2,7 +2,7 @@
 -- otherwise the C hits nothing at all and both have the same results. (AutoCorres has one half of this, its refinement
 -- theorem.) A bound is a number of turns and a limit of nested calls, or none. C trees stand against sets of results; nothing
 -- between them is mentioned.
-use Rattle.std.specs.Prelude.{◌≡◌, ℕ, ◌+◌, ◌<◌, ◌≤◌, Bool, true, false, List, [], ◌∷◌, Option, Some, None, ◌⊎◌, ◌↔◌}
+use Rattle.std.specs.Prelude.{◌≡◌, ℕ, ◌+◌, ◌<◌, ◌≤◌, Bool, true, false, List, [], ◌∷◌, Option, Some, None, ◌⊎◌}
 use Rattle.correspondence.specs.Outcome.{Done, Failed, Ends}
 use Rattle.c_values.specs.Name.{Name}
 use Rattle.c_values.specs.Types.{Target}
@@ -17,7 +17,7 @@ use Rattle.c_memory.specs.Heap.{Heap, OnBytes, OnTypes}
 use Rattle.ac_expr.specs.Sort.{Level, Kind, is_lifted}
 use Rattle.ac_expr.specs.Evaluation.{State}
 use Rattle.ac_expr.specs.View.{view_at, views_at}
-use Rattle.ac_expr.specs.Signature.{Invocation, kinds_of}
+use Rattle.ac_expr.specs.Signature.{kinds_of}
 use Rattle.simpl_lang.specs.Command.{GuardKind}
 use Rattle.simpl_lang.specs.Exec.{Returned}
 use Rattle.monad_lang.specs.Program.{FinalUnit, FinalFn}

@@ -3,8 +3,8 @@ pub mod Triple
 pub mod ProgramText
 pub mod Words
 pub mod Code
-pub mod FirstForm
 pub mod Sum
 pub mod SumCode
+pub mod FirstForm
 pub mod Answer
 pub mod Status

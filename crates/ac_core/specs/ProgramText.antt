@@ -2,7 +2,6 @@
 -- and names stand as they are.
 use Rattle.std.specs.Prelude.{ℕ, Bool, true, false, List, [], ◌∷◌, ◌++◌, map, ℤ, pos, negsuc, ◌+◌, codes}
 use Rattle.std.specs.Fmt.{decimal}
-use Rattle.c_values.specs.Name.{Name}
 use Rattle.c_values.specs.Types as T
 use Rattle.c_values.specs.Word as W
 use Rattle.c_values.specs.Number as N

@@ -1,20 +1,20 @@
 -- Hoare triples (Hoare 1969, with logical variables), of an abstract program and of the C that it stands for.
 use Rattle.std.specs.Prelude.{◌≡◌, ℕ, Bool, true, false, not, ◌&&◌, List, [], ◌∷◌, ◌++◌, map, Option, Some, None, codes, if◌then◌else◌}
 use Rattle.correspondence.specs.Outcome.{Done, Failed}
-use Rattle.c_values.specs.Name.{Name, with_name}
-use Rattle.c_values.specs.Value.{Value, Bits, Number, Truth}
+use Rattle.c_values.specs.Name.{Name}
+use Rattle.c_values.specs.Value.{Value, Number, Truth}
 use Rattle.c_values.specs.Path.{IsBits}
 use Rattle.c_values.specs.Choice.{Choice}
 use Rattle.c_values.specs.Layout.{Layout, global_type}
 use Rattle.c_memory.specs.Memory.{Memory}
 use Rattle.c_memory.specs.Heap.{Heap, OnBytes, OnTypes, IsHeap}
 use Rattle.ac_expr.specs.Expression.{Exp}
-use Rattle.ac_expr.specs.Sort.{Level, Kind, Scalar, WordSort, NumberSort, TruthSort, Scope, sort_of, is_truth, sort_of_kind, is_lifted}
+use Rattle.ac_expr.specs.Sort.{Level, Scalar, WordSort, NumberSort, TruthSort, Scope, sort_of, is_truth, sort_of_kind, is_lifted}
 use Rattle.ac_expr.specs.Form.{has, is_load, is_read}
 use Rattle.ac_expr.specs.Sorted.{are_distinct, scope_with}
-use Rattle.ac_expr.specs.Evaluation.{Env, State, holds}
+use Rattle.ac_expr.specs.Evaluation.{State, holds}
 use Rattle.ac_expr.specs.View.{AreOfKinds, views_at}
-use Rattle.ac_expr.specs.Signature.{Invocation, bound, no_env, names_of, kinds_of}
+use Rattle.ac_expr.specs.Signature.{bound, no_env, names_of, kinds_of}
 use Rattle.simpl_lang.specs.Exec.{Returned}
 use Rattle.monad_lang.specs.Program.{FinalUnit, FinalFn, final_fn}
 use Rattle.monad_lang.specs.Run.{Answer, program_runs}

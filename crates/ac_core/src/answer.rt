@@ -6,7 +6,7 @@ ghost use Rattle.ac_core.specs.Answer.{IsAnswer, IsUnshown, IsFileAnswer, IsText
 ghost use Rattle.ac_core.specs.declared.status.Status.{Status};
 
 use crate::Status;
-use crate::first_path::translate;
+use crate::first_path::translate_first_form;
 use crate::program_text::write_program;
 use crate::words::{is_form, shown_file};
 use ac_base::{ReadTrouble, Shelf, read_whole};
@@ -73,7 +73,7 @@ fn show_text(alloc: Global, text: &[u8]) -> Result<Answer, AllocError>
     match first_form(alloc, text)? {
         None => line(alloc, Status::NotYet, "not yet\n"),
         Some(unit) => {
-            let programs = translate(alloc, &unit)?;
+            let programs = translate_first_form(alloc, unit)?;
             Ok(Answer {
                 status: Status::Done,
                 lines: write_program(alloc, &programs)?,

@@ -185,3 +185,6 @@ pub fn first_form(alloc: Global, text: &[u8]) -> Result<Option<FirstUnit>, Alloc
         operands,
     }))
 }
+
+#[cfg(test)]
+mod tests;

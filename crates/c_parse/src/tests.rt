@@ -1,130 +1,197 @@
-//! Texts that are of the first form, and texts that aren't.
-
-use crate::{FirstUnit, Operand, first_form};
-use std::alloc::{AllocError, Global};
+//! Which texts some tree spells, by example.
+use crate::{one_tree, recognise};
+use c_lex::tokens;
+use std::alloc::Global;
 use std::test::Fail;
 
-/// A unit in one line: its name, its parameters, and its operands, a parameter by its position.
-fn line_of(alloc: Global, unit: &FirstUnit) -> Result<String, AllocError> {
-    let mut line = format!(in alloc; "{}", unit.name.as_str())?;
-    for param in &unit.params {
-        line.push_str(" ")?;
-        line.push_str(param.as_str())?;
-    }
-    line.push_str(" =")?;
-    for operand in &unit.operands {
-        let text = match operand {
-            Operand::Parameter(position) => format!(in alloc; " #{position}")?,
-            Operand::Constant(number) => format!(in alloc; " {number}")?,
-        };
-        line.push_str(text.as_str())?;
-    }
-    Ok(line)
+/// Whether some tree spells the tokens of a text.
+fn is_spelled(alloc: Global, text: &[u8]) -> Result<bool, Fail> {
+    let all = tokens(alloc, text)?;
+    Ok(recognise(alloc, &all)?)
 }
 
-/// The line of a text's unit, or `none`.
-fn answer(alloc: Global, text: &str) -> Result<String, AllocError> {
-    match first_form(alloc, text.as_bytes())? {
-        Some(unit) => line_of(alloc, &unit),
-        None => String::from_str(alloc, "none"),
-    }
-}
+/// Texts, and whether some tree spells them.
+static ROWS: [(&str, bool); 78] = [
+    ("", true),
+    (";", false),
+    ("int;", true),
+    ("typedef int;", true),
+    ("int f(void) { return 0; }", true),
+    ("int f { return 0; }", false),
+    ("typedef int f(void) { return 0; }", false),
+    ("int f(void), g;", true),
+    ("int f(void), g(void) { return 0; }", false),
+    ("int a[3](void);", true),
+    // the words of a type
+    ("long const int x;", true),
+    ("static static extern int x;", true),
+    ("unsigned long int long x;", true),
+    ("long long long x;", false),
+    ("signed unsigned x;", false),
+    ("char int x;", false),
+    ("short char x;", false),
+    ("const x;", false),
+    ("int void x;", false),
+    // typedef names
+    ("typedef int t; t x;", true),
+    ("t x; typedef int t;", false),
+    ("typedef int t, a[(t)1];", false),
+    ("typedef int t, a[sizeof(t)];", true),
+    ("typedef int t; typedef int t;", false),
+    ("typedef int t; struct s { int t; };", false),
+    ("typedef int t; void f(struct s *p) { p->t = 1; }", false),
+    ("typedef struct node node; struct node *p;", false),
+    ("typedef int t; void f(int t) { }", false),
+    ("void f(void) { x * y; }", false),
+    ("typedef int x; void f(void) { x * y; }", true),
+    ("typedef int x; void f(void) { a = (x) - 1; }", true),
+    ("void f(void) { a = (x) - 1; }", true),
+    ("typedef int x; void f(void) { a = (x)(x) - 1; }", true),
+    ("int t; int t;", true),
+    // structs and enums
+    ("struct s { int a, *b[2]; const char c; } x;", true),
+    ("struct s { };", false),
+    ("struct s { int f(void); };", false),
+    ("struct { int a; } f(int b) { return 0; }", true),
+    ("void f(struct { int a; } b);", false),
+    ("void f(void) { struct s { int a; } b; }", false),
+    ("struct s { struct t { int a; } b; };", false),
+    ("int a[sizeof(struct { int b; })];", true),
+    ("enum e { A, B = 2, C, };", true),
+    ("enum e { };", false),
+    ("enum { A, , B };", false),
+    // parameters
+    ("int f();", true),
+    ("int f(void);", true),
+    ("int f(void, int);", true),
+    (
+        "int f(int a[], int *const b, char *const *, long [3]);",
+        true,
+    ),
+    ("int f(int a,);", false),
+    ("int f(a);", false),
+    // statements
+    ("void f(void) { if (a) if (b) ; else ; }", true),
+    ("void f(void) { if (a) ; else if (b) ; else ; }", true),
+    ("void f(void) { if (a) ; else ; else ; }", false),
+    ("void f(void) { while (a) do x = 1; while (b); }", true),
+    (
+        "void f(void) { for (;;) ; for (i = 0; i < 9; i++) ; for (int i = 0, j; ; f(i)) { } }",
+        true,
+    ),
+    ("void f(void) { for (i = 0) ; }", false),
+    (
+        "void f(void) { switch (a) { case 1: case 2: x = 1; break; default: { } int y; } }",
+        true,
+    ),
+    ("void f(void) { switch (a) { x = 1; } }", false),
+    ("void f(void) { switch (a) { case 1: } }", false),
+    ("void f(void) { switch (a) { } }", true),
+    ("void f(void) { int a = g(1, 2), b = 3; return g(); }", true),
+    ("int x = g();", false),
+    ("void f(void) { return g() + 1; }", false),
+    ("void f(void) { return (g()); }", false),
+    ("void f(void) { g(g(1)); }", false),
+    ("void f(void) { break; continue; return; ; }", true),
+    // simple statements
+    (
+        "void f(void) { a = b; a += b; a++; --a; *p = 1; p->a[1].b = 2; (a) = 1; f(); }",
+        true,
+    ),
+    ("void f(void) { *p++; }", false),
+    ("void f(void) { a++ + b; }", false),
+    ("void f(void) { (int)a = 1; }", false),
+    ("void f(void) { a = b = c; }", false),
+    ("void f(void) { ++*p; }", true),
+    // expressions
+    ("int x = a - - b;", true),
+    ("int x = a -- b;", false),
+    ("int x = a+++b;", false),
+    (
+        "int x = a ? b : c ? d : e || f && g | h ^ i & j == k < l << m + n * o;",
+        true,
+    ),
+    (
+        "int x = sizeof a + sizeof(int *) - sizeof(a)[1] + !~-+*&'c';",
+        true,
+    ),
+];
 
 #[test]
-fn reads_texts(rt: HostRuntime) -> Result<(), Fail> {
-    for (text, want) in [
-        ("unsigned k(unsigned a){return a;}", "k a = #0"),
-        (
-            "unsigned t(unsigned a,unsigned b,unsigned c){return a+b+c;}",
-            "t a b c = #0 #1 #2",
-        ),
-        (
-            "unsigned f(unsigned a, unsigned b){return a+b;}\n",
-            "f a b = #0 #1",
-        ),
-        (
-            "\t unsigned\x0b_x9\x0c( unsigned\rA ) {\nreturn 4294967295u + A+0u ; } ",
-            "_x9 A = 4294967295 #0 0",
-        ),
-        ("unsigned f(unsigned f){return f + f;}", "f f = #0 #0"),
-        (
-            "unsigned unsigned1(unsigned return_){return return_+7u;}",
-            "unsigned1 return_ = #0 7",
-        ),
-        // The constants that are none.
-        ("unsigned f(unsigned a){return 4294967296u;}", "none"),
-        (
-            "unsigned f(unsigned a){return 99999999999999999999u;}",
-            "none",
-        ),
-        ("unsigned f(unsigned a){return 01u;}", "none"),
-        ("unsigned f(unsigned a){return 00u;}", "none"),
-        ("unsigned f(unsigned a){return 1;}", "none"),
-        ("unsigned f(unsigned a){return 1U;}", "none"),
-        ("unsigned f(unsigned a){return 1ul;}", "none"),
-        ("unsigned f(unsigned a){return u;}", "none"),
-        ("unsigned f(unsigned a){return 0x1u;}", "none"),
-        ("unsigned f(unsigned a){return 1.5u;}", "none"),
-        ("unsigned f(unsigned a){return +1u;}", "none"),
-        ("unsigned f(unsigned a){return 1 u;}", "none"),
-        // Names.
-        ("unsigned int(unsigned a){return a;}", "none"),
-        ("unsigned f(unsigned goto){return 1u;}", "none"),
-        ("unsigned f(unsigned __attribute__){return 1u;}", "none"),
-        ("unsigned 9f(unsigned a){return a;}", "none"),
-        ("unsigned f(unsigned a){return b;}", "none"),
-        ("unsigned f(unsigned a,unsigned a){return a;}", "none"),
-        // Tokens and their order.
-        ("", "none"),
-        (" \n", "none"),
-        ("unsignedf(unsigned a){return a;}", "none"),
-        ("unsigned f(unsigned a){returna;}", "none"),
-        ("unsigned f(unsigned a){return a a;}", "none"),
-        ("unsigned f(unsigned a){return a++a;}", "none"),
-        ("unsigned f(unsigned a){return a+;}", "none"),
-        ("unsigned f(unsigned a){return ;}", "none"),
-        ("unsigned f(unsigned a){return (a);}", "none"),
-        ("unsigned f(unsigned a){return a;;}", "none"),
-        ("unsigned f(unsigned a){return a;}}", "none"),
-        ("unsigned f(unsigned a){return a}", "none"),
-        ("unsigned f(unsigned a){return a;", "none"),
-        ("unsigned f(unsigned a,){return a;}", "none"),
-        ("unsigned f(){return 1u;}", "none"),
-        ("unsigned f(void){return 7;}", "none"),
-        ("int f(int a){return a;}", "none"),
-        ("unsigned f(unsigned a)/**/{return a;}", "none"),
-        ("unsigned f(unsigned a){return a;} @", "none"),
-        ("unsigned f(unsigned a){return a;}é", "none"),
-        ("unsigned f(unsigned a){return a;}\0", "none"),
-    ] {
-        let got = answer(rt.alloc(), text)?;
-        assert_eq!(rt; got.as_str(), want, "{text}");
+fn texts(rt: HostRuntime) -> Result<(), Fail> {
+    one_tree();
+    for (text, spelled) in &ROWS {
+        assert_eq!(rt;
+            is_spelled(rt.alloc(), text.as_bytes())?,
+            *spelled,
+            "{text}"
+        );
     }
     Ok(())
 }
 
-#[test]
-fn keeps_limits(rt: HostRuntime) -> Result<(), Fail> {
-    let alloc = rt.alloc();
-    let mut name = String::new(alloc);
-    for _ in 0..63 {
-        name.push_str("n")?;
+/// A text with so many bytes of one kind and of another between its parts.
+fn nested(
+    alloc: Global,
+    front: &[u8],
+    open: (u8, usize),
+    middle: &[u8],
+    close: (u8, usize),
+    back: &[u8],
+) -> Result<Vec<u8>, Fail> {
+    let mut text = Vec::new(alloc);
+    text.extend_from_slice(front)?;
+    for _ in 0..open.1 {
+        text.push(open.0)?;
     }
-    let text = format!(in alloc; "unsigned {name}(unsigned a){{return a;}}")?;
-    let want = format!(in alloc; "{name} a = #0")?;
-    assert_eq!(rt; answer(alloc, text.as_str())?.as_str(), want.as_str());
-    let text = format!(in alloc; "unsigned {name}n(unsigned a){{return a;}}")?;
-    assert_eq!(rt; answer(alloc, text.as_str())?.as_str(), "none");
+    text.extend_from_slice(middle)?;
+    for _ in 0..close.1 {
+        text.push(close.0)?;
+    }
+    text.extend_from_slice(back)?;
+    Ok(text)
+}
 
-    let mut sum = String::from_str(alloc, "a")?;
-    let mut want = String::from_str(alloc, "f a = #0")?;
-    for _ in 1..16 {
-        sum.push_str("+a")?;
-        want.push_str(" #0")?;
-    }
-    let text = format!(in alloc; "unsigned f(unsigned a){{return {sum};}}")?;
-    assert_eq!(rt; answer(alloc, text.as_str())?.as_str(), want.as_str());
-    let text = format!(in alloc; "unsigned f(unsigned a){{return {sum}+a;}}")?;
-    assert_eq!(rt; answer(alloc, text.as_str())?.as_str(), "none");
+#[test]
+fn deep_texts(rt: HostRuntime) -> Result<(), Fail> {
+    let alloc = rt.alloc();
+    let closed = nested(
+        alloc,
+        b"int x = ",
+        (b'(', 100_000),
+        b"1",
+        (b')', 100_000),
+        b";",
+    )?;
+    assert!(rt; is_spelled(alloc, &closed)?);
+    let open = nested(
+        alloc,
+        b"int x = ",
+        (b'(', 100_000),
+        b"1",
+        (b')', 99_999),
+        b";",
+    )?;
+    assert!(rt; !is_spelled(alloc, &open)?);
+    let blocks = nested(
+        alloc,
+        b"void f(void) ",
+        (b'{', 100_000),
+        b"",
+        (b'}', 100_000),
+        b"",
+    )?;
+    assert!(rt; is_spelled(alloc, &blocks)?);
+    let more = nested(
+        alloc,
+        b"void f(void) ",
+        (b'{', 100_000),
+        b"",
+        (b'}', 100_001),
+        b"",
+    )?;
+    assert!(rt; !is_spelled(alloc, &more)?);
+    let signs = nested(alloc, b"int x = ", (b'~', 200_000), b"1;", (b' ', 0), b"")?;
+    assert!(rt; is_spelled(alloc, &signs)?);
     Ok(())
 }

@@ -12,7 +12,7 @@ pointer_formed : (t : Target) (u : CType) → IsFormed (Scalar u (address_width 
 pointer_formed Ilp32 u = record { whole = refl; bytes = inr (inr (inl refl)) }
 pointer_formed Lp64 u = record { whole = refl; bytes = inr (inr (inr refl)) }
 
-integer_formed : (t : Target) (i : IntType) → IsFormed (Scalar (Integer i) (width_of t i))
+pub integer_formed : (t : Target) (i : IntType) → IsFormed (Scalar (Integer i) (width_of t i))
 integer_formed t Char = record { whole = refl; bytes = inl refl }
 integer_formed t SChar = record { whole = refl; bytes = inl refl }
 integer_formed t UChar = record { whole = refl; bytes = inl refl }
@@ -25,13 +25,13 @@ integer_formed t ULong = pointer_formed t (Integer ULong)
 integer_formed t LLong = record { whole = refl; bytes = inr (inr (inr refl)) }
 integer_formed t ULLong = record { whole = refl; bytes = inr (inr (inr refl)) }
 
-name_is : (x y : Name) → same_name x y ≡ true → x ≡ y
+pub name_is : (x y : Name) → same_name x y ≡ true → x ≡ y
 name_is x y = (bytes_eq-Decides x y).0
 
 pub same_name-refl : (x : Name) → same_name x x ≡ true
 same_name-refl x = (bytes_eq-Decides x x).1 refl
 
-other_name : (x y : Name) → same_name x y ≡ false → same_name y x ≡ false
+pub other_name : (x y : Name) → same_name x y ≡ false → same_name y x ≡ false
 other_name x y h = false_from_ne_true (same_name y x) (λ e. true≢false (sym ((bytes_eq-Decides x y).1 (sym (name_is y x e))) ∙ h))
 
 module _ (t : Target) where
@@ -106,7 +106,7 @@ module _ (t : Target) where
       let p = and_parts (is_complete (shape_from t structs m.type)) (all_members_complete (shape_from t structs) ms) h in
       record { first = (type_good structs all m.type p.0).laid; others = members_laid structs all (aligned at (alignment (shape_from t structs m.type)) + size (shape_from t structs m.type)) ms p.1 }
 
-  abbrev OthersUnknown : (Name → Shape) → List Name → Type 0
+  abbrev pub OthersUnknown : (Name → Shape) → List Name → Type 0
   OthersUnknown structs names = (x : Name) → is_among x names ≡ false → structs x ≡ Incomplete
 
   -- one struct more

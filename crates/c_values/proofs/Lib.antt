@@ -12,3 +12,9 @@ pub mod Modulo
 pub mod WordValues
 pub mod WordResults
 pub mod Wrapping
+pub mod Narrowing
+pub mod PlacingMembers
+pub mod Tabulating
+pub mod Defined
+pub mod Steps
+pub mod Members

@@ -26,7 +26,7 @@ divides_greater a b (inr (inr (inr e))) k le = subst (λ x. x ∣ b) (sym e) (dv
 greater_alignment : (a b : ℕ) → IsAlignment a → IsAlignment b → IsAlignment (max a b)
 greater_alignment a b h k = grind arith
 
-aligned_after : (at align : ℕ) → 0 < align → at ≤ aligned at align
+pub aligned_after : (at align : ℕ) → 0 < align → at ≤ aligned at align
 aligned_after at align h = omega arith
 
 aligned_multiple : (at align : ℕ) → align ∣ aligned at align

@@ -11,3 +11,8 @@ pub mod CodeTypes
 pub mod CodeWord
 pub mod CodeNumber
 pub mod SignAndMagnitude
+pub mod CodeValue
+pub mod CodeLayout
+pub mod StructTable
+pub mod LayoutCode
+pub mod PartOf

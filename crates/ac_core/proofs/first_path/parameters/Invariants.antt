@@ -1,8 +1,0 @@
-use Rattle.std.proofs.Common.{◌≡◌, map, take}
-use Rattle.std.specs.Prelude.{string_bytes}
-use Rattle.monad_lang.specs.Code.{binder_of}
-use Rattle.ac_core.specs.FirstForm.{parameter}
-use Rattle.ac_core.proofs.first_path.parameters.Given as goal
-
-abbrev pub invariant-loop-name : goal.invariant-loop-name
-invariant-loop-name l = map binder_of l.params.items ≡ map parameter (map string_bytes (take l.name-index l.names))
