@@ -13,3 +13,4 @@ pub mod Accepts
 pub mod Follows
 pub mod Names
 pub mod Examples
+pub mod View

@@ -16,6 +16,7 @@ mod operand;
 pub mod operator;
 mod recogniser;
 mod symbol;
+pub mod tree;
 
 pub use first::{FirstUnit, first_form};
 pub use operand::Operand;

@@ -1,0 +1,298 @@
+//! The trees of the C subset: a variant for each production. A node keeps the offset of its first token as its first
+//! field, unless that token is its first part's.
+use crate::operator::{BinaryOperator, StepOperator, UnaryOperator};
+use c_lex::Keyword;
+
+/// An expression.
+#[cycle(exp)]
+#[derive(Drop)]
+pub enum CExp {
+    /// A name.
+    Name(usize, String),
+    /// A number: its value, whether it is decimal, whether its suffix has a `u`, and how many `l` it has.
+    Number(usize, u64, bool, bool, u8),
+    /// A character constant.
+    Character(usize, u8),
+    /// `(e)`
+    Parenthesis(usize, Box<CExp>),
+    /// `e[i]`
+    Index(Box<CExp>, Box<CExp>),
+    /// `e.x`
+    Member(Box<CExp>, String),
+    /// `e->x`
+    PointerMember(Box<CExp>, String),
+    /// An operator before its operand.
+    Unary(usize, UnaryOperator, Box<CExp>),
+    /// `sizeof e`
+    SizeofValue(usize, Box<CExp>),
+    /// `sizeof(T)`: the words of the type, and the offset of each star.
+    SizeofType(usize, Box<Words>, Vec<usize>),
+    /// `(T)e`
+    Cast(usize, Box<Words>, Vec<usize>, Box<CExp>),
+    /// An operator between operands.
+    Binary(BinaryOperator, Box<CExp>, Box<CExp>),
+    /// `c ? a : b`
+    Conditional(Box<CExp>, Box<CExp>, Box<CExp>),
+}
+
+/// The words of a type and its storage, in their order.
+#[cycle(exp)]
+#[derive(Drop)]
+pub enum Words {
+    /// No more.
+    None,
+    /// A word, and more.
+    More(Box<Word>, Box<Words>),
+}
+
+/// A word of a type, or of its storage.
+#[cycle(exp)]
+#[derive(Drop)]
+pub enum Word {
+    /// A keyword.
+    Reserved(usize, Keyword),
+    /// A name that a typedef made.
+    Named(usize, String),
+    /// A struct by its tag.
+    StructTag(usize, String),
+    /// A struct with its members.
+    StructBody(usize, Option<String>, Box<Members>),
+    /// An enum by its tag.
+    EnumTag(usize, String),
+    /// An enum with its enumerators.
+    EnumBody(usize, Option<String>, Box<Enumerators>),
+}
+
+/// The members of a struct, one at least.
+#[cycle(exp)]
+#[derive(Drop)]
+pub enum Members {
+    /// The last one: its words and declarators.
+    Last(Box<Words>, Box<Declarators>),
+    /// One, and more.
+    More(Box<Words>, Box<Declarators>, Box<Members>),
+}
+
+/// The declarators of a member, one at least.
+#[cycle(exp)]
+#[derive(Drop)]
+pub enum Declarators {
+    /// The last one.
+    Last(Box<Declarator>),
+    /// One, and more.
+    More(Box<Declarator>, Box<Declarators>),
+}
+
+/// A declarator.
+#[cycle(exp)]
+#[derive(Drop)]
+pub enum Declarator {
+    /// The offset of each star, the name and its offset, and the array lengths.
+    Declare(Vec<usize>, usize, String, Box<Dimensions>),
+}
+
+/// The array lengths of a declarator.
+#[cycle(exp)]
+#[derive(Drop)]
+pub enum Dimensions {
+    /// No more.
+    None,
+    /// A length, and more.
+    More(Box<CExp>, Box<Dimensions>),
+}
+
+/// The enumerators of an enum, one at least.
+#[cycle(exp)]
+#[derive(Drop)]
+pub enum Enumerators {
+    /// The last one.
+    Last(Box<Enumerator>),
+    /// One, and more.
+    More(Box<Enumerator>, Box<Enumerators>),
+}
+
+/// An enumerator.
+#[cycle(exp)]
+#[derive(Drop)]
+pub enum Enumerator {
+    /// A name.
+    Implicit(usize, String),
+    /// A name and its value.
+    Explicit(usize, String, Box<CExp>),
+}
+
+/// A call.
+#[derive(Drop)]
+pub struct Call {
+    /// The offset of its name.
+    pub at: usize,
+    /// The name of the function.
+    pub name: String,
+    /// The arguments.
+    pub arguments: Vec<CExp>,
+}
+
+/// What may stand on the right of an assignment.
+#[derive(Drop)]
+pub enum Rhs {
+    /// An expression.
+    Value(CExp),
+    /// A call.
+    Call(Call),
+}
+
+/// A simple statement.
+#[derive(Drop)]
+pub enum Simple {
+    /// `e = r`
+    Assign(CExp, Rhs),
+    /// `e += x` and its kin.
+    Update(BinaryOperator, CExp, CExp),
+    /// `e++` and `e--`
+    After(StepOperator, CExp),
+    /// `++e` and `--e`
+    Before(usize, StepOperator, CExp),
+    /// A call.
+    Call(Call),
+}
+
+/// A local: its declarator and its value.
+#[derive(Drop)]
+pub struct Init {
+    /// The declarator.
+    pub declarator: Declarator,
+    /// The value, or none.
+    pub value: Option<Rhs>,
+}
+
+/// The locals of one declaration.
+#[derive(Drop)]
+pub struct Local {
+    /// The words of their type.
+    pub words: Words,
+    /// The locals.
+    pub inits: Vec<Init>,
+}
+
+/// A label of a switch.
+#[derive(Drop)]
+pub enum Label {
+    /// `case e:`
+    Case(usize, CExp),
+    /// `default:`
+    Default(usize),
+}
+
+/// The first part of the head of a `for`.
+#[derive(Drop)]
+pub enum Start {
+    /// None.
+    None,
+    /// A local.
+    Local(Local),
+    /// A simple statement.
+    Simple(Simple),
+}
+
+/// A statement.
+#[cycle(stmt)]
+#[derive(Drop)]
+pub enum Stmt {
+    /// `;`
+    Empty(usize),
+    /// A block.
+    Block(usize, Box<Items>),
+    /// A simple statement.
+    Simple(Simple),
+    /// `break;`
+    Break(usize),
+    /// `continue;`
+    Continue(usize),
+    /// `return r;`
+    Return(usize, Option<Rhs>),
+    /// An `if` without `else`.
+    If(usize, CExp, Box<Stmt>),
+    /// An `if` with `else`.
+    IfElse(usize, CExp, Box<Stmt>, Box<Stmt>),
+    /// `while (e) s`
+    While(usize, CExp, Box<Stmt>),
+    /// `for (start; test; step) s`
+    For(usize, Start, Option<CExp>, Option<Simple>, Box<Stmt>),
+    /// `do s while (e);`
+    Do(usize, Box<Stmt>, CExp),
+    /// A switch, with its groups.
+    Switch(usize, CExp, Box<Groups>),
+}
+
+/// Locals and statements.
+#[cycle(stmt)]
+#[derive(Drop)]
+pub enum Items {
+    /// No more.
+    None,
+    /// Locals, and more.
+    Local(Local, Box<Items>),
+    /// A statement, and more.
+    Statement(Box<Stmt>, Box<Items>),
+}
+
+/// The groups of a switch.
+#[cycle(stmt)]
+#[derive(Drop)]
+pub enum Groups {
+    /// No more.
+    None,
+    /// The first label of a group, the others, its first statement, what follows, and more groups.
+    More(Label, Vec<Label>, Box<Stmt>, Box<Items>, Box<Groups>),
+}
+
+/// The brackets of a parameter.
+#[derive(Drop)]
+pub enum Bracket {
+    /// None.
+    None,
+    /// `[]`
+    Open,
+    /// `[e]`
+    Length(CExp),
+}
+
+/// A parameter.
+#[derive(Drop)]
+pub struct Param {
+    /// The words of its type.
+    pub words: Words,
+    /// The offset of each star.
+    pub stars: Vec<usize>,
+    /// The name with its offset, or none.
+    pub name: Option<(usize, String)>,
+    /// The brackets.
+    pub bracket: Bracket,
+}
+
+/// A declarator outside functions.
+#[derive(Drop)]
+pub struct Top {
+    /// The declarator.
+    pub declarator: Declarator,
+    /// Its parameters, or none.
+    pub parameters: Option<Vec<Param>>,
+    /// Its value, or none.
+    pub value: Option<CExp>,
+}
+
+/// A function or a declaration.
+#[derive(Drop)]
+pub enum Decl {
+    /// A function: its words, declarator, parameters and body.
+    Function(Words, Declarator, Vec<Param>, Items),
+    /// A declaration: the offset of its `typedef`, where it begins with that word, its words and declarators.
+    Declaration(Option<usize>, Words, Vec<Top>),
+}
+
+/// A text.
+#[derive(Drop)]
+pub struct Unit {
+    /// Its functions and declarations.
+    pub externals: Vec<Decl>,
+}
