@@ -3,5 +3,8 @@ pub mod Unsigned
 pub mod OneReturn
 pub mod ExactSum
 pub mod FirstForm
+pub mod ClassIsSum
+pub mod ParameterNames
+pub mod DistinctNames
 pub mod Commands
 pub mod Complete

@@ -6,5 +6,6 @@ pub mod Code
 pub mod Sum
 pub mod SumCode
 pub mod FirstForm
+pub mod Class
 pub mod Answer
 pub mod Status

@@ -2,6 +2,7 @@
 #![tactic(auto)]
 
 mod answer;
+mod class;
 mod first_path;
 mod program_text;
 mod status;

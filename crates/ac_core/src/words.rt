@@ -102,7 +102,7 @@ fn is_count(word: &[u8]) -> bool
 }
 
 // Whether a word is among others.
-fn is_among(word: &str, words: &[String]) -> bool
+pub(crate) fn is_among(word: &str, words: &[String]) -> bool
     ensures { result ≡ is_among word.now (map string_bytes words.now) }
 {
     words.iter().any(|other| word == other.as_str())
