@@ -1,4 +1,5 @@
-//! Which texts are shown: those of one function that returns a sum of its unsigned parameters and of constants.
+//! Which texts are to be shown, by their trees: those of one function that returns a sum of its unsigned parameters and of
+//! constants. The answer to a text asks for its first form so far, and for this once the parser gives trees.
 
 ghost use Rattle.std.specs.Prelude.{◌≡◌, map, IfOk, Some, None, option_map, string_bytes, if◌then◌else◌};
 ghost use Rattle.c_parse.specs.View.{exp_of, words_of, declarator_of, items_of, param_of, unit_of};
