@@ -75,10 +75,9 @@ impl Model for Layout {
 }
 
 impl Layout {
-    ghost use Rattle.c_values.specs.Layout.{Incomplete, are_built, are_small};
     ghost use Rattle.std.specs.Prelude.{None, Some, pos, IfNone, IfSome};
     ghost use Rattle.c_values.specs.Types.{Struct};
-    ghost use Rattle.c_values.specs.Layout.{shape_of};
+    ghost use Rattle.c_values.specs.Layout.{Incomplete, are_built, are_small, shape_of};
     ghost use Rattle.c_values.specs.Path.{step_spot, Field};
     ghost use Rattle.c_values.specs.CodeTypes.{target_of, type_of};
     ghost use Rattle.c_values.specs.CodeLayout.{struct_def_of, IsFirstLarge};
@@ -87,6 +86,9 @@ impl Layout {
 
     /// The layout of structs. Their names are distinct, each has a member, and each member is of a complete object type,
     /// that of a struct standing before it unless it is behind a pointer.
+    ///
+    /// - `Large` where a struct has more than 65,536 bytes: the place of the first such.
+    /// - `Memory` where there is no room for the table. Its size is linear in the members.
     pub fn build(target: Target, structs: Vec<StructDef>) -> Result<Layout, LayoutFault>
         requires { are_built (target_of target) (λ x. Incomplete) [] (map struct_def_of structs.items) ≡ true }
         ensures built { IfOk result
