@@ -5,9 +5,9 @@ use Rattle.std.proofs.lemmas.Bool.{false≢true}
 use Rattle.std.proofs.lemmas.Bool.Decides.{nat_tests}
 use Rattle.c_values.specs.Name.{Name, is_among}
 use Rattle.ac_expr.specs.Sorted.{are_distinct}
-use Rattle.c_parse.specs.declared.operator.BinaryOperator.{BinaryOperator}
-use Rattle.c_parse.specs.declared.operator.BinaryOperator.TheVariants as binary
-use Rattle.c_parse.specs.Tree as T
+use Rattle.c_grammar.specs.declared.operator.BinaryOperator.{BinaryOperator}
+use Rattle.c_grammar.specs.declared.operator.BinaryOperator.TheVariants as binary
+use Rattle.c_grammar.specs.Tree as T
 use Rattle.ac_core.specs.Sum.{Sum, Named, Constant, SumFunction, IsSum}
 use Rattle.ac_core.specs.Class.{is_unsigned, plain_name, parameter_names, returned, is_unsigned_int, added, sum_in, function_with, sum_function, class_of}
 

@@ -2,8 +2,8 @@
 use Rattle.std.proofs.Common.{◌≡◌, ℕ, ◌+◌, ◌<◌, ◌≤◌, List, [], ◌∷◌, ◌++◌, map, length, drop, get_or, sym, refl, ap, ◌∙◌, append_assoc, add-one, drop-cons, Option, Some, None}
 use Rattle.std.proofs.lemmas.List.{append-nil, drop_all}
 use Rattle.c_values.specs.Name.{Name}
-use Rattle.c_parse.specs.declared.tree.Param.{Param}
-use Rattle.c_parse.specs.View.{param_of}
+use Rattle.c_grammar.specs.declared.tree.Param.{Param}
+use Rattle.c_grammar.specs.View.{param_of}
 use Rattle.ac_core.specs.Class.{parameter_name, one_more, parameter_names}
 
 -- the names before, and those of what is left

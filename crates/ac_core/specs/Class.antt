@@ -4,9 +4,9 @@ use Rattle.std.specs.Prelude.{ℕ, ◌==◌, Bool, true, false, not, ◌&&◌, n
 use Rattle.c_values.specs.Name.{Name, is_among}
 use Rattle.ac_expr.specs.Sorted.{are_distinct}
 use Rattle.c_lex.specs.declared.token.Keyword.TheVariants as word
-use Rattle.c_parse.specs.declared.operator.BinaryOperator.{BinaryOperator}
-use Rattle.c_parse.specs.declared.operator.BinaryOperator.TheVariants as binary
-use Rattle.c_parse.specs.Tree as T
+use Rattle.c_grammar.specs.declared.operator.BinaryOperator.{BinaryOperator}
+use Rattle.c_grammar.specs.declared.operator.BinaryOperator.TheVariants as binary
+use Rattle.c_grammar.specs.Tree as T
 use Rattle.ac_core.specs.Sum.{Sum, Named, Constant, Plus, SumFunction}
 
 -- the one word `unsigned`

@@ -2,8 +2,8 @@
 //! constants. The answer to a text asks for its first form so far, and for this once the parser gives trees.
 
 ghost use Rattle.std.specs.Prelude.{◌≡◌, map, IfOk, Some, None, option_map, string_bytes, if◌then◌else◌};
-ghost use Rattle.c_parse.specs.View.{exp_of, words_of, declarator_of, items_of, param_of, unit_of};
-ghost use Rattle.c_parse.specs.declared.operator.BinaryOperator.{BinaryOperator};
+ghost use Rattle.c_grammar.specs.View.{exp_of, words_of, declarator_of, items_of, param_of, unit_of};
+ghost use Rattle.c_grammar.specs.declared.operator.BinaryOperator.{BinaryOperator};
 ghost use Rattle.ac_expr.specs.Sorted as sorted;
 ghost use Rattle.ac_core.specs.Class as shown;
 ghost use Rattle.ac_core.specs.SumCode.{sum_of, function_of};
@@ -11,8 +11,8 @@ ghost use Rattle.ac_core.specs.SumCode.{sum_of, function_of};
 use crate::sum::{Sum, SumFunction};
 use crate::words::is_among;
 use c_lex::Keyword;
-use c_parse::BinaryOperator;
-use c_parse::tree::{
+use c_grammar::BinaryOperator;
+use c_grammar::tree::{
     Bracket, CExp, Decl, Declarator, Dimensions, Items, Param, Rhs, Stmt, Unit, Word, Words,
 };
 use std::alloc::{AllocError, Global};

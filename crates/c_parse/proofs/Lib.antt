@@ -6,16 +6,3 @@ pub mod Lead
 pub mod Separated
 pub mod Distinct
 pub mod Whole
-mod Steps
-mod Reading
-mod Statements
-pub mod Texts
-mod Means
-mod SoundExpressions
-mod SoundTypes
-mod SoundStatements
-mod SoundExternals
-mod Sound
-pub mod Accepted
-pub mod Kept
-pub mod Samples

@@ -3,14 +3,3 @@ pub mod Name
 pub mod Operand
 pub mod FirstForm
 pub mod FirstUnit
-pub mod Tree
-pub mod Operators
-pub mod Spells
-pub mod Choice
-pub mod Build
-pub mod Stack
-pub mod Accepts
-pub mod Follows
-pub mod Names
-pub mod Examples
-pub mod View

@@ -4,8 +4,8 @@ use crate::class::class_of;
 use crate::program_text::write_program;
 use crate::sum::translate;
 use c_lex::Keyword;
-use c_parse::BinaryOperator;
-use c_parse::tree::{
+use c_grammar::BinaryOperator;
+use c_grammar::tree::{
     Bracket, CExp, Decl, Declarator, Dimensions, Items, Param, Rhs, Stmt, Unit, Word, Words,
 };
 use std::alloc::{AllocError, Global};

@@ -1,6 +1,6 @@
 use Rattle.std.proofs.Common.{◌≡◌, ◌+◌, ◌<◌, ◌≤◌, [], ◌∷◌, ◌++◌, length, map, drop, sym, ap, ◌∙◌, arith, string_bytes, rules}
 use Rattle.std.proofs.lemmas.List.{map-append}
-use Rattle.c_parse.specs.View.{param_of}
+use Rattle.c_grammar.specs.View.{param_of}
 use Rattle.ac_core.specs.Class.{parameter_name, parameter_names}
 use Rattle.ac_core.proofs.ParameterNames.{joined, joined-nil, joined-step, joined-none, joined-end}
 use Rattle.ac_core.proofs.class.parameter_names.Goals as goal

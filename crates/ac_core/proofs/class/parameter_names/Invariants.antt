@@ -1,5 +1,5 @@
 use Rattle.std.proofs.Common.{◌≡◌, map, drop, string_bytes}
-use Rattle.c_parse.specs.View.{param_of}
+use Rattle.c_grammar.specs.View.{param_of}
 use Rattle.ac_core.specs.Class.{parameter_names}
 use Rattle.ac_core.proofs.ParameterNames.{joined}
 use Rattle.ac_core.proofs.class.parameter_names.Given as goal

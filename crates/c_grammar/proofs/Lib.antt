@@ -1,0 +1,13 @@
+mod Steps
+mod Reading
+mod Statements
+pub mod Texts
+mod Means
+mod SoundExpressions
+mod SoundTypes
+mod SoundStatements
+mod SoundExternals
+mod Sound
+pub mod Accepted
+pub mod Kept
+pub mod Samples
