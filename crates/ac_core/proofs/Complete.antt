@@ -1,11 +1,18 @@
 -- What an answer and its sink leave open: a call that ends, and a text that can be shown.
 use Rattle.std.proofs.Common.{◌≡◌, ℕ, ◌≤◌, List, length, Option, Some, None, ◌⊎◌, inl, inr, refl, sym, subst, arith}
 use Rattle.c_values.specs.Name.{Name}
-use Rattle.c_parse.specs.FirstForm.{Function, IsFirstForm}
+use Rattle.c_lex.specs.Lexeme.{Lexeme}
+use Rattle.c_lex.specs.Tokens.{Tokens}
+use Rattle.c_grammar.specs.Tree.{External}
+use Rattle.ac_core.specs.Sum.{SumFunction}
+use Rattle.ac_core.specs.Class.{class_of}
+use Rattle.c_lex.proofs.Leads.{one_list, tokens_or_fault}
+use Rattle.c_grammar.proofs.Texts.{one_tree}
+use Rattle.c_parse.specs.Limits.{first_limit}
 use Rattle.ac_base.specs.Count.{Rose}
 use Rattle.ac_base.specs.Sink.{grown}
 use Rattle.ac_core.specs.Words.{command_of, plain_show}
-use Rattle.ac_core.specs.Answer.{source_limit, IsFileAnswer, IsAnswerTo, IsAnswer, EndsWith}
+use Rattle.ac_core.specs.Answer.{source_limit, IsTree, IsTokensAnswer, OfTokens, IsTextAnswer, Reads, IsFileAnswer, IsAnswerTo, IsAnswer, EndsWith}
 use Rattle.ac_core.specs.declared.status.Status.{Status}
 use Rattle.ac_core.specs.declared.status.Status.TheVariants.{Done, No, Words, Source, Text, ReadFault, WriteFault, Limit, Memory, NotYet}
 
@@ -17,9 +24,9 @@ module _ (words : List Name) (contents : Name → Option (List ℕ)) (before aft
   nothing_to (Some file) Source lines h = (λ e. cc, λ e. cc)
   nothing_to (Some file) Text lines h = (λ e. cc, λ e. cc)
   nothing_to (Some file) ReadFault lines h = (λ e. cc, λ e. cc)
-  nothing_to (Some file) WriteFault lines h = absurd h.answer
+  nothing_to (Some file) WriteFault lines h = absurd h.answer.answer.answer
   nothing_to (Some file) Limit lines h = (λ e. cc, λ e. cc)
-  nothing_to (Some file) Memory lines h = absurd h.answer
+  nothing_to (Some file) Memory lines h = absurd h.answer.answer.answer
   nothing_to (Some file) NotYet lines h = (λ e. cc, λ e. cc)
   nothing_to None Done lines h = absurd h
   nothing_to None No lines h = absurd h
@@ -45,24 +52,51 @@ module _ (words : List Name) (contents : Name → Option (List ℕ)) (before aft
   written Memory lines h e = absurd ((nothing_to _ Memory lines h).1 refl)
   written NotYet lines h e = record { lines = lines; answer = h; whole = e }
 
-  module _ (file text : List ℕ) (unit : Function) (shows : plain_show (command_of words) ≡ Some file) (is_text : contents file ≡ Some text)
-      (within : length text ≤ source_limit) (is_unit : IsFirstForm text unit) (readable : Rose (before file) (after file) → ⊥) where
+  module _ (file text : List ℕ) (ts : List Lexeme) (tree : List External) (function : SumFunction) (shows : plain_show (command_of words) ≡ Some file)
+      (is_text : contents file ≡ Some text) (within : length text ≤ source_limit) (are_tokens : Tokens text ts) (is_tree : IsTree ts tree)
+      (of_class : class_of tree ≡ Some function) (readable : Rose (before file) (after file) → ⊥) where
     of_file : (status : Status) (lines : List ℕ) → IsAnswer words contents before after status lines → IsFileAnswer file (Some text) (before file) (after file) status lines
     of_file status lines h =
         subst (λ c. IsFileAnswer file c (before file) (after file) status lines) is_text
         (subst (λ (s : Option Name). IsAnswerTo s words contents before after status lines) shows h)
 
+    -- the text has no other tokens, and these have no other tree
+    of_tokens : (status : Status) (lines : List ℕ) → OfTokens text status lines → IsTokensAnswer ts status lines
+    of_tokens status lines h = subst (λ us. IsTokensAnswer us status lines) (one_list text h.tokens ts h.are_tokens are_tokens) h.answer
+
+    not_refused : (lines : List ℕ) → IsTextAnswer text Source lines → ⊥
+    not_refused lines (inl h) = tokens_or_fault text ts h.cause h.at are_tokens h.fault
+    not_refused lines (inr h) = (of_tokens Source lines h).no_tree tree is_tree.spells
+
+    not_past : (lines : List ℕ) → OfTokens text Limit lines → ⊥
+    not_past lines h =
+        let past = of_tokens Limit lines h in
+        let e = one_tree past.passes.tree tree ts past.passes.spells is_tree.spells in
+        let first = subst (λ t. first_limit t ≡ Some (past.limit, past.at)) e past.passes.first in
+        absurd cc
+
+    not_unshown : (lines : List ℕ) → OfTokens text NotYet lines → ⊥
+    not_unshown lines h =
+        let other = of_tokens NotYet lines h in
+        let e = one_tree other.tree tree ts other.is_tree.spells is_tree.spells in
+        let none = subst (λ t. class_of t ≡ None) e other.answer.of_no_class in
+        absurd cc
+
+    read : (status : Status) (lines : List ℕ) → (h : Reads (Some text) status lines) → IsTextAnswer text status lines
+    read status lines h = subst (λ t. IsTextAnswer t status lines) h.is_text h.answer
+
     is_done : (status : Status) (lines : List ℕ) → IsFileAnswer file (Some text) (before file) (after file) status lines → status ≡ Done
     is_done Done lines h = refl
-    is_done No lines h = absurd h.answer
-    is_done Words lines h = absurd h.answer
-    is_done Source lines h = absurd h.answer
-    is_done Text lines h = absurd h.answer
+    is_done No lines h = absurd h.answer.answer.answer
+    is_done Words lines h = absurd h.answer.answer.answer
+    is_done Source lines h = absurd (not_refused lines (read Source lines h))
+    is_done Text lines h = absurd h.answer.answer.answer
     is_done ReadFault lines h = absurd (readable h.0)
-    is_done WriteFault lines h = absurd h.answer
-    is_done Limit lines h = absurd (omega (arith, h.0, within))
-    is_done Memory lines h = absurd h.answer
-    is_done NotYet lines h = absurd (h.answer.no_unit unit (subst (λ t. IsFirstForm t unit) (sym h.is_text) is_unit))
+    is_done WriteFault lines h = absurd h.answer.answer.answer
+    is_done Limit lines (inl h) = absurd (omega (arith, h.0, within))
+    is_done Limit lines (inr h) = absurd (not_past lines (read Limit lines h))
+    is_done Memory lines h = absurd h.answer.answer.answer
+    is_done NotYet lines h = absurd (not_unshown lines (read NotYet lines h))
 
     -- where the sink doesn't fail either, the text is shown, or memory was short
     pub shown : (Rose sink_before sink_after → ⊥) → (status : Status) → EndsWith words contents before after taken taken' sink_before sink_after status → (status ≡ Done) ⊎ (status ≡ Memory)

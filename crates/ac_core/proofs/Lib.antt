@@ -2,7 +2,6 @@ pub mod Spaced
 pub mod Unsigned
 pub mod OneReturn
 pub mod ExactSum
-pub mod FirstForm
 pub mod ClassIsSum
 pub mod ParameterNames
 pub mod DistinctNames

@@ -1,20 +1,28 @@
 -- What the program answers: the status that it ends with, and the lines that it writes where the sink doesn't fail, each
 -- with its cause. The order of work decides: the words, the file read whole, and then its text.
-use Rattle.std.specs.Prelude.{◌≡◌, ℕ, ◌≤◌, List, [], ◌∷◌, ◌++◌, length, Option, Some, None, is_some, true, codes}
+use Rattle.std.specs.Prelude.{◌≡◌, ℕ, ◌≤◌, List, [], ◌∷◌, ◌++◌, length, Option, Some, None, is_some, true, codes, ◌⊎◌}
 use Rattle.c_values.specs.Name.{Name}
-use Rattle.c_parse.specs.FirstForm.{Function, IsFirstForm}
+use Rattle.c_lex.specs.Lexeme.{Lexeme}
+use Rattle.c_lex.specs.Front.{Cause}
+use Rattle.c_lex.specs.Tokens.{Tokens, FaultAt}
+use Rattle.c_grammar.specs.Tree.{External}
+use Rattle.c_grammar.specs.Spells.{Spells}
+use Rattle.c_parse.specs.Limits.{first_limit}
+use Rattle.c_parse.specs.Answer.{HasNoTree, Passes}
+use Rattle.c_parse.specs.declared.limits.Limit as limits
 use Rattle.monad_lang.specs.Program.{FinalUnit, FinalFn}
 use Rattle.monad_lang.specs.Form.{is_numbers}
 use Rattle.ac_base.specs.Count.{Rose}
 use Rattle.ac_base.specs.Shelf.{AreWhole, IsLonger}
 use Rattle.ac_base.specs.Sink.{grown, TakesPart}
 use Rattle.ac_core.specs.Words.{command_of, plain_show}
-use Rattle.ac_core.specs.Sum.{typed_unit_of, levels}
-use Rattle.ac_core.specs.FirstForm.{sum_function_of}
+use Rattle.ac_core.specs.Sum.{SumFunction, typed_unit_of, levels}
+use Rattle.ac_core.specs.Class.{class_of}
+use Rattle.ac_core.specs.Refusal.{cause_text, source_line, limit_line}
 use Rattle.ac_core.specs.Exact.{AreProgramsOf, IsExact}
 use Rattle.ac_core.specs.ProgramText.{unit_text}
 use Rattle.ac_core.specs.declared.status.Status.{Status}
-use Rattle.ac_core.specs.declared.status.Status.TheVariants.{Done, Words, ReadFault, WriteFault, Limit, Memory, NotYet}
+use Rattle.ac_core.specs.declared.status.Status.TheVariants.{Done, Words, Source, ReadFault, WriteFault, Limit, Memory, NotYet}
 
 -- bytes of C text that are read
 abbrev pub source_limit : ℕ
@@ -25,27 +33,75 @@ abbrev pub AreInNumbers : List FinalFn → Type 0
 AreInNumbers [] = Unit {0}
 AreInNumbers (f ∷ fs) = (is_numbers f.body ≡ true) × AreInNumbers fs
 
--- The text is of the first form, and what is written is the text of the program of its C function: at the level of numbers,
--- in numbers form, and exact.
-pub record ShowsExact (text lines : List ℕ) : Type 0 where
-  pub unit : Function
+-- this tree spells the tokens, and passes no limit
+pub record IsTree (ts : List Lexeme) (tree : List External) : Type 0 where
+  pub spells : Spells tree ts
+  pub within : first_limit tree ≡ None
+
+-- The tree is of the class that is shown, and what is written is the text of the program of its C function: at the level of
+-- numbers, in numbers form, and exact.
+pub record ShowsExact (tree : List External) (lines : List ℕ) : Type 0 where
+  pub function : SumFunction
   pub programs : FinalUnit
-  pub is_unit : IsFirstForm text unit
-  pub of_unit : AreProgramsOf (typed_unit_of (sum_function_of unit)) levels programs
-  pub exact : IsExact (typed_unit_of (sum_function_of unit)) levels programs
+  pub of_class : class_of tree ≡ Some function
+  pub of_unit : AreProgramsOf (typed_unit_of function) levels programs
+  pub exact : IsExact (typed_unit_of function) levels programs
   pub numbers : AreInNumbers programs.functions
   pub written : lines ≡ unit_text programs
 
--- the text is of no form that is shown so far
-pub record ShowsNothing (text lines : List ℕ) : Type 0 where
-  pub no_unit : (unit : Function) → IsFirstForm text unit → ⊥
+-- the tree is of no class that is shown so far
+pub record ShowsNothing (tree : List External) (lines : List ℕ) : Type 0 where
+  pub of_no_class : class_of tree ≡ None
   pub written : lines ≡ codes "not yet\n"
+
+-- the answer to a tree
+abbrev pub IsTreeAnswer : List External → Status → List ℕ → Type 0
+IsTreeAnswer tree Done lines = ShowsExact tree lines
+IsTreeAnswer tree NotYet lines = ShowsNothing tree lines
+IsTreeAnswer tree _ lines = ⊥
+
+-- a tree spells the tokens and passes no limit, and this is the answer to it
+pub record OfTree (ts : List Lexeme) (status : Status) (lines : List ℕ) : Type 0 where
+  pub tree : List External
+  pub is_tree : IsTree ts tree
+  pub answer : IsTreeAnswer tree status lines
+
+-- no tree spells the tokens; which place is told isn't said here
+pub record IsNoTree (ts : List Lexeme) (lines : List ℕ) : Type 0 where
+  pub no_tree : HasNoTree ts
+  pub at : ℕ
+  pub written : lines ≡ source_line (codes "syntax") at
+
+-- the tokens' tree passes this limit first
+pub record IsPast (ts : List Lexeme) (lines : List ℕ) : Type 0 where
+  pub limit : limits.Limit
+  pub at : ℕ
+  pub passes : Passes ts limit at
+  pub written : lines ≡ limit_line limit
+
+-- the answer to the tokens of a text
+abbrev pub IsTokensAnswer : List Lexeme → Status → List ℕ → Type 0
+IsTokensAnswer ts Source lines = IsNoTree ts lines
+IsTokensAnswer ts Limit lines = IsPast ts lines
+IsTokensAnswer ts status lines = OfTree ts status lines
+
+-- the text has these tokens, and this is the answer to them
+pub record OfTokens (text : List ℕ) (status : Status) (lines : List ℕ) : Type 0 where
+  pub tokens : List Lexeme
+  pub are_tokens : Tokens text tokens
+  pub answer : IsTokensAnswer tokens status lines
+
+-- the text has no tokens: here none stands, first of all, for this cause
+pub record HasNoTokens (text lines : List ℕ) : Type 0 where
+  pub cause : Cause
+  pub at : ℕ
+  pub fault : FaultAt text cause at
+  pub written : lines ≡ source_line (cause_text cause) at
 
 -- the answer to a text
 abbrev pub IsTextAnswer : List ℕ → Status → List ℕ → Type 0
-IsTextAnswer text Done lines = ShowsExact text lines
-IsTextAnswer text NotYet lines = ShowsNothing text lines
-IsTextAnswer text _ lines = ⊥
+IsTextAnswer text Source lines = HasNoTokens text lines ⊎ OfTokens text Source lines
+IsTextAnswer text status lines = OfTokens text status lines
 
 -- the text was read whole, and this is the answer to it; what a shelf doesn't tell may be any text
 pub record Reads (contents : Option (List ℕ)) (status : Status) (lines : List ℕ) : Type 0 where
@@ -58,7 +114,7 @@ pub record Reads (contents : Option (List ℕ)) (status : Status) (lines : List 
 -- than C text may be.
 abbrev pub IsFileAnswer : Name → Option (List ℕ) → ℕ → ℕ → Status → List ℕ → Type 0
 IsFileAnswer file contents before after ReadFault lines = Rose before after × (lines ≡ codes "read fault: " ++ (file ++ codes "\n"))
-IsFileAnswer file contents before after Limit lines = IsLonger contents source_limit × (lines ≡ codes "limit: source\n")
+IsFileAnswer file contents before after Limit lines = (IsLonger contents source_limit × (lines ≡ codes "limit: source\n")) ⊎ Reads contents Limit lines
 IsFileAnswer file contents before after status lines = Reads contents status lines
 
 -- the answer to words that don't ask for what is built: of a form, or of none

@@ -5,7 +5,7 @@ pub mod Words
 pub mod Code
 pub mod Sum
 pub mod SumCode
-pub mod FirstForm
+pub mod Refusal
 pub mod Class
 pub mod Answer
 pub mod Status

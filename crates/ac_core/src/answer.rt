@@ -2,15 +2,24 @@
 
 ghost use Rattle.std.specs.Prelude.{◌≡◌, ◌≤◌, ℕ, List, map, length, IfOk, None, Some, codes, string_bytes, ◌++◌};
 ghost use Rattle.ac_core.specs.Words.{command_of, plain_show};
-ghost use Rattle.ac_core.specs.Answer.{IsAnswer, IsUnshown, IsFileAnswer, IsTextAnswer};
+ghost use Rattle.c_lex.specs.Lexeme.{lexemes_of};
+ghost use Rattle.c_grammar.specs.View.{unit_of};
+ghost use Rattle.ac_core.specs.Sum.{final_unit_of};
+ghost use Rattle.ac_core.specs.SumCode.{function_of};
+ghost use Rattle.ac_core.specs.ProgramText.{unit_text};
+ghost use Rattle.ac_core.specs.Answer.{IsAnswer, IsUnshown, IsFileAnswer, IsTextAnswer, IsTokensAnswer, IsTreeAnswer};
 ghost use Rattle.ac_core.specs.declared.status.Status.{Status};
 
 use crate::Status;
-use crate::first_path::translate_first_form;
+use crate::class::class_of;
 use crate::program_text::write_program;
+use crate::refusal::{lex_refusal, past, syntax};
+use crate::sum::{SumFunction, translate};
 use crate::words::{is_form, shown_file};
 use ac_base::{ReadTrouble, Shelf, read_whole};
-use c_parse::first_form;
+use c_grammar::tree::Unit;
+use c_lex::{Token, tokens};
+use c_parse::{ParseFault, parse};
 use std::alloc::{AllocError, Global};
 
 /// A status with the lines of the answer.
@@ -70,16 +79,43 @@ fn show<H: Shelf>(alloc: Global, file: &str, shelf: &mut H) -> Result<Answer, Al
 fn show_text(alloc: Global, text: &[u8]) -> Result<Answer, AllocError>
     ensures { IfOk result (λ a. IsTextAnswer text.now a.status a.lines.items) }
 {
-    match first_form(alloc, text)? {
-        None => line(alloc, Status::NotYet, "not yet\n"),
-        Some(unit) => {
-            let programs = translate_first_form(alloc, unit)?;
-            Ok(Answer {
-                status: Status::Done,
-                lines: write_program(alloc, &programs)?,
-            })
-        }
+    match tokens(alloc, text) {
+        Ok(tokens) => show_tokens(alloc, &tokens),
+        Err(fault) => lex_refusal(alloc, fault),
     }
+}
+
+// What is shown of the tokens of a text.
+fn show_tokens(alloc: Global, tokens: &[Token]) -> Result<Answer, AllocError>
+    ensures { IfOk result (λ a. IsTokensAnswer (lexemes_of tokens.now) a.status a.lines.items) }
+{
+    match parse(alloc, tokens) {
+        Ok(unit) => show_unit(alloc, &unit),
+        Err(ParseFault::Syntax(at)) => syntax(alloc, at),
+        Err(ParseFault::Limit(limit, _at)) => past(alloc, limit),
+        Err(ParseFault::Memory) => Err(AllocError),
+    }
+}
+
+// What is shown of a tree.
+fn show_unit(alloc: Global, unit: &Unit) -> Result<Answer, AllocError>
+    ensures { IfOk result (λ a. IsTreeAnswer (unit_of unit.now) a.status a.lines.items) }
+{
+    match class_of(alloc, unit)? {
+        Some(function) => show_function(alloc, &function),
+        None => line(alloc, Status::NotYet, "not yet\n"),
+    }
+}
+
+// The program of a function of the class.
+fn show_function(alloc: Global, function: &SumFunction) -> Result<Answer, AllocError>
+    ensures { IfOk result (λ a. (a.status ≡ Status.Done) × (a.lines.items ≡ unit_text (final_unit_of (function_of function.now)))) }
+{
+    let programs = translate(alloc, function)?;
+    Ok(Answer {
+        status: Status::Done,
+        lines: write_program(alloc, &programs)?,
+    })
 }
 
 fn read_fault(alloc: Global, file: &str) -> Result<Answer, AllocError>
@@ -94,7 +130,7 @@ fn read_fault(alloc: Global, file: &str) -> Result<Answer, AllocError>
     })
 }
 
-fn line(alloc: Global, status: Status, text: &str) -> Result<Answer, AllocError>
+pub(crate) fn line(alloc: Global, status: Status, text: &str) -> Result<Answer, AllocError>
     ensures { IfOk result (λ a. (a.status ≡ status) × (a.lines.items ≡ text.now)) }
 {
     Ok(Answer {

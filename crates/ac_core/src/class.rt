@@ -1,5 +1,5 @@
-//! Which texts are to be shown, by their trees: those of one function that returns a sum of its unsigned parameters and of
-//! constants. The answer to a text asks for its first form so far, and for this once the parser gives trees.
+//! Which texts are shown, by their trees: those of one function that returns a sum of its unsigned parameters and of
+//! constants.
 
 ghost use Rattle.std.specs.Prelude.{◌≡◌, map, IfOk, Some, None, option_map, string_bytes, if◌then◌else◌};
 ghost use Rattle.c_grammar.specs.View.{exp_of, words_of, declarator_of, items_of, param_of, unit_of};
@@ -10,11 +10,11 @@ ghost use Rattle.ac_core.specs.SumCode.{sum_of, function_of};
 
 use crate::sum::{Sum, SumFunction};
 use crate::words::is_among;
-use c_lex::Keyword;
 use c_grammar::BinaryOperator;
 use c_grammar::tree::{
     Bracket, CExp, Decl, Declarator, Dimensions, Items, Param, Rhs, Stmt, Unit, Word, Words,
 };
+use c_lex::Keyword;
 use std::alloc::{AllocError, Global};
 use std::collections::HashSet;
 
@@ -178,6 +178,3 @@ fn constant(value: u64, decimal: bool, unsigned: bool, longs: u8) -> Option<u32>
         None
     }
 }
-
-#[cfg(test)]
-mod tests;

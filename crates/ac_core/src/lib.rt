@@ -3,8 +3,8 @@
 
 mod answer;
 mod class;
-mod first_path;
 mod program_text;
+mod refusal;
 mod status;
 mod sum;
 mod top;

@@ -112,6 +112,3 @@ fn expression(alloc: Global, sum: &Sum) -> Result<Exp, AllocError>
         )),
     }
 }
-
-#[cfg(test)]
-mod tests;

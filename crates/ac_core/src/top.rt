@@ -2,9 +2,13 @@
 
 ghost use Rattle.std.specs.Prelude.{◌≡◌, ◌≤◌, ◌⊎◌, ℕ, List, map, length, Some, None, string_bytes};
 ghost use Rattle.ac_base.specs.Count.{Rose};
-ghost use Rattle.c_parse.specs.FirstForm.{Function, IsFirstForm};
+ghost use Rattle.c_lex.specs.Lexeme.{Lexeme};
+ghost use Rattle.c_lex.specs.Tokens.{Tokens};
+ghost use Rattle.c_grammar.specs.Tree.{External};
 ghost use Rattle.ac_core.specs.Words.{command_of, plain_show};
-ghost use Rattle.ac_core.specs.Answer.{EndsWith, source_limit};
+ghost use Rattle.ac_core.specs.Sum.{SumFunction};
+ghost use Rattle.ac_core.specs.Class.{class_of};
+ghost use Rattle.ac_core.specs.Answer.{EndsWith, IsTree, source_limit};
 
 use crate::Status;
 use crate::answer::answer_to;
@@ -27,8 +31,10 @@ pub fn autocorres<H: Shelf, K: Sink>(
         (K.taken sink.old) (K.taken sink.new) (K.faults sink.old) (K.faults sink.new) result }
 
     // A text that can be shown is shown, where neither its file nor the sink fails, unless memory runs out.
-    ensures complete { (file text : List ℕ) (unit : Function) → plain_show (command_of (map string_bytes words.now)) ≡ Some file →
-        H.contents shelf.old file ≡ Some text → length text ≤ source_limit → IsFirstForm text unit →
+    ensures complete { (file text : List ℕ) (ts : List Lexeme) (tree : List External) (function : SumFunction) →
+        plain_show (command_of (map string_bytes words.now)) ≡ Some file →
+        H.contents shelf.old file ≡ Some text → length text ≤ source_limit →
+        Tokens text ts → IsTree ts tree → class_of tree ≡ Some function →
         ¬ Rose (H.faults shelf.old file) (H.faults shelf.new file) → ¬ Rose (K.faults sink.old) (K.faults sink.new) →
         (result ≡ Status.Done) ⊎ (result ≡ Status.Memory) }
 

@@ -1,10 +1,11 @@
-//! The parser of the C subset.
+//! The parser of the C subset: the tree that spells a list of tokens, within the limits of a tree.
 #![tactic(auto)]
 
-mod first;
-mod lexeme;
-mod name;
-mod operand;
+pub mod fault;
+mod limits;
+mod parser;
 
-pub use first::{FirstUnit, first_form};
-pub use operand::Operand;
+pub use c_grammar::operator::{BinaryOperator, StepOperator, UnaryOperator};
+pub use fault::ParseFault;
+pub use limits::Limit;
+pub use parser::parse;

@@ -1,0 +1,29 @@
+-- The lines that refuse a C text.
+use Rattle.std.specs.Prelude.{ℕ, List, ◌++◌, codes}
+use Rattle.std.specs.Fmt.{decimal}
+use Rattle.c_lex.specs.Front.{Cause, bad_byte, bad_number, open_comment, unsupported, long_name}
+use Rattle.c_lex.specs.Unsupported.{unsupported_text}
+use Rattle.c_parse.specs.declared.limits.Limit.{Limit}
+use Rattle.c_parse.specs.declared.limits.Limit.TheVariants.{Functions, Statements, Blocks, Depth, Nodes}
+
+-- why no token stands at a place
+abbrev pub cause_text : Cause → List ℕ
+cause_text bad_byte = codes "bad byte"
+cause_text bad_number = codes "bad number"
+cause_text open_comment = codes "open comment"
+cause_text (unsupported word) = codes "unsupported " ++ unsupported_text word
+cause_text long_name = codes "long name"
+
+-- a kind of refusal, and the offset of its place
+abbrev pub source_line : List ℕ → ℕ → List ℕ
+source_line kind at = codes "source: " ++ (kind ++ (codes " at " ++ (decimal at ++ codes "\n")))
+
+abbrev pub limit_text : Limit → List ℕ
+limit_text Functions = codes "functions"
+limit_text Statements = codes "statements"
+limit_text Blocks = codes "blocks"
+limit_text Depth = codes "depth"
+limit_text Nodes = codes "nodes"
+
+abbrev pub limit_line : Limit → List ℕ
+limit_line limit = codes "limit: " ++ (limit_text limit ++ codes "\n")

@@ -1,0 +1,97 @@
+//! The lines that refuse a C text.
+
+ghost use Rattle.std.specs.Prelude.{◌≡◌, ◌++◌, OnOk, IfOk, IsOk, codes};
+ghost use Rattle.std.specs.Fmt.{decimal};
+ghost use Rattle.c_lex.specs.Answer.{Tells};
+ghost use Rattle.c_lex.specs.Unsupported.{unsupported_text};
+ghost use Rattle.ac_core.specs.Refusal.{cause_text, limit_line, limit_text, source_line};
+ghost use Rattle.ac_core.specs.declared.status.Status.{Status};
+
+use crate::Status;
+use crate::answer::Answer;
+use c_lex::{LexFault, Unsupported};
+use c_parse::Limit;
+use itoa::Buffer;
+use std::alloc::{AllocError, Global};
+
+/// The answer to a text that has no tokens, for the fault that the lexer tells.
+pub(crate) fn lex_refusal(alloc: Global, fault: LexFault) -> Result<Answer, AllocError>
+    ensures told { IfOk result (λ a. (a.status ≡ Status.Source) × Tells fault (λ cause at. a.lines.items ≡ source_line (cause_text cause) at)) }
+    ensures memory { fault ≡ LexFault.Memory → IfOk result (λ _. ⊥) }
+{
+    match fault {
+        LexFault::BadByte(at) => source(alloc, "bad byte", at),
+        LexFault::BadNumber(at) => source(alloc, "bad number", at),
+        LexFault::OpenComment(at) => source(alloc, "open comment", at),
+        LexFault::Unsupported(word, at) => unsupported(alloc, word, at),
+        LexFault::LongName(at) => source(alloc, "long name", at),
+        LexFault::Memory => Err(AllocError),
+    }
+}
+
+/// The answer to tokens that no tree spells.
+pub(crate) fn syntax(alloc: Global, at: usize) -> Result<Answer, AllocError>
+    ensures { IfOk result (λ a. (a.status ≡ Status.Source) × (a.lines.items ≡ source_line (codes "syntax") at)) }
+{
+    source(alloc, "syntax", at)
+}
+
+/// The answer to a text that passes a limit.
+pub(crate) fn past(alloc: Global, limit: Limit) -> Result<Answer, AllocError>
+    ensures { IfOk result (λ a. (a.status ≡ Status.Limit) × (a.lines.items ≡ limit_line limit)) }
+{
+    let mut lines = Vec::from_slice(alloc, b"limit: ")?;
+    push(&mut lines, limit_name(limit))?;
+    push(&mut lines, "\n")?;
+    Ok(Answer {
+        status: Status::Limit,
+        lines,
+    })
+}
+
+fn limit_name(limit: Limit) -> &'static str
+    ensures { result.now ≡ limit_text limit }
+{
+    match limit {
+        Limit::Functions => "functions",
+        Limit::Statements => "statements",
+        Limit::Blocks => "blocks",
+        Limit::Depth => "depth",
+        Limit::Nodes => "nodes",
+    }
+}
+
+fn unsupported(alloc: Global, word: Unsupported, at: usize) -> Result<Answer, AllocError>
+    ensures { IfOk result (λ a. (a.status ≡ Status.Source) × (a.lines.items ≡ source_line (codes "unsupported " ++ unsupported_text word) at)) }
+{
+    let mut lines = Vec::from_slice(alloc, b"source: unsupported ")?;
+    push(&mut lines, word.text())?;
+    at_offset(lines, at)
+}
+
+fn source(alloc: Global, kind: &str, at: usize) -> Result<Answer, AllocError>
+    ensures { IfOk result (λ a. (a.status ≡ Status.Source) × (a.lines.items ≡ source_line kind.now at)) }
+{
+    let mut lines = Vec::from_slice(alloc, b"source: ")?;
+    push(&mut lines, kind)?;
+    at_offset(lines, at)
+}
+
+// The end of the line, which tells the place.
+fn at_offset(mut lines: Vec<u8>, at: usize) -> Result<Answer, AllocError>
+    ensures { IfOk result (λ a. (a.status ≡ Status.Source) × (a.lines.items ≡ lines.items ++ (codes " at " ++ (decimal at ++ codes "\n")))) }
+{
+    push(&mut lines, " at ")?;
+    push(&mut lines, Buffer::new().format(at))?;
+    push(&mut lines, "\n")?;
+    Ok(Answer {
+        status: Status::Source,
+        lines,
+    })
+}
+
+fn push(lines: &mut Vec<u8>, text: &str) -> Result<(), AllocError>
+    ensures { OnOk result (lines.new.items ≡ lines.old.items ++ text.now) }
+{
+    lines.extend_from_slice(text.as_bytes())
+}

@@ -1,0 +1,4 @@
+void next(unsigned char *p)
+{
+    *p++;
+}
