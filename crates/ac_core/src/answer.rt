@@ -4,9 +4,6 @@ ghost use Rattle.std.specs.Prelude.{◌≡◌, ◌≤◌, ℕ, List, map, length
 ghost use Rattle.ac_core.specs.Words.{command_of, plain_show};
 ghost use Rattle.c_lex.specs.Lexeme.{lexemes_of};
 ghost use Rattle.c_grammar.specs.View.{unit_of};
-ghost use Rattle.ac_core.specs.Sum.{final_unit_of};
-ghost use Rattle.ac_core.specs.SumCode.{function_of};
-ghost use Rattle.ac_core.specs.ProgramText.{unit_text};
 ghost use Rattle.ac_core.specs.Answer.{IsAnswer, IsUnshown, IsFileAnswer, IsTextAnswer, IsTokensAnswer, IsTreeAnswer};
 ghost use Rattle.ac_core.specs.declared.status.Status.{Status};
 
@@ -14,7 +11,7 @@ use crate::Status;
 use crate::class::class_of;
 use crate::program_text::write_program;
 use crate::refusal::{lex_refusal, past, syntax};
-use crate::sum::{SumFunction, translate};
+use crate::sum::translate;
 use crate::words::{is_form, shown_file};
 use ac_base::{ReadTrouble, Shelf, read_whole};
 use c_grammar::tree::Unit;
@@ -102,20 +99,15 @@ fn show_unit(alloc: Global, unit: &Unit) -> Result<Answer, AllocError>
     ensures { IfOk result (λ a. IsTreeAnswer (unit_of unit.now) a.status a.lines.items) }
 {
     match class_of(alloc, unit)? {
-        Some(function) => show_function(alloc, &function),
         None => line(alloc, Status::NotYet, "not yet\n"),
+        Some(function) => {
+            let programs = translate(alloc, &function)?;
+            Ok(Answer {
+                status: Status::Done,
+                lines: write_program(alloc, &programs)?,
+            })
+        }
     }
-}
-
-// The program of a function of the class.
-fn show_function(alloc: Global, function: &SumFunction) -> Result<Answer, AllocError>
-    ensures { IfOk result (λ a. (a.status ≡ Status.Done) × (a.lines.items ≡ unit_text (final_unit_of (function_of function.now)))) }
-{
-    let programs = translate(alloc, function)?;
-    Ok(Answer {
-        status: Status::Done,
-        lines: write_program(alloc, &programs)?,
-    })
 }
 
 fn read_fault(alloc: Global, file: &str) -> Result<Answer, AllocError>
