@@ -6,6 +6,8 @@ pub mod Build
 pub mod Script
 pub mod Stack
 pub mod Accepts
+pub mod Written
+pub mod Faults
 pub mod Follows
 pub mod Names
 pub mod Examples
