@@ -64,7 +64,7 @@ pub has_tree : (s : List Lexeme) → accepts (Some first_stage) s ≡ true → (
 has_tree s h = unit_of (accepted s first_stage h).all
 
 -- what is read is accepted
-abbrev bare : State → Stage
+abbrev pub bare : State → Stage
 bare st = record { stack = st.stack; made = st.made; next = st.next }
 
 finished : (stack : List Symbol) (o : Option (List Value)) (vs : List Value) → finish stack o ≡ Some vs → is_complete stack ≡ true
@@ -106,3 +106,7 @@ runs (t ∷ ts) vs st h = advanced_run st.made st.next t st.stack (Some st.value
 pub is_accepted : (exts : List External) (s : List Lexeme) → Spells exts s → accepts (Some first_stage) s ≡ true
 unfolding read go
 is_accepted exts s d = runs s (OfUnit exts ∷ []) (record { stack = symbol.Externals ∷ []; made = []; next = []; values = [] }) (is_read exts s d)
+
+-- what is refused has no tree
+pub has_no_tree : (s : List Lexeme) → accepts (Some first_stage) s ≡ false → (exts : List External) → Spells exts s → ⊥
+has_no_tree s h exts d = let k = is_accepted exts s d in absurd cc

@@ -9,5 +9,7 @@ mod SoundStatements
 mod SoundExternals
 mod Sound
 pub mod Accepted
+mod Ended
+pub mod Replayed
 pub mod Kept
 pub mod Samples

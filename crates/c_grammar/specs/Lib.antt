@@ -3,8 +3,11 @@ pub mod Operators
 pub mod Spells
 pub mod Choice
 pub mod Build
+pub mod Script
 pub mod Stack
 pub mod Accepts
+pub mod Written
+pub mod Faults
 pub mod Follows
 pub mod Names
 pub mod Examples

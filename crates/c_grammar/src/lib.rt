@@ -1,4 +1,4 @@
-//! The grammar of the C subset: its trees, which tree spells which tokens, and a recogniser.
+//! The grammar of the C subset: its trees, which tree spells which tokens, and the script of a text.
 #![tactic(auto)]
 
 ghost use Rattle.std.specs.Prelude.{◌≡◌, List};
@@ -8,14 +8,18 @@ ghost use Rattle.c_grammar.specs.Spells.{Spells};
 ghost use Rattle.c_grammar.specs.Examples.{cast, dangling_else, difference, inner_else, left_sum, levels, with_typedef, without_typedef};
 
 mod choose;
+mod ends;
+mod fault;
 mod names;
 pub mod operator;
 mod recogniser;
+pub mod script;
 mod symbol;
 pub mod tree;
 
+pub use fault::ScriptFault;
 pub use operator::{BinaryOperator, StepOperator, UnaryOperator};
-pub use recogniser::recognise;
+pub use symbol::Production;
 
 /// A law of the grammar: no list of tokens has two trees.
 #[tactic(auto, using(crate::proofs::Texts::one_tree))]

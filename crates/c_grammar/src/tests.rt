@@ -1,5 +1,6 @@
 //! Which texts some tree spells, by example.
-use crate::{one_tree, recognise};
+use crate::script::script;
+use crate::{ScriptFault, one_tree};
 use c_lex::tokens;
 use std::alloc::Global;
 use std::test::Fail;
@@ -7,7 +8,11 @@ use std::test::Fail;
 /// Whether some tree spells the tokens of a text.
 fn is_spelled(alloc: Global, text: &[u8]) -> Result<bool, Fail> {
     let all = tokens(alloc, text)?;
-    Ok(recognise(alloc, &all)?)
+    match script(alloc, &all) {
+        Ok(_) => Ok(true),
+        Err(ScriptFault::Syntax(_)) => Ok(false),
+        Err(fault) => Err(fault.into()),
+    }
 }
 
 /// Texts, and whether some tree spells them.

@@ -1,5 +1,7 @@
 //! The trees of the C subset: a variant for each production. A node keeps the offset of its first token as its first
 //! field, unless that token is its first part's.
+//!
+//! Lists of parts are as long as a text makes them, so their drops are loops: a derived one would call itself for each part.
 use crate::operator::{BinaryOperator, StepOperator, UnaryOperator};
 use c_lex::Keyword;
 
@@ -37,12 +39,23 @@ pub enum CExp {
 
 /// The words of a type and its storage, in their order.
 #[cycle(exp)]
-#[derive(Drop)]
 pub enum Words {
     /// No more.
     None,
     /// A word, and more.
     More(Box<Word>, Box<Words>),
+}
+
+impl Drop for Words {
+    #[cycle(drop_exp)]
+    fn drop(mut self) {
+        loop {
+            match self {
+                Words::None => return,
+                Words::More(_word, more) => self = Box::into_inner(more),
+            }
+        }
+    }
 }
 
 /// A word of a type, or of its storage.
@@ -65,7 +78,6 @@ pub enum Word {
 
 /// The members of a struct, one at least.
 #[cycle(exp)]
-#[derive(Drop)]
 pub enum Members {
     /// The last one: its words and declarators.
     Last(Box<Words>, Box<Declarators>),
@@ -73,14 +85,37 @@ pub enum Members {
     More(Box<Words>, Box<Declarators>, Box<Members>),
 }
 
+impl Drop for Members {
+    #[cycle(drop_exp)]
+    fn drop(mut self) {
+        loop {
+            match self {
+                Members::Last(_words, _declarators) => return,
+                Members::More(_words, _declarators, more) => self = Box::into_inner(more),
+            }
+        }
+    }
+}
+
 /// The declarators of a member, one at least.
 #[cycle(exp)]
-#[derive(Drop)]
 pub enum Declarators {
     /// The last one.
     Last(Box<Declarator>),
     /// One, and more.
     More(Box<Declarator>, Box<Declarators>),
+}
+
+impl Drop for Declarators {
+    #[cycle(drop_exp)]
+    fn drop(mut self) {
+        loop {
+            match self {
+                Declarators::Last(_declarator) => return,
+                Declarators::More(_declarator, more) => self = Box::into_inner(more),
+            }
+        }
+    }
 }
 
 /// A declarator.
@@ -93,7 +128,6 @@ pub enum Declarator {
 
 /// The array lengths of a declarator.
 #[cycle(exp)]
-#[derive(Drop)]
 pub enum Dimensions {
     /// No more.
     None,
@@ -101,14 +135,37 @@ pub enum Dimensions {
     More(Box<CExp>, Box<Dimensions>),
 }
 
+impl Drop for Dimensions {
+    #[cycle(drop_exp)]
+    fn drop(mut self) {
+        loop {
+            match self {
+                Dimensions::None => return,
+                Dimensions::More(_length, more) => self = Box::into_inner(more),
+            }
+        }
+    }
+}
+
 /// The enumerators of an enum, one at least.
 #[cycle(exp)]
-#[derive(Drop)]
 pub enum Enumerators {
     /// The last one.
     Last(Box<Enumerator>),
     /// One, and more.
     More(Box<Enumerator>, Box<Enumerators>),
+}
+
+impl Drop for Enumerators {
+    #[cycle(drop_exp)]
+    fn drop(mut self) {
+        loop {
+            match self {
+                Enumerators::Last(_enumerator) => return,
+                Enumerators::More(_enumerator, more) => self = Box::into_inner(more),
+            }
+        }
+    }
 }
 
 /// An enumerator.
@@ -226,7 +283,6 @@ pub enum Stmt {
 
 /// Locals and statements.
 #[cycle(stmt)]
-#[derive(Drop)]
 pub enum Items {
     /// No more.
     None,
@@ -236,14 +292,38 @@ pub enum Items {
     Statement(Box<Stmt>, Box<Items>),
 }
 
+impl Drop for Items {
+    #[cycle(drop_stmt)]
+    fn drop(mut self) {
+        loop {
+            match self {
+                Items::None => return,
+                Items::Local(_local, more) => self = Box::into_inner(more),
+                Items::Statement(_statement, more) => self = Box::into_inner(more),
+            }
+        }
+    }
+}
+
 /// The groups of a switch.
 #[cycle(stmt)]
-#[derive(Drop)]
 pub enum Groups {
     /// No more.
     None,
     /// The first label of a group, the others, its first statement, what follows, and more groups.
     More(Label, Vec<Label>, Box<Stmt>, Box<Items>, Box<Groups>),
+}
+
+impl Drop for Groups {
+    #[cycle(drop_stmt)]
+    fn drop(mut self) {
+        loop {
+            match self {
+                Groups::None => return,
+                Groups::More(_label, _labels, _first, _items, more) => self = Box::into_inner(more),
+            }
+        }
+    }
 }
 
 /// The brackets of a parameter.

@@ -1,8 +1,0 @@
-use Rattle.std.proofs.Common.{◌≡◌, drop, map, reverse, Some}
-use Rattle.c_lex.specs.Lexeme.{lexemes_of}
-use Rattle.c_grammar.specs.Names.{made_of, next_of}
-use Rattle.c_grammar.specs.Accepts.{accepts, first_stage}
-use Rattle.c_grammar.proofs.recogniser.accepts.Given as goal
-
-abbrev pub invariant-loop-token : goal.invariant-loop-token
-invariant-loop-token l = accepts (Some (record { stack = reverse l.stack.items; made = made_of (map (λ name. name.now) l.names.all.items) l.names.made; next = next_of (map (λ name. name.now) l.names.all.items) })) (lexemes_of (drop l.token-index l.tokens)) ≡ accepts (Some first_stage) (lexemes_of l.tokens)

@@ -1,0 +1,6 @@
+use Rattle.std.proofs.Common.{◌≡◌, ◌++◌, drop}
+use Rattle.c_grammar.specs.Written.{reduces}
+use Rattle.c_grammar.proofs.recogniser.reduce_all.Given as goal
+
+abbrev pub invariant-loop-production : goal.invariant-loop-production
+invariant-loop-production l = l.steps.items ++ reduces (drop l.production-index l.productions) ≡ l.initial.steps.items ++ reduces l.productions

@@ -1,0 +1,8 @@
+-- What a refusal says.
+use Rattle.c_grammar.specs.declared.fault.ScriptFault.{ScriptFault}
+use Rattle.c_grammar.specs.declared.fault.ScriptFault.TheVariants.{Syntax, Memory}
+
+-- the fact, unless memory ran out
+abbrev pub IfSyntax : ScriptFault → Type 0 → Type 0
+IfSyntax (Syntax at) P = P
+IfSyntax (Memory error) P = Unit {0}
