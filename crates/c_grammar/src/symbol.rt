@@ -259,6 +259,7 @@ pub enum Production {
     OpenBracket,
     SizedBracket,
     MoreExternals,
+    NoExternals,
 }
 
 /// What the parser still expects, the next first.
