@@ -3,3 +3,6 @@ pub mod Name
 pub mod Operand
 pub mod FirstForm
 pub mod FirstUnit
+pub mod Stacks
+pub mod Reduce
+pub mod StacksOf

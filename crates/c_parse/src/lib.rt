@@ -1,6 +1,7 @@
 //! The parser of the C subset.
 #![tactic(auto)]
 
+mod build;
 mod first;
 mod lexeme;
 mod name;
