@@ -260,6 +260,7 @@ pub enum Production {
     SizedBracket,
     NoExternals,
     MoreExternals,
+    NoExternals,
 }
 
 /// What the parser still expects, the next first.

@@ -1,0 +1,264 @@
+//! Statements are built from their parts.
+
+ghost use Rattle.c_parse.specs.StacksOf.{stacks_of, Reduces};
+
+use crate::build::stack::{BuildFault, Stack};
+use crate::build::stacks::Stacks;
+use c_grammar::Production;
+use c_grammar::tree::{Groups, Items, Label, Stmt};
+use std::alloc::Global;
+
+impl Stacks<'_> {
+    /// `;`
+    pub(crate) fn empty_statement(&mut self) -> Result<(), BuildFault>
+        ensures { Reduces Production.Empty (stacks_of self.old) result (stacks_of self.new) }
+    {
+        let at = self.tokens.pop()?.start;
+        self.statements.statements.push(Stmt::Empty(at))
+    }
+
+    /// A block.
+    pub(crate) fn block(&mut self, alloc: Global) -> Result<(), BuildFault>
+        ensures { Reduces Production.Block (stacks_of self.old) result (stacks_of self.new) }
+    {
+        self.tokens.pop()?;
+        let items = self.statements.item_lists.pop()?;
+        let at = self.tokens.pop()?.start;
+        self.statements
+            .statements
+            .push(Stmt::Block(at, Box::new(alloc, items)?))
+    }
+
+    /// `break;`
+    pub(crate) fn break_loop(&mut self) -> Result<(), BuildFault>
+        ensures { Reduces Production.Break (stacks_of self.old) result (stacks_of self.new) }
+    {
+        self.tokens.pop()?;
+        let at = self.tokens.pop()?.start;
+        self.statements.statements.push(Stmt::Break(at))
+    }
+
+    /// `continue;`
+    pub(crate) fn continue_loop(&mut self) -> Result<(), BuildFault>
+        ensures { Reduces Production.Continue (stacks_of self.old) result (stacks_of self.new) }
+    {
+        self.tokens.pop()?;
+        let at = self.tokens.pop()?.start;
+        self.statements.statements.push(Stmt::Continue(at))
+    }
+
+    /// `return;`
+    pub(crate) fn return_nothing(&mut self) -> Result<(), BuildFault>
+        ensures { Reduces Production.Return (stacks_of self.old) result (stacks_of self.new) }
+    {
+        self.tokens.pop()?;
+        let at = self.tokens.pop()?.start;
+        self.statements.statements.push(Stmt::Return(at, None))
+    }
+
+    /// `return r;`
+    pub(crate) fn return_value(&mut self) -> Result<(), BuildFault>
+        ensures { Reduces Production.ReturnValue (stacks_of self.old) result (stacks_of self.new) }
+    {
+        self.tokens.pop()?;
+        let value = self.operands.values.pop()?;
+        let at = self.tokens.pop()?.start;
+        self.statements
+            .statements
+            .push(Stmt::Return(at, Some(value)))
+    }
+
+    /// An `if` without `else`.
+    pub(crate) fn if_alone(&mut self, alloc: Global) -> Result<(), BuildFault>
+        ensures { Reduces Production.If (stacks_of self.old) result (stacks_of self.new) }
+    {
+        let then = self.statements.statements.pop()?;
+        self.tokens.pop()?;
+        let test = self.operands.expressions.pop()?;
+        self.tokens.pop()?;
+        let at = self.tokens.pop()?.start;
+        self.statements
+            .statements
+            .push(Stmt::If(at, test, Box::new(alloc, then)?))
+    }
+
+    /// An `if` with `else`.
+    pub(crate) fn if_else(&mut self, alloc: Global) -> Result<(), BuildFault>
+        ensures { Reduces Production.IfElse (stacks_of self.old) result (stacks_of self.new) }
+    {
+        let otherwise = self.statements.statements.pop()?;
+        self.tokens.pop()?;
+        let then = self.statements.statements.pop()?;
+        self.tokens.pop()?;
+        let test = self.operands.expressions.pop()?;
+        self.tokens.pop()?;
+        let at = self.tokens.pop()?.start;
+        self.statements.statements.push(Stmt::IfElse(
+            at,
+            test,
+            Box::new(alloc, then)?,
+            Box::new(alloc, otherwise)?,
+        ))
+    }
+
+    /// `while (e) s`
+    pub(crate) fn while_loop(&mut self, alloc: Global) -> Result<(), BuildFault>
+        ensures { Reduces Production.While (stacks_of self.old) result (stacks_of self.new) }
+    {
+        let body = self.statements.statements.pop()?;
+        self.tokens.pop()?;
+        let test = self.operands.expressions.pop()?;
+        self.tokens.pop()?;
+        let at = self.tokens.pop()?.start;
+        self.statements
+            .statements
+            .push(Stmt::While(at, test, Box::new(alloc, body)?))
+    }
+
+    /// `do s while (e);`
+    pub(crate) fn do_loop(&mut self, alloc: Global) -> Result<(), BuildFault>
+        ensures { Reduces Production.Do (stacks_of self.old) result (stacks_of self.new) }
+    {
+        self.tokens.pop()?;
+        self.tokens.pop()?;
+        let test = self.operands.expressions.pop()?;
+        self.tokens.pop()?;
+        self.tokens.pop()?;
+        let body = self.statements.statements.pop()?;
+        let at = self.tokens.pop()?.start;
+        self.statements
+            .statements
+            .push(Stmt::Do(at, Box::new(alloc, body)?, test))
+    }
+
+    /// `for (start; test; step) s`
+    pub(crate) fn for_loop(&mut self, alloc: Global) -> Result<(), BuildFault>
+        ensures { Reduces Production.For (stacks_of self.old) result (stacks_of self.new) }
+    {
+        let body = self.statements.statements.pop()?;
+        let step = self.statements.steps.pop()?;
+        let test = self.operands.tests.pop()?;
+        let start = self.statements.starts.pop()?;
+        self.tokens.pop()?;
+        let at = self.tokens.pop()?.start;
+        self.statements
+            .statements
+            .push(Stmt::For(at, start, test, step, Box::new(alloc, body)?))
+    }
+
+    /// A switch.
+    pub(crate) fn switch(&mut self, alloc: Global) -> Result<(), BuildFault>
+        ensures { Reduces Production.Switch (stacks_of self.old) result (stacks_of self.new) }
+    {
+        self.tokens.pop()?;
+        let groups = self.statements.groups.pop()?;
+        self.tokens.pop()?;
+        self.tokens.pop()?;
+        let value = self.operands.expressions.pop()?;
+        self.tokens.pop()?;
+        let at = self.tokens.pop()?.start;
+        self.statements
+            .statements
+            .push(Stmt::Switch(at, value, Box::new(alloc, groups)?))
+    }
+
+    /// A simple statement.
+    pub(crate) fn simple(&mut self) -> Result<(), BuildFault>
+        ensures { Reduces Production.Simple (stacks_of self.old) result (stacks_of self.new) }
+    {
+        self.tokens.pop()?;
+        let simple = self.statements.simples.pop()?;
+        self.statements.statements.push(Stmt::Simple(simple))
+    }
+
+    /// The end of a block.
+    pub(crate) fn no_items(&mut self) -> Result<(), BuildFault>
+        ensures { Reduces Production.NoItems (stacks_of self.old) result (stacks_of self.new) }
+    {
+        self.statements.item_lists.push(Items::None)
+    }
+
+    /// Locals in a block.
+    pub(crate) fn local_item(&mut self, alloc: Global) -> Result<(), BuildFault>
+        ensures { Reduces Production.LocalItem (stacks_of self.old) result (stacks_of self.new) }
+    {
+        let rest = self.statements.item_lists.pop()?;
+        let local = self.statements.locals.pop()?;
+        self.statements
+            .item_lists
+            .push(Items::Local(local, Box::new(alloc, rest)?))
+    }
+
+    /// A statement in a block.
+    pub(crate) fn statement_item(&mut self, alloc: Global) -> Result<(), BuildFault>
+        ensures { Reduces Production.StatementItem (stacks_of self.old) result (stacks_of self.new) }
+    {
+        let rest = self.statements.item_lists.pop()?;
+        let statement = self.statements.statements.pop()?;
+        self.statements.item_lists.push(Items::Statement(
+            Box::new(alloc, statement)?,
+            Box::new(alloc, rest)?,
+        ))
+    }
+
+    /// The end of a switch.
+    pub(crate) fn no_groups(&mut self) -> Result<(), BuildFault>
+        ensures { Reduces Production.NoGroups (stacks_of self.old) result (stacks_of self.new) }
+    {
+        self.statements.groups.push(Groups::None)
+    }
+
+    /// A group of a switch before others.
+    pub(crate) fn more_groups(&mut self, alloc: Global) -> Result<(), BuildFault>
+        ensures { Reduces Production.MoreGroups (stacks_of self.old) result (stacks_of self.new) }
+    {
+        let rest = self.statements.groups.pop()?;
+        let items = self.statements.item_lists.pop()?;
+        let first = self.statements.statements.pop()?;
+        let labels = self.statements.label_lists.pop()?;
+        let label = self.statements.labels.pop()?;
+        self.statements.groups.push(Groups::More(
+            label,
+            labels.into_vec(),
+            Box::new(alloc, first)?,
+            Box::new(alloc, items)?,
+            Box::new(alloc, rest)?,
+        ))
+    }
+
+    /// `case e:`
+    pub(crate) fn case_label(&mut self) -> Result<(), BuildFault>
+        ensures { Reduces Production.Case (stacks_of self.old) result (stacks_of self.new) }
+    {
+        self.tokens.pop()?;
+        let value = self.operands.expressions.pop()?;
+        let at = self.tokens.pop()?.start;
+        self.statements.labels.push(Label::Case(at, value))
+    }
+
+    /// `default:`
+    pub(crate) fn default_label(&mut self) -> Result<(), BuildFault>
+        ensures { Reduces Production.Default (stacks_of self.old) result (stacks_of self.new) }
+    {
+        self.tokens.pop()?;
+        let at = self.tokens.pop()?.start;
+        self.statements.labels.push(Label::Default(at))
+    }
+
+    /// No more labels of a group.
+    pub(crate) fn no_labels(&mut self, alloc: Global) -> Result<(), BuildFault>
+        ensures { Reduces Production.NoLabels (stacks_of self.old) result (stacks_of self.new) }
+    {
+        self.statements.label_lists.push(Stack::new(alloc))
+    }
+
+    /// A further label of a group.
+    pub(crate) fn more_labels(&mut self) -> Result<(), BuildFault>
+        ensures { Reduces Production.MoreLabels (stacks_of self.old) result (stacks_of self.new) }
+    {
+        let mut labels = self.statements.label_lists.pop()?;
+        let label = self.statements.labels.pop()?;
+        labels.push(label)?;
+        self.statements.label_lists.push(labels)
+    }
+}
