@@ -166,6 +166,7 @@ act ends.NoParameterName vs = Some (OfParamName None ∷ vs)
 act ends.NoBracket vs = Some (OfBracket tree.NoBracket ∷ vs)
 act ends.OpenBracket (Tok t1 ∷ Tok t ∷ vs) = Some (OfBracket tree.OpenBracket ∷ vs)
 act ends.SizedBracket (Tok t1 ∷ OfExp e ∷ Tok t ∷ vs) = Some (OfBracket (tree.SizedBracket e) ∷ vs)
+act ends.NoExternals vs = Some (OfUnit [] ∷ vs)
 act ends.MoreExternals (OfUnit exts ∷ OfExternal ext ∷ vs) = Some (OfUnit (ext ∷ exts) ∷ vs)
 act _ _ = None
 

@@ -3,6 +3,7 @@ pub mod Operators
 pub mod Spells
 pub mod Choice
 pub mod Build
+pub mod Script
 pub mod Stack
 pub mod Accepts
 pub mod Follows

@@ -11,11 +11,13 @@ mod choose;
 mod names;
 pub mod operator;
 mod recogniser;
+pub mod script;
 mod symbol;
 pub mod tree;
 
 pub use operator::{BinaryOperator, StepOperator, UnaryOperator};
 pub use recogniser::recognise;
+pub use symbol::Production;
 
 /// A law of the grammar: no list of tokens has two trees.
 #[tactic(auto, using(crate::proofs::Texts::one_tree))]

@@ -258,6 +258,7 @@ pub enum Production {
     NoBracket,
     OpenBracket,
     SizedBracket,
+    NoExternals,
     MoreExternals,
 }
 
