@@ -3,3 +3,5 @@ pub mod Name
 pub mod Operand
 pub mod FirstForm
 pub mod FirstUnit
+pub mod Limits
+pub mod Measure
