@@ -168,7 +168,6 @@ act ends.OpenBracket (Tok t1 ∷ Tok t ∷ vs) = Some (OfBracket tree.OpenBracke
 act ends.SizedBracket (Tok t1 ∷ OfExp e ∷ Tok t ∷ vs) = Some (OfBracket (tree.SizedBracket e) ∷ vs)
 act ends.NoExternals vs = Some (OfUnit [] ∷ vs)
 act ends.MoreExternals (OfUnit exts ∷ OfExternal ext ∷ vs) = Some (OfUnit (ext ∷ exts) ∷ vs)
-act ends.NoExternals vs = Some (OfUnit [] ∷ vs)
 act _ _ = None
 
 abbrev pub acts : List Production → Option (List Value) → Option (List Value)

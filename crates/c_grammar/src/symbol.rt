@@ -260,7 +260,6 @@ pub enum Production {
     SizedBracket,
     NoExternals,
     MoreExternals,
-    NoExternals,
 }
 
 /// What the parser still expects, the next first.

@@ -5,6 +5,8 @@ use Rattle.c_grammar.specs.Tree.{External}
 use Rattle.c_grammar.specs.Spells.{Spells}
 use Rattle.c_parse.specs.Limits.{first_limit}
 use Rattle.c_parse.specs.declared.limits.Limit as limits
+use Rattle.c_grammar.specs.declared.fault.ScriptFault.{ScriptFault}
+use Rattle.c_grammar.specs.declared.fault.ScriptFault.TheVariants as script
 use Rattle.c_parse.specs.declared.fault.ParseFault.{ParseFault}
 use Rattle.c_parse.specs.declared.fault.ParseFault.TheVariants.{Syntax, Limit, Memory}
 
@@ -35,3 +37,8 @@ IsRefusedAsSyntax r = MatchResult r (λ _. ⊥) (λ e. IsSyntax e ⊎ (e ≡ Mem
 -- refused with this fault, unless memory ran out
 abbrev pub IsRefused : {T : Type 0} → Result T ParseFault → ParseFault → Type 0
 IsRefused r fault = MatchResult r (λ _. ⊥) (λ e. (e ≡ fault) ⊎ (e ≡ Memory))
+
+-- the fault of a script as one of the parser
+abbrev pub of_script : ScriptFault → ParseFault
+of_script (script.Syntax at) = Syntax at
+of_script (script.Memory e) = Memory

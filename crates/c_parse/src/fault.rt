@@ -1,8 +1,10 @@
 //! Why tokens have no tree within the limits.
 ghost use Rattle.std.specs.Prelude.{◌≡◌};
 ghost use Rattle.c_parse.specs.declared.fault.ParseFault.TheVariants.{Memory};
+ghost use Rattle.c_parse.specs.Answer.{of_script};
 
 use crate::limits::Limit;
+use c_grammar::ScriptFault;
 use std::alloc::{AllocError, AllocFailed};
 use thiserror::Error;
 
@@ -34,5 +36,16 @@ impl<T: Drop> From<AllocFailed<T>> for ParseFault {
 
     fn from(_error: AllocFailed<T>) -> ParseFault {
         ParseFault::Memory
+    }
+}
+
+impl From<ScriptFault> for ParseFault {
+    ghost from_gives = { λ fault e. e ≡ of_script fault };
+
+    fn from(fault: ScriptFault) -> ParseFault {
+        match fault {
+            ScriptFault::Syntax(at) => ParseFault::Syntax(at),
+            ScriptFault::Memory(_) => ParseFault::Memory,
+        }
     }
 }

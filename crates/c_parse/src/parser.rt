@@ -9,7 +9,10 @@ ghost use Rattle.c_parse.specs.Limits.{first_limit};
 ghost use Rattle.c_parse.specs.Answer.{HasNoTree, IsFaultOf, IsRefused, IsRefusedAsSyntax};
 ghost use Rattle.c_parse.specs.declared.limits.Limit.{Limit};
 
+use crate::build::build;
 use crate::fault::ParseFault;
+use crate::limits::first_limit;
+use c_grammar::script::script;
 use c_grammar::tree::Unit;
 use c_lex::Token;
 use std::alloc::Global;
@@ -30,5 +33,12 @@ pub fn parse(alloc: Global, tokens: &[Token]) -> Result<Unit, ParseFault>
     ensures syntax { HasNoTree (lexemes_of tokens.now) → IsRefusedAsSyntax result }
     ensures limit { (tree : List External) → (limit : Limit) → (at : ℕ) → Spells tree (lexemes_of tokens.now) → first_limit tree ≡ Some (limit, at) → IsRefused result (ParseFault.Limit limit at) }
 {
-    Err(ParseFault::Memory)
+    let steps = script(alloc, tokens)?;
+    if let Some((limit, at)) = first_limit(alloc, &steps, tokens)? {
+        return Err(ParseFault::Limit(limit, at));
+    }
+    let Some(unit) = build(alloc, &steps, tokens)? else {
+        unreachable!()
+    };
+    Ok(unit)
 }
