@@ -11,5 +11,6 @@ mod Sound
 pub mod Accepted
 mod Ended
 pub mod Replayed
+pub mod Place
 pub mod Kept
 pub mod Samples

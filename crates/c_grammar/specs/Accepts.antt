@@ -1,6 +1,6 @@
 -- The parser as a machine that only says whether the tokens are those of some tree: a stack of symbols that are still to
 -- come, and the names of types: those that were made, and those that will be at the external's end.
-use Rattle.std.specs.Prelude.{Bool, true, false, List, [], ◌∷◌, ◌++◌, Option, Some, None}
+use Rattle.std.specs.Prelude.{ℕ, Bool, true, false, List, [], ◌∷◌, ◌++◌, Option, Some, None}
 use Rattle.c_lex.specs.Lexeme.{Lexeme}
 use Rattle.c_grammar.specs.declared.symbol.Symbol.{Symbol}
 use Rattle.c_grammar.specs.declared.symbol.Symbol.TheVariants as symbol
@@ -44,3 +44,8 @@ accepts (Some st) (t ∷ ts) = accepts (forward st.made st.next t st.stack) ts
 -- before the first token
 abbrev pub first_stage : Stage
 first_stage = record { stack = symbol.Externals ∷ []; made = []; next = [] }
+
+-- where the machine stops: at the start of the token that it refuses, or at the end of the last one, here `at` so far
+abbrev pub stop : ℕ → Stage → List Lexeme → ℕ
+stop at st [] = at
+stop at st (t ∷ ts) = elim (forward st.made st.next t st.stack) [ None ↦ t.from | Some later ↦ stop t.to later ts ]

@@ -1,4 +1,5 @@
 -- What a refusal says.
+use Rattle.std.specs.Prelude.{◌≡◌, ℕ}
 use Rattle.c_grammar.specs.declared.fault.ScriptFault.{ScriptFault}
 use Rattle.c_grammar.specs.declared.fault.ScriptFault.TheVariants.{Syntax, Memory}
 
@@ -6,3 +7,8 @@ use Rattle.c_grammar.specs.declared.fault.ScriptFault.TheVariants.{Syntax, Memor
 abbrev pub IfSyntax : ScriptFault → Type 0 → Type 0
 IfSyntax (Syntax at) P = P
 IfSyntax (Memory error) P = Unit {0}
+
+-- the place of a syntax fault
+abbrev pub IsAt : ScriptFault → ℕ → Type 0
+IsAt (Syntax at) place = at ≡ place
+IsAt (Memory error) place = Unit {0}

@@ -8,6 +8,7 @@ pub mod Stack
 pub mod Accepts
 pub mod Written
 pub mod Faults
+pub mod Place
 pub mod Follows
 pub mod Names
 pub mod Examples

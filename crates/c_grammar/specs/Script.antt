@@ -6,7 +6,7 @@ use Rattle.c_grammar.specs.declared.script.Step.{Step}
 use Rattle.c_grammar.specs.declared.script.Step.TheVariants.{Shift, Reduce}
 use Rattle.c_grammar.specs.Build.{Value, Tok, act}
 
--- the values behind the steps, of which the first argument is what is left of them; `None` where a token or a part is missing
+-- the values behind these steps, on these tokens and values; `None` where a token or a part is missing
 unfoldable pub replay : List Step → List Lexeme → List Value → Option (List Value)
 replay [] ts vs = Some vs
 replay (Shift ∷ ss) [] vs = None

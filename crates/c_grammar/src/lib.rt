@@ -19,7 +19,6 @@ pub mod tree;
 
 pub use fault::ScriptFault;
 pub use operator::{BinaryOperator, StepOperator, UnaryOperator};
-pub use script::Step;
 pub use symbol::Production;
 
 /// A law of the grammar: no list of tokens has two trees.

@@ -1,12 +1,12 @@
-//! Whether tokens are those of some tree, and their script, on a stack of the parser's own: no nesting of the text is too
+//! Whether some tree spells the tokens, and their script, on a stack of the parser's own: no nesting of the text is too
 //! deep for it.
 
-ghost use Rattle.std.specs.Prelude.{◌≡◌, ◌∷◌, ◌++◌, [], IfErr, IfOk, IsTrue, MatchOption, false, map, reverse, true};
+ghost use Rattle.std.specs.Prelude.{◌≡◌, ◌∷◌, ◌++◌, [], IfErr, IfOk, MatchOption, false, map, reverse, true};
 ghost use Rattle.c_lex.specs.Lexeme.{kind_of, lexeme_of, lexemes_of};
 ghost use Rattle.c_grammar.specs.Names.{made_of, next_of};
 ghost use Rattle.c_grammar.specs.Accepts as machine;
 ghost use Rattle.c_grammar.specs.Stack as machine_stack;
-ghost use Rattle.c_grammar.specs.Faults.{IfSyntax};
+ghost use Rattle.c_grammar.specs.Faults.{IfSyntax, IsAt};
 ghost use Rattle.c_grammar.specs.Written as written;
 
 use crate::choose::{Answer, choose};
@@ -18,7 +18,7 @@ use crate::symbol::{Production, Symbol};
 use c_lex::{Token, TokenKind};
 use std::alloc::{AllocError, Global};
 
-/// Takes away the ends of productions on top of the stack.
+/// Takes away the ends of productions on top of the stack, and writes them.
 fn drop_ends(stack: &mut Vec<Symbol>, steps: &mut Vec<Step>) -> Result<(), AllocError>
     ensures stack { IfOk result (λ _. reverse stack.new.items ≡ machine.drop_ends (reverse stack.old.items)) }
     ensures steps { IfOk result (λ _. steps.new.items ≡ steps.old.items ++ written.end_steps (reverse stack.old.items)) }
@@ -30,8 +30,8 @@ fn drop_ends(stack: &mut Vec<Symbol>, steps: &mut Vec<Step>) -> Result<(), Alloc
     Ok(())
 }
 
-/// Whether nothing is still to come but further externals, of which there need be none.
-fn is_complete(mut stack: Vec<Symbol>, steps: &mut Vec<Step>) -> Result<bool, AllocError>
+/// Writes what ends with the text. `false` where more is still to come than further externals, of which there need be none.
+fn finish(mut stack: Vec<Symbol>, steps: &mut Vec<Step>) -> Result<bool, AllocError>
     ensures complete { IfOk result (λ yes. yes ≡ machine.is_complete (reverse stack.items)) }
     ensures steps { IfOk result (λ yes. yes ≡ true → steps.new.items ≡ steps.old.items ++ written.last_steps (reverse stack.items)) }
 {
@@ -118,30 +118,28 @@ fn note<'a>(names: &mut Names<'a>, symbol: Symbol, kind: &'a TokenKind) -> Resul
     }
 }
 
-/// Where the last token ends.
-fn end_of(tokens: &[Token]) -> usize {
-    tokens.last().map_or(0, |token| token.end)
-}
-
 /// The script of tokens that the machine accepts. A syntax fault is at the first token that can't stand where it does, or
 /// at the end of the last token.
 pub(crate) fn write(alloc: Global, tokens: &[Token]) -> Result<Vec<Step>, ScriptFault>
     ensures accepted { IfOk result (λ _. machine.accepts (Some machine.first_stage) (lexemes_of tokens.now) ≡ true) }
     ensures steps { IfOk result (λ steps. steps.items ≡ written.script (Some machine.first_stage) (lexemes_of tokens.now)) }
+    ensures place { IfErr result (λ fault. IsAt fault (machine.stop 0 machine.first_stage (lexemes_of tokens.now))) }
     ensures refused { IfErr result (λ fault. IfSyntax fault (machine.accepts (Some machine.first_stage) (lexemes_of tokens.now) ≡ false)) }
 {
     let mut stack = Vec::new(alloc);
     stack.push(Symbol::Externals)?;
     let mut names = Names::new(alloc);
     let mut steps = Vec::new(alloc);
+    let mut end = 0;
     for token in tokens {
         if !advance(&mut stack, &mut names, &mut steps, token)? {
             return Err(ScriptFault::Syntax(token.start));
         }
+        end = token.end;
     }
-    if is_complete(stack, &mut steps)? {
+    if finish(stack, &mut steps)? {
         Ok(steps)
     } else {
-        Err(ScriptFault::Syntax(end_of(tokens)))
+        Err(ScriptFault::Syntax(end))
     }
 }

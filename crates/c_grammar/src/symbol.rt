@@ -152,113 +152,219 @@ impl Seen {
     }
 }
 
-/// A production that is complete when the parser comes to it on its stack.
+/// A production of the grammar, at whose end its parts are complete. A list ends first and then takes its parts, the last
+/// one first.
 #[derive(Clone, Copy, Debug, PartialEq, Eq)]
 pub enum Production {
+    /// A name as an expression.
     Name,
+    /// A number.
     Number,
+    /// A character constant.
     Character,
+    /// `(e)`
     Parenthesis,
+    /// `e[i]`
     Index,
+    /// `e.x`
     Member,
+    /// `e->x`
     PointerMember,
+    /// An operator before its operand.
     Unary(UnaryOperator),
+    /// `sizeof e`
     SizeofValue,
+    /// `sizeof(T)`
     SizeofType,
+    /// `(T)e`
     Cast,
+    /// An operator between operands.
     Binary(BinaryOperator),
+    /// `c ? a : b`
     Conditional,
+    /// An expression on the right of an assignment.
     Value,
+    /// A name with its arguments.
     Call,
+    /// A call on the right of an assignment.
     CallValue,
+    /// The `)` of a call without arguments.
     NoArguments,
+    /// The last argument and its `)`.
     LastArgument,
+    /// An argument, `,` and those behind it.
     MoreArguments,
+    /// Words and stars: the type name in `sizeof` or a cast.
     TypeName,
+    /// The end of the words of a type.
     NoWords,
+    /// A word of a type, and those behind it.
     MoreWords,
+    /// A keyword among the words of a type.
     Reserved,
+    /// A name that a typedef made.
     Named,
+    /// `struct x`
     StructTag,
+    /// `struct { .. }`
     StructBody,
+    /// `struct x { .. }`
     TaggedStruct,
+    /// `enum x`
     EnumTag,
+    /// `enum { .. }`
     EnumBody,
+    /// `enum x { .. }`
     TaggedEnum,
+    /// The last member of a struct and the `}`.
     LastMember,
+    /// A member, and those behind it.
     MoreMembers,
+    /// The last declarator of a member and the `;`.
     LastDeclarator,
+    /// A declarator of a member, `,` and those behind it.
     MoreDeclarators,
+    /// The end of the stars.
     NoStars,
+    /// A star, and those behind it.
     MoreStars,
+    /// The `const` behind a star, which stands for nothing.
     StarConst,
+    /// Stars, a name and array lengths.
     Declarator,
+    /// The end of the array lengths.
     NoDimensions,
+    /// An array length in brackets, and those behind it.
     MoreDimensions,
+    /// An enumerator without a value.
     Implicit,
+    /// An enumerator with a value.
     Explicit,
+    /// The last enumerator and the `}`.
     LastEnumerator,
+    /// The last enumerator, `,` and the `}`.
     LastEnumeratorComma,
+    /// An enumerator, `,` and those behind it.
     MoreEnumerators,
+    /// `;`
     Empty,
+    /// `{ .. }`
     Block,
+    /// `break;`
     Break,
+    /// `continue;`
     Continue,
+    /// `return;`
     Return,
+    /// `return r;`
     ReturnValue,
+    /// An `if` without `else`.
     If,
+    /// An `if` with `else`.
     IfElse,
+    /// `while (e) s`
     While,
+    /// `do s while (e);`
     Do,
+    /// `for (start; test; step) s`
     For,
+    /// A switch, with its groups.
     Switch,
+    /// A simple statement and its `;`.
     Simple,
+    /// `e = r`
     Assign,
+    /// `e += x` and its kin.
     Update(BinaryOperator),
+    /// `e++` and `e--`
     After(StepOperator),
+    /// `++e` and `--e`
     Before(StepOperator),
+    /// A call as a statement.
     Invoke,
+    /// The end of locals and statements.
     NoItems,
+    /// Locals, and what is behind them.
     LocalItem,
+    /// A statement, and what is behind it.
     StatementItem,
+    /// The words of locals, and those locals.
     Local,
+    /// `=` and the value of a local.
     Init,
+    /// A local has no value.
     NoInit,
+    /// The last local of a declaration and the `;`.
     LastInit,
+    /// A local, `,` and those behind it.
     MoreInits,
+    /// The `;` of a `for` that begins with nothing.
     NoStart,
+    /// The local that a `for` begins with.
     StartLocal,
+    /// The simple statement that a `for` begins with, and its `;`.
     StartSimple,
+    /// The `;` of a `for` without a test.
     NoTest,
+    /// The test of a `for` and its `;`.
     Test,
+    /// The `)` of a `for` without a last part.
     NoStep,
+    /// The last part of a `for` and the `)`.
     Step,
+    /// The end of the groups of a switch.
     NoGroups,
+    /// A group of a switch, and those behind it.
     MoreGroups,
+    /// `case e:`
     Case,
+    /// `default:`
     Default,
+    /// The end of further labels.
     NoLabels,
+    /// A further label of a group, and those behind it.
     MoreLabels,
+    /// A function.
     Function,
+    /// A declaration; whether it is a typedef.
     Declaration(bool),
+    /// The `;` of a declaration without declarators.
     NoTops,
+    /// The last declarator of a declaration and the `;`.
     LastTop,
+    /// A declarator of a declaration, `,` and those behind it.
     MoreTops,
+    /// A declarator with its parameters and its value, or without.
     Top,
+    /// A declarator has no parameters.
     NoParameters,
+    /// The parameters of a declarator.
     SomeParameters,
+    /// A declarator has no value.
     NoValue,
+    /// `=` and the value of a declarator.
     SomeValue,
+    /// The `)` of empty parentheses.
     EmptyParameters,
+    /// The last parameter and the `)`.
     LastParameter,
+    /// A parameter, `,` and those behind it.
     MoreParameters,
+    /// Words, stars, and the name and brackets of a parameter, or none.
     Parameter,
+    /// The name of a parameter.
     ParameterName,
+    /// A parameter has no name.
     NoParameterName,
+    /// A parameter has no brackets.
     NoBracket,
+    /// `[]`
     OpenBracket,
+    /// `[e]`
     SizedBracket,
+    /// The end of the text.
     NoExternals,
+    /// A function or a declaration, and those behind it.
     MoreExternals,
 }
 

@@ -1,18 +1,24 @@
-//! Which texts some tree spells, by example.
-use crate::script::script;
-use crate::{ScriptFault, one_tree};
+//! Which texts some tree spells, where others break off, and what a script is, by example.
+use crate::script::{Step, script};
+use crate::tree::{CExp, Dimensions, Items, Stmt};
+use crate::{Production, ScriptFault, one_tree};
 use c_lex::tokens;
 use std::alloc::Global;
 use std::test::Fail;
 
-/// Whether some tree spells the tokens of a text.
-fn is_spelled(alloc: Global, text: &[u8]) -> Result<bool, Fail> {
+/// The place of the syntax fault of a text, or none where some tree spells its tokens.
+fn fault_of(alloc: Global, text: &[u8]) -> Result<Option<usize>, Fail> {
     let all = tokens(alloc, text)?;
     match script(alloc, &all) {
-        Ok(_) => Ok(true),
-        Err(ScriptFault::Syntax(_)) => Ok(false),
+        Ok(_) => Ok(None),
+        Err(ScriptFault::Syntax(at)) => Ok(Some(at)),
         Err(fault) => Err(fault.into()),
     }
+}
+
+/// Whether some tree spells the tokens of a text.
+fn is_spelled(alloc: Global, text: &[u8]) -> Result<bool, Fail> {
+    Ok(fault_of(alloc, text)?.is_none())
 }
 
 /// Texts, and whether some tree spells them.
@@ -132,6 +138,66 @@ fn texts(rt: HostRuntime) -> Result<(), Fail> {
             "{text}"
         );
     }
+    Ok(())
+}
+
+/// Texts that no tree spells, and where: at the token that can't stand, or at the end of a text that breaks off.
+static FAULTS: [(&str, usize); 10] = [
+    (";", 0),
+    ("int x; ;", 7),
+    ("int x", 5),
+    ("int x = ", 7),
+    ("int f { return 0; }", 6),
+    ("char int x;", 5),
+    ("void f(void) { x * y; }", 17),
+    ("int x = a -- b;", 10),
+    ("void f(void) { if (a) ; else ; else ; }", 31),
+    ("void f(void) { return 0; ", 24),
+];
+
+#[test]
+fn faults(rt: HostRuntime) -> Result<(), Fail> {
+    for (text, at) in &FAULTS {
+        assert_eq!(rt; fault_of(rt.alloc(), text.as_bytes())?, Some(*at), "{text}");
+    }
+    Ok(())
+}
+
+/// The script of `int;`: each part comes before its whole.
+static SCRIPT: [Step; 9] = [
+    Step::Shift,
+    Step::Reduce(Production::Reserved),
+    Step::Reduce(Production::NoWords),
+    Step::Reduce(Production::MoreWords),
+    Step::Shift,
+    Step::Reduce(Production::NoTops),
+    Step::Reduce(Production::Declaration(false)),
+    Step::Reduce(Production::NoExternals),
+    Step::Reduce(Production::MoreExternals),
+];
+
+#[test]
+fn scripts(rt: HostRuntime) -> Result<(), Fail> {
+    let all = tokens(rt.alloc(), b"int;")?;
+    let steps = script(rt.alloc(), &all)?;
+    assert_eq!(rt; steps.as_slice(), SCRIPT.as_slice());
+    Ok(())
+}
+
+#[test]
+fn long_lists_drop(rt: HostRuntime) -> Result<(), Fail> {
+    let alloc = rt.alloc();
+    let mut items = Items::None;
+    let mut dimensions = Dimensions::None;
+    for at in 0..200_000 {
+        items = Items::Statement(Box::new(alloc, Stmt::Empty(at))?, Box::new(alloc, items)?);
+        dimensions = Dimensions::More(
+            Box::new(alloc, CExp::Character(at, 0))?,
+            Box::new(alloc, dimensions)?,
+        );
+    }
+    drop(items);
+    drop(dimensions);
     Ok(())
 }
 

@@ -1,6 +1,6 @@
+pub mod Limits
+pub mod Measure
 pub mod Stacks
 pub mod Reduce
 pub mod StacksOf
-pub mod Limits
-pub mod Measure
 pub mod Answer

@@ -15,7 +15,7 @@ use Rattle.c_parse.specs.declared.limits.role.Role.{Role}
 use Rattle.c_parse.specs.declared.limits.role.Role.TheVariants as roles
 use Rattle.c_parse.specs.declared.limits.measure.Measure as code
 use Rattle.c_parse.specs.declared.limits.part.Part as code_part
-use Rattle.c_parse.specs.Limits.{Measure, Fault, most, nothing, beside, node, outermost, statement, local, function}
+use Rattle.c_parse.specs.Limits.{Measure, Fault, most, past, earlier, nothing, beside, node, outermost, statement, local, function}
 
 -- the measure that the code's own stands for
 abbrev pub measure_of : code.Measure → Measure
@@ -51,6 +51,9 @@ cut m =
       depth = cut_at limit.Depth m.depth;
       fault = m.fault
     }
+
+abbrev pub cut_part : Part → Part
+cut_part p = record { first = p.first; measure = cut p.measure }
 
 abbrev pub empty : Part
 empty = record { first = None; measure = nothing }
@@ -314,3 +317,8 @@ advanced keep (Reduce p) (ts, ps) = (ts, reduced keep p ps)
 -- the parts behind all steps
 abbrev pub measured : (Measure → Measure) → List Step → List Lexeme → List Part
 measured keep steps tokens = (fold (λ state step. advanced keep step state) (tokens, []) steps).1
+
+-- the first limit that is passed where a whole text stands on the stack
+abbrev pub limit_of : List Part → Option Fault
+limit_of [] = None
+limit_of (p ∷ ps) = earlier (past limit.Functions p.measure.functions) p.measure.fault

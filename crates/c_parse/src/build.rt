@@ -9,7 +9,7 @@ ghost use Rattle.c_grammar.specs.Script.{replay};
 ghost use Rattle.c_grammar.specs.Tree.{External};
 ghost use Rattle.c_grammar.specs.View.{decl_of, unit_of};
 ghost use Rattle.c_parse.specs.Reduce.{rebuild};
-ghost use Rattle.c_parse.specs.Stacks.{empty};
+ghost use Rattle.c_parse.specs.Stacks.{empty, put};
 ghost use Rattle.c_parse.specs.StacksOf.{stacks_of};
 
 mod declarators;
@@ -72,7 +72,9 @@ fn run<'a>(alloc: Global, steps: &[Step], tokens: &'a [Token]) -> Result<Stacks<
 }
 
 /// The tree that stands alone on the stacks after all steps.
-fn tree_of(alloc: Global, steps: &[Step], tokens: &[Token]) -> Result<Unit, BuildFault> {
+fn tree_of(alloc: Global, steps: &[Step], tokens: &[Token]) -> Result<Unit, BuildFault>
+    ensures { (exts : List External) → rebuild steps.now (lexemes_of tokens.now) empty ≡ Some (put (OfUnit exts) empty) → MatchResult result (λ unit. unit_of unit ≡ exts) (λ e. e ≡ BuildFault.Memory) }
+{
     let mut stacks = run(alloc, steps, tokens)?;
     let externals = stacks.externals.texts.pop()?;
     Ok(Unit {
@@ -81,6 +83,7 @@ fn tree_of(alloc: Global, steps: &[Step], tokens: &[Token]) -> Result<Unit, Buil
 }
 
 /// The tree of a script, where its steps leave one.
+#[tactic(auto, using(crate::proofs::BuildReplays::built))]
 pub(crate) fn build(
     alloc: Global,
     steps: &[Step],

@@ -13,6 +13,7 @@ mod offsets;
 mod part;
 mod role;
 
+use self::measure::Fault;
 use self::part::{Part, reduce};
 use c_grammar::script::Step;
 use c_lex::Token;
@@ -85,10 +86,19 @@ fn measured(alloc: Global, steps: &[Step], tokens: &[Token]) -> Result<Vec<Part>
     Ok(parts)
 }
 
+/// The first limit that is passed where a whole text stands on the stack.
+fn limit_of(mut parts: Vec<Part>) -> Option<Fault>
+    ensures { result ≡ machine.limit_of (reverse (map machine.part_of parts.items)) }
+{
+    let part = parts.pop()?;
+    part.measure.first_limit()
+}
+
 /// The first limit that the tree of a script passes, and the offset where it does. Where several are passed at one offset, it is
 /// the first of them in the order of `Limit`.
 ///
 /// It takes time and memory in proportion to the number of steps, however deep the tree is.
+#[tactic(auto, using(crate::proofs::LimitsFound::found))]
 pub(crate) fn first_limit(
     alloc: Global,
     steps: &[Step],
@@ -96,6 +106,5 @@ pub(crate) fn first_limit(
 ) -> Result<Option<(Limit, usize)>, AllocError>
     ensures { (exts : List External) → replay steps.now (lexemes_of tokens.now) [] ≡ Some (OfUnit exts ∷ []) → IfOk result (λ found. found ≡ limits.first_limit exts) }
 {
-    let mut parts = measured(alloc, steps, tokens)?;
-    Ok(parts.pop().and_then(|part| part.measure.first_limit()))
+    Ok(limit_of(measured(alloc, steps, tokens)?))
 }

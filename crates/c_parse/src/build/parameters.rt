@@ -2,9 +2,9 @@
 
 ghost use Rattle.c_parse.specs.StacksOf.{stacks_of, Reduces};
 ghost use Rattle.std.specs.Prelude.{◌≡◌, map};
-ghost use Rattle.c_grammar.specs.View.{param_of};
+ghost use Rattle.c_grammar.specs.View.{param_of, words_of};
 ghost use Rattle.c_grammar.specs.Spells.{parameters};
-ghost use Rattle.c_parse.specs.Reduce.{is_void};
+ghost use Rattle.c_parse.specs.Reduce.{is_void, is_void_word};
 
 use crate::build::stack::{BuildFault, Stack};
 use crate::build::stacks::Stacks;
@@ -38,13 +38,13 @@ fn is_void(parameter: &Param) -> bool
 }
 
 /// The parameters: none where `void` stands alone.
-fn without_void(alloc: Global, parameters: Stack<Param>) -> Vec<Param>
-    ensures { map param_of result.items ≡ parameters (map param_of parameters) }
+fn without_void(alloc: Global, listed: Stack<Param>) -> Vec<Param>
+    ensures { map param_of result.items ≡ parameters (map param_of listed) }
 {
-    let parameters = parameters.into_vec();
-    match parameters.as_slice() {
+    let listed = listed.into_vec();
+    match listed.as_slice() {
         [only] if is_void(only) => Vec::new(alloc),
-        _ => parameters,
+        _ => listed,
     }
 }
 

@@ -98,7 +98,7 @@ impl Measure {
 
     /// A node of an expression above these parts.
     pub(super) fn node(mut self, at: usize) -> Result<Measure, AllocError>
-        ensures { IfOk result (λ measure. machine.measure_of measure ≡ machine.cut (limits.node at (machine.measure_of self))) }
+        ensures { machine.cut (machine.measure_of self) ≡ machine.measure_of self → IfOk result (λ measure. machine.measure_of measure ≡ machine.cut (limits.node at (machine.measure_of self))) }
     {
         self.nodes = before(at, self.nodes, Limit::Nodes)?;
         self.depth = before(at, self.depth, Limit::Depth)?;
@@ -117,7 +117,7 @@ impl Measure {
 
     /// A statement above these parts.
     pub(super) fn statement(mut self, alloc: Global, at: usize) -> Result<Measure, AllocError>
-        ensures { IfOk result (λ measure. machine.measure_of measure ≡ machine.cut (limits.statement at (machine.measure_of self))) }
+        ensures { machine.cut (machine.measure_of self) ≡ machine.measure_of self → IfOk result (λ measure. machine.measure_of measure ≡ machine.cut (limits.statement at (machine.measure_of self))) }
     {
         self.statements = before(at, self.statements, Limit::Statements)?;
         self.blocks = before(at, self.blocks, Limit::Blocks)?;
@@ -126,7 +126,7 @@ impl Measure {
 
     /// The declarator of a local, with these parts and the locals behind it.
     pub(super) fn local(mut self, alloc: Global, at: usize) -> Result<Measure, AllocError>
-        ensures { IfOk result (λ measure. machine.measure_of measure ≡ machine.cut (limits.local at (machine.measure_of self))) }
+        ensures { machine.cut (machine.measure_of self) ≡ machine.measure_of self → IfOk result (λ measure. machine.measure_of measure ≡ machine.cut (limits.local at (machine.measure_of self))) }
     {
         self.statements = before(at, self.statements, Limit::Statements)?;
         Ok(self.outermost(alloc))

@@ -1,6 +1,6 @@
 //! The parts of a text on the stack: where each begins, and its measure.
 
-ghost use Rattle.std.specs.Prelude.{◌≡◌, ◌∷◌, IfOk, Some, map, reverse};
+ghost use Rattle.std.specs.Prelude.{◌≡◌, IfOk, map, option_map, reverse};
 ghost use Rattle.c_parse.specs.Measure as machine;
 
 use super::measure::Measure;
@@ -50,7 +50,7 @@ impl Part {
 
     /// What a production makes of its parts, if anything.
     pub(super) fn made(self, alloc: Global, role: Role) -> Result<Option<Part>, AllocError>
-        ensures { IfOk result (λ part. option_map machine.part_of part ≡ machine.made machine.cut role (machine.part_of self)) }
+        ensures { machine.cut_part (machine.part_of self) ≡ machine.part_of self → IfOk result (λ part. option_map machine.part_of part ≡ machine.made machine.cut role (machine.part_of self)) }
     {
         let Part { first, measure } = self;
         let at = first.unwrap_or(0);

@@ -92,7 +92,51 @@ pub(super) fn role_of(production: Production) -> Role
         | Production::Simple => Role::Statement,
         Production::LastInit | Production::MoreInits => Role::Local,
         Production::Function => Role::Function,
-        _ => Role::Part,
+        Production::CallValue
+        | Production::NoArguments
+        | Production::TypeName
+        | Production::LastMember
+        | Production::MoreMembers
+        | Production::LastDeclarator
+        | Production::MoreDeclarators
+        | Production::NoDimensions
+        | Production::MoreDimensions
+        | Production::Implicit
+        | Production::Explicit
+        | Production::LastEnumerator
+        | Production::LastEnumeratorComma
+        | Production::MoreEnumerators => Role::Part,
+        Production::NoItems
+        | Production::LocalItem
+        | Production::StatementItem
+        | Production::Init
+        | Production::NoInit
+        | Production::NoStart
+        | Production::StartLocal
+        | Production::StartSimple
+        | Production::NoTest
+        | Production::NoStep
+        | Production::Step
+        | Production::NoGroups
+        | Production::MoreGroups
+        | Production::Default
+        | Production::NoLabels
+        | Production::MoreLabels => Role::Part,
+        Production::NoTops
+        | Production::LastTop
+        | Production::MoreTops
+        | Production::NoParameters
+        | Production::SomeParameters
+        | Production::NoValue
+        | Production::EmptyParameters
+        | Production::LastParameter
+        | Production::MoreParameters
+        | Production::ParameterName
+        | Production::NoParameterName
+        | Production::NoBracket
+        | Production::OpenBracket
+        | Production::NoExternals
+        | Production::MoreExternals => Role::Part,
     }
 }
 
@@ -157,7 +201,6 @@ pub(super) fn arity(production: Production) -> usize
         | Production::Step
         | Production::Default
         | Production::MoreLabels
-        | Production::Declaration(false)
         | Production::LastTop
         | Production::SomeParameters
         | Production::SomeValue
@@ -175,6 +218,31 @@ pub(super) fn arity(production: Production) -> usize
         Production::Conditional | Production::If | Production::While | Production::MoreGroups => 5,
         Production::For | Production::Function => 6,
         Production::IfElse | Production::Do | Production::Switch => 7,
-        _ => 3,
+        Production::Declaration(typedef) => if typedef { 3 } else { 2 },
+        Production::Parenthesis
+        | Production::Member
+        | Production::PointerMember
+        | Production::Binary(_)
+        | Production::Call
+        | Production::MoreArguments
+        | Production::StructBody
+        | Production::EnumBody
+        | Production::LastMember
+        | Production::MoreMembers
+        | Production::MoreDeclarators
+        | Production::Declarator
+        | Production::Explicit
+        | Production::LastEnumeratorComma
+        | Production::MoreEnumerators
+        | Production::Block
+        | Production::ReturnValue
+        | Production::Assign
+        | Production::Update(_)
+        | Production::LastInit
+        | Production::Case
+        | Production::MoreTops
+        | Production::Top
+        | Production::MoreParameters
+        | Production::SizedBracket => 3,
     }
 }
