@@ -24,7 +24,7 @@ mod statements;
 mod tokens;
 mod types;
 
-use c_grammar::Step;
+use c_grammar::script::Step;
 use c_grammar::tree::Unit;
 use c_lex::Token;
 use stack::BuildFault;
@@ -97,6 +97,3 @@ pub(crate) fn build(
         Err(BuildFault::Memory) => Err(AllocError),
     }
 }
-
-#[cfg(test)]
-mod tests;
