@@ -7,6 +7,7 @@ use Rattle.c_lex.specs.Front.{Cause}
 use Rattle.c_lex.specs.Tokens.{Tokens, FaultAt}
 use Rattle.c_grammar.specs.Tree.{External}
 use Rattle.c_grammar.specs.Spells.{Spells}
+use Rattle.c_grammar.specs.Place.{IsPlace}
 use Rattle.c_parse.specs.Limits.{first_limit}
 use Rattle.c_parse.specs.Answer.{HasNoTree, Passes}
 use Rattle.c_parse.specs.declared.limits.Limit as limits
@@ -66,10 +67,11 @@ pub record OfTree (ts : List Lexeme) (status : Status) (lines : List ℕ) : Type
   pub is_tree : IsTree ts tree
   pub answer : IsTreeAnswer tree status lines
 
--- no tree spells the tokens; which place is told isn't said here
+-- no tree spells the tokens: here no text goes on, or it breaks off
 pub record IsNoTree (ts : List Lexeme) (lines : List ℕ) : Type 0 where
   pub no_tree : HasNoTree ts
   pub at : ℕ
+  pub place : IsPlace ts at
   pub written : lines ≡ source_line (codes "syntax") at
 
 -- the tokens' tree passes this limit first

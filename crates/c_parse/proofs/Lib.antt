@@ -5,3 +5,4 @@ pub mod LimitsLists
 pub mod LimitsCut
 pub mod LimitsFound
 pub mod LimitsSteps
+pub mod OneAnswer

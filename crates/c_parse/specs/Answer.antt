@@ -3,6 +3,7 @@ use Rattle.std.specs.Prelude.{◌≡◌, ℕ, List, ◌⊎◌, Result, Some, Mat
 use Rattle.c_lex.specs.Lexeme.{Lexeme}
 use Rattle.c_grammar.specs.Tree.{External}
 use Rattle.c_grammar.specs.Spells.{Spells}
+use Rattle.c_grammar.specs.Place.{IsPlace}
 use Rattle.c_parse.specs.Limits.{first_limit}
 use Rattle.c_parse.specs.declared.limits.Limit as limits
 use Rattle.c_grammar.specs.declared.fault.ScriptFault.{ScriptFault}
@@ -22,7 +23,7 @@ pub record Passes (ts : List Lexeme) (limit : limits.Limit) (at : ℕ) : Type 0 
 
 -- the cause of a fault; of want of memory there is none
 abbrev pub IsFaultOf : List Lexeme → ParseFault → Type 0
-IsFaultOf ts (Syntax at) = HasNoTree ts
+IsFaultOf ts (Syntax at) = HasNoTree ts × IsPlace ts at
 IsFaultOf ts (Limit limit at) = Passes ts limit at
 IsFaultOf ts Memory = Unit {0}
 

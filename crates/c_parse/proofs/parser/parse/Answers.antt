@@ -1,0 +1,36 @@
+use Rattle.std.proofs.Common.{◌≡◌, [], ◌∷◌, Some, None, List, sym, subst, ◌∙◌, inl, inr, ap}
+use Rattle.c_lex.specs.Lexeme.{lexemes_of}
+use Rattle.c_grammar.specs.declared.script.Step.{Step}
+use Rattle.c_grammar.specs.Build.{OfUnit}
+use Rattle.c_grammar.specs.Script.{replay}
+use Rattle.c_parse.specs.Limits.{first_limit}
+use Rattle.c_parse.proofs.OneAnswer.{limit_of_each, only_tree, is_first}
+use Rattle.c_parse.proofs.parser.parse.Goals as goal
+
+pub returns-in-Some-clause-only : goal.returns-in-Some-clause-only
+returns-in-Some-clause-only c = λ tree s none.
+    let found = c.in_ok-steps.ensures.spelled in
+    let replayed = subst (λ (steps : List Step). replay steps (lexemes_of c.args.tokens.now) [] ≡ Some (OfUnit found.0 ∷ [])) (sym c.deref.ensures.value) found.2 in
+    let limit = limit_of_each (lexemes_of c.args.tokens.now) found.0 tree c.in_ok-limit.field-0 found.1 s (c.in_ok-limit.ensures found.0 replayed) in
+    let is = c.in-Some.is in
+    absurd cc
+
+pub returns-in-Some-clause-limit : goal.returns-in-Some-clause-limit
+returns-in-Some-clause-limit c = λ tree limit at s first.
+    let found = c.in_ok-steps.ensures.spelled in
+    let replayed = subst (λ (steps : List Step). replay steps (lexemes_of c.args.tokens.now) [] ≡ Some (OfUnit found.0 ∷ [])) (sym c.deref.ensures.value) found.2 in
+    let found_first = limit_of_each (lexemes_of c.args.tokens.now) found.0 tree c.in_ok-limit.field-0 found.1 s (c.in_ok-limit.ensures found.0 replayed) in
+    inl (is_first c.in_ok-limit.field-0 (first_limit tree) (c.in-Some.limit, c.in-Some.at) (limit, at) found_first first c.in-Some.is)
+
+pub returns-clause-only : goal.returns-clause-only
+returns-clause-only c = λ tree s none.
+    let found = c.in_ok-steps.ensures.spelled in
+    let replayed = subst (λ (steps : List Step). replay steps (lexemes_of c.args.tokens.now) [] ≡ Some (OfUnit found.0 ∷ [])) (sym c.deref-2.ensures.value) found.2 in
+    only_tree (lexemes_of c.args.tokens.now) found.0 tree _ found.1 s (rw c.in-Some-2.is at c.in_ok-unit.ensures found.0 replayed)
+
+pub returns-clause-limit : goal.returns-clause-limit
+returns-clause-limit c = λ tree limit at s first.
+    let found = c.in_ok-steps.ensures.spelled in
+    let replayed = subst (λ (steps : List Step). replay steps (lexemes_of c.args.tokens.now) [] ≡ Some (OfUnit found.0 ∷ [])) (sym c.deref.ensures.value) found.2 in
+    let limit = limit_of_each (lexemes_of c.args.tokens.now) found.0 tree c.in_ok-limit.field-0 found.1 s (c.in_ok-limit.ensures found.0 replayed) in
+    c.in_default.not-Some _ (limit ∙ first)
