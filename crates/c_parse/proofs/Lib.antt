@@ -5,4 +5,6 @@ pub mod LimitsLists
 pub mod LimitsCut
 pub mod LimitsFound
 pub mod LimitsSteps
+pub mod LimitsLevels
+pub mod LimitsStatements
 pub mod OneAnswer

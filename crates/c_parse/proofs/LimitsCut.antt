@@ -1,15 +1,12 @@
 -- A measure whose lists are cut behind the first offset past their limit tells as much as the whole one.
 use Rattle.std.proofs.Common.{ℕ, ◌≡◌, ◌∙◌, List, [], ◌∷◌, Option, Some, None, zero, suc, map, unwrap_or, refl, ap, arith}
 use Rattle.std.specs.Option.{option_map}
-use Rattle.c_lex.specs.Lexeme.{Lexeme}
 use Rattle.c_grammar.specs.declared.symbol.Production.{Production}
-use Rattle.c_grammar.specs.declared.script.Step.{Step}
-use Rattle.c_grammar.specs.declared.script.Step.TheVariants.{Shift, Reduce}
 use Rattle.c_parse.specs.declared.limits.Limit.TheVariants as limit
 use Rattle.c_parse.specs.declared.limits.role.Role.{Role}
 use Rattle.c_parse.specs.declared.limits.role.Role.TheVariants as roles
 use Rattle.c_parse.specs.Limits.{Measure, beside, node, statement, local, function, earlier}
-use Rattle.c_parse.specs.Measure.{Part, cut, cut_part, joined, gathered, made, pushed, role_of, arity, empty, reduced, advanced, measured}
+use Rattle.c_parse.specs.Measure.{Part, cut, cut_part, joined, gathered, made, pushed, role_of, arity, empty, reduced}
 use Rattle.c_parse.proofs.LimitsLists.{take_take, take_append, take_leftmost, get_take}
 use Rattle.c_parse.proofs.LimitsParts.{whole}
 
@@ -21,7 +18,7 @@ cut_beside m n =
       blocks = take_leftmost 33 33 33 m.blocks n.blocks (omega arith) (omega arith) i;
       nodes = take_append 129 129 129 m.nodes n.nodes (omega arith) (omega arith) i;
       depth = take_leftmost 33 33 33 m.depth n.depth (omega arith) (omega arith) i;
-      fault = earlier m.fault n.fault
+      fault = earlier m.fault n.fault;
     }
 
 cut_node : (a : ℕ) (m : Measure) → cut (node a (cut m)) ≡ cut (node a m)
@@ -33,8 +30,8 @@ cut_node a m =
       nodes = a ∷ take_take 128 129 m.nodes (omega arith) i;
       depth = a ∷ take_take 32 33 m.depth (omega arith) i;
       fault =
-        earlier (option_map (λ b. (limit.Depth, b)) (get_take 31 33 m.depth (omega arith) i))
-        (option_map (λ b. (limit.Nodes, b)) (get_take 127 129 m.nodes (omega arith) i))
+          earlier (option_map (λ b. (limit.Depth, b)) (get_take 31 33 m.depth (omega arith) i))
+          (option_map (λ b. (limit.Nodes, b)) (get_take 127 129 m.nodes (omega arith) i));
     }
 
 cut_statement : (a : ℕ) (m : Measure) → cut (statement a (cut m)) ≡ cut (statement a m)
@@ -45,7 +42,7 @@ cut_statement a m =
       blocks = a ∷ take_take 32 33 m.blocks (omega arith) i;
       nodes = [];
       depth = [];
-      fault = m.fault
+      fault = m.fault;
     }
 
 cut_local : (a : ℕ) (m : Measure) → cut (local a (cut m)) ≡ cut (local a m)
@@ -56,7 +53,7 @@ cut_local a m =
       blocks = take_take 33 33 m.blocks (omega arith) i;
       nodes = [];
       depth = [];
-      fault = m.fault
+      fault = m.fault;
     }
 
 cut_function : (a : ℕ) (m : Measure) → cut (function a (cut m)) ≡ cut (function a m)
@@ -68,8 +65,8 @@ cut_function a m =
       nodes = [];
       depth = [];
       fault =
-        earlier (option_map (λ b. (limit.Statements, b)) (get_take 200 201 m.statements (omega arith) i))
-        (earlier (option_map (λ b. (limit.Blocks, b)) (get_take 32 33 m.blocks (omega arith) i)) m.fault)
+          earlier (option_map (λ b. (limit.Statements, b)) (get_take 200 201 m.statements (omega arith) i))
+          (earlier (option_map (λ b. (limit.Blocks, b)) (get_take 32 33 m.blocks (omega arith) i)) m.fault);
     }
 
 cut_joined : (p q : Part) → joined cut (cut_part p) (cut_part q) ≡ cut_part (joined whole p q)
@@ -116,7 +113,7 @@ cut_twice m =
       blocks = take_take 33 33 m.blocks (omega arith) i;
       nodes = take_take 129 129 m.nodes (omega arith) i;
       depth = take_take 33 33 m.depth (omega arith) i;
-      fault = m.fault
+      fault = m.fault;
     }
 
 pub is_cut_gathered : (n : ℕ) (ps : List Part) (sum : Part) → cut_part sum ≡ sum → cut_part (gathered cut n ps sum).0 ≡ (gathered cut n ps sum).0

@@ -1,5 +1,5 @@
 -- The limit that is found on a script is the first one that its tree passes.
-use Rattle.std.proofs.Common.{ℕ, ◌≡◌, ◌∙◌, List, [], ◌∷◌, Option, Some, None, map, fold, refl, ap, subst, arith}
+use Rattle.std.proofs.Common.{◌≡◌, ◌∙◌, List, [], ◌∷◌, Option, Some, None, map, fold, refl, ap, subst, arith}
 use Rattle.std.specs.Option.{option_map}
 use Rattle.c_lex.specs.Lexeme.{Lexeme}
 use Rattle.c_grammar.specs.declared.symbol.Production.{Production}
@@ -40,8 +40,8 @@ replayed (Shift ∷ ss) [] vs ws h = absurd cc
 replayed (Shift ∷ ss) (t ∷ ts) vs ws h = replayed ss ts (Tok t ∷ vs) ws h
 replayed (Reduce p ∷ ss) ts vs ws h =
     (elim (act p vs) as (λ o. act p vs ≡ o → (elim o [ None ↦ None | Some us ↦ replay ss ts us ]) ≡ Some ws → parts_behind ss ts (reduced cut p (parts vs)) ≡ parts ws) [
-      None ↦ λ e k. absurd cc
-    | Some us ↦ λ e k. ap (λ ps. parts_behind ss ts ps) (reduced_parts p vs us e) ∙ replayed ss ts us ws k
+      | None ↦ λ e k. absurd cc
+      | Some us ↦ λ e k. ap (λ ps. parts_behind ss ts ps) (reduced_parts p vs us e) ∙ replayed ss ts us ws k
     ]) refl h
 
 -- the limit that is found is the first one that the tree passes

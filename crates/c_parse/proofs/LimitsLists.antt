@@ -1,5 +1,5 @@
 -- Lists of offsets that are cut at a length: what is cut before it is put together, and cut again, is as if it were cut once.
-use Rattle.std.proofs.Common.{ℕ, ◌≡◌, ◌<◌, ◌≤◌, ◌++◌, List, [], ◌∷◌, zero, suc, take, drop, length, refl, ap, arith}
+use Rattle.std.proofs.Common.{ℕ, ◌≡◌, ◌<◌, ◌≤◌, ◌++◌, List, [], ◌∷◌, zero, suc, take, refl, ap, arith}
 use Rattle.std.specs.List.{slice_get}
 use Rattle.c_parse.specs.Limits.{leftmost}
 

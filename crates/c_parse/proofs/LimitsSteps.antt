@@ -1,5 +1,5 @@
 -- The steps of the code, against those of the stack of measures.
-use Rattle.std.proofs.Common.{ℕ, ◌≡◌, ◌∙◌, ◌<◌, ◌≤◌, ◌+◌, ◌-◌, ◌++◌, List, [], ◌∷◌, Option, Some, None, zero, suc, map, reverse, take, refl, ap, sym, arith}
+use Rattle.std.proofs.Common.{ℕ, ◌≡◌, ◌∙◌, ◌<◌, ◌≤◌, ◌+◌, ◌-◌, ◌++◌, List, [], ◌∷◌, Option, zero, suc, map, reverse, take, refl, ap, sym, arith}
 use Rattle.std.proofs.lemmas.List.{map_push, reverse-append}
 use Rattle.std.specs.Option.{option_map}
 use Rattle.c_lex.specs.Lexeme.{Lexeme}
@@ -17,18 +17,18 @@ use Rattle.c_parse.proofs.LimitsCut.{is_cut_gathered}
 pub node_is : (a : ℕ) (m : Measure) (nodes depth : List ℕ) (fault : Option Fault) → cut m ≡ m → nodes ≡ take 129 (a ∷ m.nodes) → depth ≡ take 33 (a ∷ m.depth) → fault ≡ earlier (past limit.Depth depth) (past limit.Nodes nodes) → record m { nodes = nodes; depth = depth; fault = fault } ≡ cut (node a m)
 node_is a m nodes depth fault h n d f =
     let seen =
-        f
-        ∙ ap (λ xs. earlier (past limit.Depth xs) (past limit.Nodes nodes)) d
-        ∙ ap (λ xs. earlier (past limit.Depth (take 33 (a ∷ m.depth))) (past limit.Nodes xs)) n
-        ∙ ap (λ o. earlier (option_map (λ b. (limit.Depth, b)) o) (past limit.Nodes (take 129 (a ∷ m.nodes)))) (get_take 32 33 (a ∷ m.depth) (omega arith))
-        ∙ ap (λ o. earlier (past limit.Depth (a ∷ m.depth)) (option_map (λ b. (limit.Nodes, b)) o)) (get_take 128 129 (a ∷ m.nodes) (omega arith)) in
+    f
+    ∙ ap (λ xs. earlier (past limit.Depth xs) (past limit.Nodes nodes)) d
+    ∙ ap (λ xs. earlier (past limit.Depth (take 33 (a ∷ m.depth))) (past limit.Nodes xs)) n
+    ∙ ap (λ o. earlier (option_map (λ b. (limit.Depth, b)) o) (past limit.Nodes (take 129 (a ∷ m.nodes)))) (get_take 32 33 (a ∷ m.depth) (omega arith))
+    ∙ ap (λ o. earlier (past limit.Depth (a ∷ m.depth)) (option_map (λ b. (limit.Nodes, b)) o)) (get_take 128 129 (a ∷ m.nodes) (omega arith)) in
     λ i. record {
       functions = (sym h i).functions;
       statements = (sym h i).statements;
       blocks = (sym h i).blocks;
       nodes = n i;
       depth = d i;
-      fault = seen i
+      fault = seen i;
     }
 
 -- the stack after a push, the last part first

@@ -1,4 +1,6 @@
 pub mod Limits
+pub mod Levels
+pub mod LimitsExamples
 pub mod Measure
 pub mod Stacks
 pub mod Reduce

@@ -4,7 +4,7 @@
 -- the `sizeof` or the cast that it stands in, and arguments of a call are expressions of their own.
 --
 -- A limit is passed at the first token of the first node, in preorder, that brings its count over the number.
-use Rattle.std.specs.Prelude.{ℕ, Bool, true, false, if◌then◌else◌, ◌||◌, ◌&&◌, nat_lt, nat_le, nat_eq, List, [], ◌∷◌, ◌++◌, Option, Some, None, length, drop, slice_get, unwrap_or}
+use Rattle.std.specs.Prelude.{ℕ, Bool, if◌then◌else◌, ◌||◌, ◌&&◌, nat_lt, nat_le, nat_eq, List, [], ◌∷◌, ◌++◌, Option, Some, None, length, drop, slice_get, unwrap_or}
 use Rattle.std.specs.Option.{option_map}
 use Rattle.c_grammar.specs.Tree as tree
 use Rattle.c_grammar.specs.Tree.{Exp, TypeName, Words, Word, Members, Declarators, Declarator, Dimensions, Enumerators, Enumerator, Call, Rhs, Simple, Init, Local, Label, Start, Stmt, Items, Groups, Bracket, Param, Top, External}
@@ -121,7 +121,7 @@ beside m n =
       blocks = leftmost m.blocks n.blocks;
       nodes = m.nodes ++ n.nodes;
       depth = leftmost m.depth n.depth;
-      fault = earlier m.fault n.fault
+      fault = earlier m.fault n.fault;
     }
 
 -- parts side by side
@@ -135,7 +135,7 @@ node a parts =
     record parts {
       nodes = a ∷ parts.nodes;
       depth = a ∷ parts.depth;
-      fault = earlier (past limit.Depth (a ∷ parts.depth)) (past limit.Nodes (a ∷ parts.nodes))
+      fault = earlier (past limit.Depth (a ∷ parts.depth)) (past limit.Nodes (a ∷ parts.nodes));
     }
 
 -- expressions and types that stand in no other expression
@@ -159,7 +159,7 @@ function a parts =
       blocks = [];
       nodes = [];
       depth = [];
-      fault = earlier (past limit.Statements parts.statements) (earlier (past limit.Blocks parts.blocks) parts.fault)
+      fault = earlier (past limit.Statements parts.statements) (earlier (past limit.Blocks parts.blocks) parts.fault);
     }
 
 -- the measure of each tree

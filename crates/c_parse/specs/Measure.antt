@@ -2,8 +2,7 @@
 -- first, each with the offset where it begins and its measure. Where a production ends, its parts are taken from there, put side
 -- by side, and what the production makes of them is put there. `keep` is what is kept of each measure that is made: all of it,
 -- or the offsets up to the first one past the limit.
-use Rattle.std.specs.Prelude.{ℕ, suc, zero, ◌+◌, Bool, true, false, List, [], ◌∷◌, Option, Some, None, take, unwrap_or, fold}
-use Rattle.std.specs.Option.{option_map}
+use Rattle.std.specs.Prelude.{ℕ, suc, zero, ◌+◌, true, false, List, [], ◌∷◌, Option, Some, None, take, unwrap_or, fold}
 use Rattle.c_lex.specs.Lexeme.{Lexeme}
 use Rattle.c_grammar.specs.declared.symbol.Production.{Production}
 use Rattle.c_grammar.specs.declared.symbol.Production.TheVariants as ends
@@ -26,7 +25,7 @@ measure_of m =
       blocks = m.blocks.items;
       nodes = m.nodes.items;
       depth = m.depth.items;
-      fault = m.fault
+      fault = m.fault;
     }
 
 -- a part of a text: the offset of its first token, where that can be the first one of a node, and its measure
@@ -49,7 +48,7 @@ cut m =
       blocks = cut_at limit.Blocks m.blocks;
       nodes = cut_at limit.Nodes m.nodes;
       depth = cut_at limit.Depth m.depth;
-      fault = m.fault
+      fault = m.fault;
     }
 
 abbrev pub cut_part : Part → Part

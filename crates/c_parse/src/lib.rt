@@ -3,7 +3,7 @@
 
 mod build;
 mod fault;
-mod limits;
+pub mod limits;
 mod parser;
 
 pub use c_grammar::operator::{BinaryOperator, StepOperator, UnaryOperator};

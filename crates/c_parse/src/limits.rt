@@ -8,6 +8,7 @@ ghost use Rattle.c_grammar.specs.Script.{replay};
 ghost use Rattle.c_parse.specs.Limits as limits;
 ghost use Rattle.c_parse.specs.Measure as machine;
 
+pub mod laws;
 mod measure;
 mod offsets;
 mod part;
@@ -108,3 +109,6 @@ pub(crate) fn first_limit(
 {
     Ok(limit_of(measured(alloc, steps, tokens)?))
 }
+
+#[cfg(test)]
+mod tests;

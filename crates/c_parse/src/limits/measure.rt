@@ -1,6 +1,6 @@
 //! What counts in a part of a text.
 
-ghost use Rattle.std.specs.Prelude.{◌≡◌, ◌∷◌, IfOk, Some, option_map};
+ghost use Rattle.std.specs.Prelude.{◌≡◌, IfOk};
 ghost use Rattle.c_parse.specs.Limits as limits;
 ghost use Rattle.c_parse.specs.Measure as machine;
 
@@ -102,7 +102,10 @@ impl Measure {
     {
         self.nodes = before(at, self.nodes, Limit::Nodes)?;
         self.depth = before(at, self.depth, Limit::Depth)?;
-        self.fault = earlier(past(Limit::Depth, &self.depth), past(Limit::Nodes, &self.nodes));
+        self.fault = earlier(
+            past(Limit::Depth, &self.depth),
+            past(Limit::Nodes, &self.nodes),
+        );
         Ok(self)
     }
 

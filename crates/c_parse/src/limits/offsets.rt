@@ -1,6 +1,6 @@
 //! The offsets of nodes in preorder, up to the first one past a limit.
 
-ghost use Rattle.std.specs.Prelude.{◌≡◌, ◌∷◌, ◌++◌, ◌+◌, ℕ, IfOk, List, take};
+ghost use Rattle.std.specs.Prelude.{◌≡◌, ◌∷◌, ◌++◌, ◌+◌, IfOk, take};
 ghost use Rattle.c_parse.specs.Limits as limits;
 
 use super::Limit;

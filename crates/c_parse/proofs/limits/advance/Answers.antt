@@ -1,16 +1,12 @@
-use Rattle.std.proofs.Common.{◌≡◌, ◌∙◌, List, [], ◌∷◌, length, refl, ap, map, reverse, arith}
-use Rattle.c_lex.specs.declared.token.Token.{Token}
+use Rattle.std.proofs.Common.{◌∙◌, ◌∷◌, ap, map, reverse}
+use Rattle.std.proofs.lemmas.List.{nil_from_length}
 use Rattle.c_lex.specs.Lexeme.{lexeme_of, lexemes_of}
 use Rattle.c_parse.specs.Measure as machine
 use Rattle.c_parse.proofs.LimitsSteps.{stack_pushed, no_token, a_token, a_production}
 use Rattle.c_parse.proofs.limits.advance.Goals as goal
 
-is_empty : (ts : List Token) → length ts ≡ 0 → ts ≡ []
-is_empty [] h = refl
-is_empty (t ∷ ts) h = absurd (omega arith)
-
 pub returns-in_default : goal.returns-in_default
-returns-in_default c = no_token c.args.step (lexemes_of c.args.tokens.now) _ c.in-Shift.is (ap lexemes_of (is_empty c.args.tokens.now c.in_default.ensures.cases))
+returns-in_default c = no_token c.args.step (lexemes_of c.args.tokens.now) _ c.in-Shift.is (ap lexemes_of (nil_from_length c.args.tokens.now c.in_default.ensures.cases))
 
 pub returns-in_ok-push-in-Shift : goal.returns-in_ok-push-in-Shift
 returns-in_ok-push-in-Shift c =

@@ -1,4 +1,4 @@
-use Rattle.std.proofs.Common.{◌≡◌, List, [], map, reverse, take, fold}
+use Rattle.std.proofs.Common.{◌≡◌, [], map, reverse, take, fold}
 use Rattle.c_lex.specs.Lexeme.{lexemes_of}
 use Rattle.c_parse.specs.Measure as machine
 use Rattle.c_parse.proofs.limits.measured.Given as goal
