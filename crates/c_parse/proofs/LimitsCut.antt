@@ -6,7 +6,8 @@ use Rattle.c_parse.specs.declared.limits.Limit.TheVariants as limit
 use Rattle.c_parse.specs.declared.limits.role.Role.{Role}
 use Rattle.c_parse.specs.declared.limits.role.Role.TheVariants as roles
 use Rattle.c_parse.specs.Limits.{Measure, beside, node, statement, local, function, earlier}
-use Rattle.c_parse.specs.Measure.{Part, cut, cut_part, joined, gathered, made, pushed, role_of, arity, empty, reduced}
+use Rattle.c_parse.specs.Roles.{arity, role_of}
+use Rattle.c_parse.specs.Measure.{Part, cut, cut_part, joined, gathered, made, pushed, empty, reduced}
 use Rattle.c_parse.proofs.LimitsLists.{take_take, take_append, take_leftmost, get_take}
 use Rattle.c_parse.proofs.LimitsParts.{whole}
 

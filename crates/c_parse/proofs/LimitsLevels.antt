@@ -6,6 +6,7 @@ use Rattle.std.specs.List.{slice_get}
 use Rattle.std.specs.Prelude.{nat_eq}
 use Rattle.c_grammar.specs.Tree as tree
 use Rattle.c_grammar.specs.Tree.{Exp, TypeName, Words, Word, Members, Declarators, Declarator, Dimensions, Enumerators, Enumerator}
+use Rattle.c_parse.specs.FirstToken.{first_of}
 use Rattle.c_parse.specs.Limits as limits
 use Rattle.c_parse.specs.Limits.{Measure, leftmost, nothing, beside, all, node}
 use Rattle.c_parse.specs.Measure.{or_else}
@@ -105,15 +106,15 @@ mutual
   exp_counts l (tree.Number a value decimal unsigned longs) = above a (none (suc l))
   exp_counts l (tree.Character a value) = above a (none (suc l))
   exp_counts l (tree.Parenthesis a e) = above a (one (exp_counts (suc l) e))
-  exp_counts l (tree.Index e i) = above (limits.first_of e) (more (exp_counts (suc l) e) (one (exp_counts (suc l) i)))
-  exp_counts l (tree.Member e n) = above (limits.first_of e) (one (exp_counts (suc l) e))
-  exp_counts l (tree.PointerMember e n) = above (limits.first_of e) (one (exp_counts (suc l) e))
+  exp_counts l (tree.Index e i) = above (first_of e) (more (exp_counts (suc l) e) (one (exp_counts (suc l) i)))
+  exp_counts l (tree.Member e n) = above (first_of e) (one (exp_counts (suc l) e))
+  exp_counts l (tree.PointerMember e n) = above (first_of e) (one (exp_counts (suc l) e))
   exp_counts l (tree.Unary a o e) = above a (one (exp_counts (suc l) e))
   exp_counts l (tree.SizeofValue a e) = above a (one (exp_counts (suc l) e))
   exp_counts l (tree.SizeofType a t) = above a (one (type_counts (suc l) t))
   exp_counts l (tree.Cast a t e) = above a (more (type_counts (suc l) t) (one (exp_counts (suc l) e)))
-  exp_counts l (tree.Binary o x y) = above (limits.first_of x) (more (exp_counts (suc l) x) (one (exp_counts (suc l) y)))
-  exp_counts l (tree.Conditional c x y) = above (limits.first_of c) (more (exp_counts (suc l) c) (more (exp_counts (suc l) x) (one (exp_counts (suc l) y))))
+  exp_counts l (tree.Binary o x y) = above (first_of x) (more (exp_counts (suc l) x) (one (exp_counts (suc l) y)))
+  exp_counts l (tree.Conditional c x y) = above (first_of c) (more (exp_counts (suc l) c) (more (exp_counts (suc l) x) (one (exp_counts (suc l) y))))
 
   type_counts : (l : ℕ) (t : TypeName) → Counts l (limits.type t) (in_type (suc l) t)
   type_counts l (tree.Typed ws stars) = one (words_counts l ws)

@@ -9,6 +9,7 @@ use Rattle.c_grammar.specs.Tree as tree
 use Rattle.c_grammar.specs.Tree.{Exp, TypeName, Words, Word, Members, Declarators, Declarator, Dimensions, Enumerators, Enumerator, Call, Rhs, Simple, Init, Local, Label, Start, Stmt, Items, Groups, Bracket, Param, Top, External}
 use Rattle.c_grammar.specs.Spells as spells
 use Rattle.c_grammar.specs.Build.{Value, Tok, OfExp, OfType, OfWord, OfWords, OfMembers, OfDeclarators, OfDeclarator, OfDimensions, OfStars, OfEnumerators, OfEnumerator, OfExps, OfCall, OfRhs, OfSimple, OfInit, OfInits, OfLocal, OfLabel, OfLabels, OfStart, OfTest, OfStep, OfStmt, OfItems, OfGroups, OfBracket, OfParamName, OfParam, OfParams, OfParameters, OfTop, OfTops, OfExternal, OfUnit, constant, act}
+use Rattle.c_parse.specs.FirstToken.{first_of, first_of_call, first_of_declarator, first_of_simple, first_of_stars, first_of_word, first_of_words}
 use Rattle.c_parse.specs.Limits as limits
 use Rattle.c_parse.specs.Limits.{Measure, nothing}
 use Rattle.c_parse.specs.Measure.{Part, token, reduced}
@@ -22,21 +23,21 @@ at a m = record { first = Some a; measure = m }
 -- the part of a value
 abbrev pub part : Value → Part
 part (Tok t) = token t.from
-part (OfExp e) = at (limits.first_of e) (limits.exp e)
+part (OfExp e) = at (first_of e) (limits.exp e)
 part (OfType t) = plain (limits.type t)
-part (OfWord w) = at (limits.first_of_word w) (limits.word w)
-part (OfWords ws) = record { first = limits.first_of_words ws; measure = limits.words ws }
+part (OfWord w) = at (first_of_word w) (limits.word w)
+part (OfWords ws) = record { first = first_of_words ws; measure = limits.words ws }
 part (OfMembers ms) = plain (limits.members ms)
 part (OfDeclarators ds) = plain (limits.declarators ds)
-part (OfDeclarator d) = at (limits.first_of_declarator d) (limits.declarator d)
+part (OfDeclarator d) = at (first_of_declarator d) (limits.declarator d)
 part (OfDimensions dims) = plain (limits.dimensions dims)
-part (OfStars stars) = record { first = limits.first_of_stars stars; measure = nothing }
+part (OfStars stars) = record { first = first_of_stars stars; measure = nothing }
 part (OfEnumerators es) = plain (limits.enumerators es)
 part (OfEnumerator e) = plain (limits.enumerator e)
 part (OfExps es) = plain (limits.arguments es)
-part (OfCall c) = at (limits.first_of_call c) (limits.call c)
+part (OfCall c) = at (first_of_call c) (limits.call c)
 part (OfRhs r) = plain (limits.rhs r)
-part (OfSimple s) = at (limits.first_of_simple s) (limits.simple s)
+part (OfSimple s) = at (first_of_simple s) (limits.simple s)
 part (OfInit r) = plain (limits.initial r)
 part (OfInits is) = plain (limits.inits is)
 part (OfLocal l) = plain (limits.locals l)

@@ -4,6 +4,7 @@ use Rattle.std.proofs.Common.{ℕ, ◌≡◌, ◌∙◌, ◌+◌, ◌++◌, List
 use Rattle.std.specs.List.{slice_get}
 use Rattle.c_grammar.specs.Tree as tree
 use Rattle.c_grammar.specs.Tree.{Exp, Call, Rhs, Simple, Init, Local, Label, Start, Stmt, Items, Groups}
+use Rattle.c_parse.specs.FirstToken.{first_of_declarator, first_of_simple}
 use Rattle.c_parse.specs.Limits as limits
 use Rattle.c_parse.specs.Limits.{Measure, nothing, beside, all, outermost}
 use Rattle.c_parse.specs.Levels.{first_on, in_inits, in_local, in_start, statements_of, in_items, in_groups}
@@ -73,7 +74,7 @@ initial_stands l (Some r) = one (rhs_stands l r)
 
 inits_stand : (l : ℕ) (is : List Init) → Stands l (limits.inits is) (in_inits is)
 inits_stand l [] = none l
-inits_stand l (tree.Initialized d r ∷ is) = place (limits.first_of_declarator d) (more (quiet l (declarator_counts 0 d)) (more (initial_stands l r) (one (inits_stand l is))))
+inits_stand l (tree.Initialized d r ∷ is) = place (first_of_declarator d) (more (quiet l (declarator_counts 0 d)) (more (initial_stands l r) (one (inits_stand l is))))
 
 locals_stand : (l : ℕ) (d : Local) → Stands l (limits.locals d) (in_local d)
 locals_stand l (tree.Locals ws is) = outer (more (quiet l (words_counts 0 ws)) (one (inits_stand l is)))
@@ -103,7 +104,7 @@ mutual
   stmt_stands : (l : ℕ) (s : Stmt) → Stands l (limits.stmt s) (statements_of (suc l) s)
   stmt_stands l (tree.Empty a) = above a (none (suc l))
   stmt_stands l (tree.Block a is) = above a (one (items_stand (suc l) is))
-  stmt_stands l (tree.Simply s) = above (limits.first_of_simple s) (one (simple_stands (suc l) s))
+  stmt_stands l (tree.Simply s) = above (first_of_simple s) (one (simple_stands (suc l) s))
   stmt_stands l (tree.Break a) = above a (none (suc l))
   stmt_stands l (tree.Continue a) = above a (none (suc l))
   stmt_stands l (tree.Return a r) = above a (initial_stands (suc l) r)

@@ -9,7 +9,8 @@ use Rattle.c_grammar.specs.declared.script.Step.TheVariants.{Shift, Reduce}
 use Rattle.c_parse.specs.declared.limits.Limit.TheVariants as limit
 use Rattle.c_parse.specs.declared.limits.part.Part as code
 use Rattle.c_parse.specs.Limits.{Fault, Measure, node, past, earlier}
-use Rattle.c_parse.specs.Measure.{Part, part_of, cut, cut_part, joined, gathered, made, pushed, role_of, arity, empty, token, reduced, advanced}
+use Rattle.c_parse.specs.Roles.{arity, role_of}
+use Rattle.c_parse.specs.Measure.{Part, part_of, cut, cut_part, joined, gathered, made, pushed, empty, token, reduced, advanced}
 use Rattle.c_parse.proofs.LimitsLists.{get_take}
 use Rattle.c_parse.proofs.LimitsCut.{is_cut_gathered}
 

@@ -3,7 +3,7 @@
 use Rattle.std.specs.Prelude.{ℕ, suc, List, [], ◌∷◌, ◌++◌, Option, Some, None, nat_eq, if◌then◌else◌}
 use Rattle.c_grammar.specs.Tree as tree
 use Rattle.c_grammar.specs.Tree.{Exp, TypeName, Words, Word, Members, Declarators, Declarator, Dimensions, Enumerators, Enumerator, Init, Local, Start, Stmt, Items, Groups}
-use Rattle.c_parse.specs.Limits.{first_of, first_of_simple, first_of_declarator}
+use Rattle.c_parse.specs.FirstToken.{first_of, first_of_simple, first_of_declarator}
 
 -- the first node on a level
 abbrev pub first_on : ℕ → List (ℕ × ℕ) → Option ℕ

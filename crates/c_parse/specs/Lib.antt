@@ -1,6 +1,8 @@
+pub mod FirstToken
 pub mod Limits
 pub mod Levels
 pub mod LimitsExamples
+pub mod Roles
 pub mod Measure
 pub mod Stacks
 pub mod Reduce

@@ -4,61 +4,13 @@
 -- the `sizeof` or the cast that it stands in, and arguments of a call are expressions of their own.
 --
 -- A limit is passed at the first token of the first node, in preorder, that brings its count over the number.
-use Rattle.std.specs.Prelude.{ℕ, Bool, if◌then◌else◌, ◌||◌, ◌&&◌, nat_lt, nat_le, nat_eq, List, [], ◌∷◌, ◌++◌, Option, Some, None, length, drop, slice_get, unwrap_or}
+use Rattle.std.specs.Prelude.{ℕ, Bool, if◌then◌else◌, ◌||◌, ◌&&◌, nat_lt, nat_le, nat_eq, List, [], ◌∷◌, ◌++◌, Option, Some, None, length, drop, slice_get}
 use Rattle.std.specs.Option.{option_map}
 use Rattle.c_grammar.specs.Tree as tree
 use Rattle.c_grammar.specs.Tree.{Exp, TypeName, Words, Word, Members, Declarators, Declarator, Dimensions, Enumerators, Enumerator, Call, Rhs, Simple, Init, Local, Label, Start, Stmt, Items, Groups, Bracket, Param, Top, External}
+use Rattle.c_parse.specs.FirstToken.{first_of, first_of_simple, first_of_declarator, first_of_function}
 use Rattle.c_parse.specs.declared.limits.Limit.{Limit}
 use Rattle.c_parse.specs.declared.limits.Limit.TheVariants as limit
-
--- where a tree begins: the offset of its first token
-
-abbrev pub first_of : Exp → ℕ
-first_of (tree.Variable a n) = a
-first_of (tree.Number a value decimal unsigned longs) = a
-first_of (tree.Character a value) = a
-first_of (tree.Parenthesis a e) = a
-first_of (tree.Index e i) = first_of e
-first_of (tree.Member e n) = first_of e
-first_of (tree.PointerMember e n) = first_of e
-first_of (tree.Unary a o e) = a
-first_of (tree.SizeofValue a e) = a
-first_of (tree.SizeofType a t) = a
-first_of (tree.Cast a t e) = a
-first_of (tree.Binary o x y) = first_of x
-first_of (tree.Conditional c x y) = first_of c
-
-abbrev pub first_of_call : Call → ℕ
-first_of_call (tree.Calls a n es) = a
-
-abbrev pub first_of_simple : Simple → ℕ
-first_of_simple (tree.Assign e r) = first_of e
-first_of_simple (tree.Update o e x) = first_of e
-first_of_simple (tree.After o e) = first_of e
-first_of_simple (tree.Before a o e) = a
-first_of_simple (tree.Invoke c) = first_of_call c
-
-abbrev pub first_of_stars : List ℕ → Option ℕ
-first_of_stars [] = None
-first_of_stars (a ∷ stars) = Some a
-
-abbrev pub first_of_declarator : Declarator → ℕ
-first_of_declarator (tree.Declare stars a n dims) = unwrap_or (first_of_stars stars) a
-
-abbrev pub first_of_word : Word → ℕ
-first_of_word (tree.Reserved a k) = a
-first_of_word (tree.Named a n) = a
-first_of_word (tree.StructTag a n) = a
-first_of_word (tree.StructBody a n ms) = a
-first_of_word (tree.EnumTag a n) = a
-first_of_word (tree.EnumBody a n es) = a
-
-abbrev pub first_of_words : Words → Option ℕ
-first_of_words tree.NoWords = None
-first_of_words (tree.MoreWords w ws) = Some (first_of_word w)
-
-abbrev pub first_of_function : Words → Declarator → ℕ
-first_of_function ws d = unwrap_or (first_of_words ws) (first_of_declarator d)
 
 -- how many of its kind a limit allows
 abbrev pub most : Limit → ℕ

@@ -1,7 +1,7 @@
 //! What a production does to the measures of its parts.
 
 ghost use Rattle.std.specs.Prelude.{◌≡◌};
-ghost use Rattle.c_parse.specs.Measure as machine;
+ghost use Rattle.c_parse.specs.Roles as roles;
 
 use c_grammar::Production;
 
@@ -30,7 +30,7 @@ pub(super) enum Role {
 
 /// The role of a production.
 pub(super) fn role_of(production: Production) -> Role
-    ensures { result ≡ machine.role_of production }
+    ensures { result ≡ roles.role_of production }
 {
     match production {
         Production::StarConst => Role::Nothing,
@@ -142,7 +142,7 @@ pub(super) fn role_of(production: Production) -> Role
 
 /// How many parts a production has.
 pub(super) fn arity(production: Production) -> usize
-    ensures { result ≡ machine.arity production }
+    ensures { result ≡ roles.arity production }
 {
     match production {
         Production::NoWords
