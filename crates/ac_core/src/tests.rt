@@ -58,7 +58,7 @@ fn run(
 }
 
 /// Texts, as pieces that are repeated, and how their answers begin.
-static ROWS: [(&[(&str, usize)], Status, &str); 70] = [
+static ROWS: [(&[(&str, usize)], Status, &str); 77] = [
     // the class that is shown
     (
         &[("unsigned f(unsigned a){return a;}", 1)],
@@ -392,6 +392,47 @@ static ROWS: [(&[(&str, usize)], Status, &str); 70] = [
             ("1", 1),
             (")", 31),
             ("];})];", 1),
+        ],
+        Status::Limit,
+        "limit: depth\n",
+    ),
+    (
+        &[("void f(void){switch(a){case 1:", 1), ("{", 31), ("}", 33)],
+        Status::NotYet,
+        "not yet\n",
+    ),
+    (
+        &[("void f(void){switch(a){case 1:", 1), ("{", 32), ("}", 34)],
+        Status::Limit,
+        "limit: blocks\n",
+    ),
+    (
+        &[("int a=", 1), ("!", 31), ("x;", 1)],
+        Status::NotYet,
+        "not yet\n",
+    ),
+    (
+        &[("int a=", 1), ("!", 32), ("x;", 1)],
+        Status::Limit,
+        "limit: depth\n",
+    ),
+    (
+        &[("void g(void){f(x", 1), ("+x", 31), (");}", 1)],
+        Status::NotYet,
+        "not yet\n",
+    ),
+    (
+        &[("void g(void){f(x", 1), ("+x", 32), (");}", 1)],
+        Status::Limit,
+        "limit: depth\n",
+    ),
+    (
+        &[
+            ("void f(void){a=x", 1),
+            ("+x", 32),
+            (";", 1),
+            ("{", 33),
+            ("}", 34),
         ],
         Status::Limit,
         "limit: depth\n",

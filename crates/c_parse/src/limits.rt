@@ -109,6 +109,3 @@ pub(crate) fn first_limit(
 {
     Ok(limit_of(measured(alloc, steps, tokens)?))
 }
-
-#[cfg(test)]
-mod tests;
