@@ -1,5 +1,5 @@
 -- What the end of a production makes of the stack of all values, it makes of a stack for each kind.
-use Rattle.std.proofs.Common.{ℕ, ◌≡◌, true, false, List, [], ◌∷◌, Option, Some, None, IfSome, refl}
+use Rattle.std.proofs.Common.{◌≡◌, true, false, List, ◌∷◌, Some, IfSome, refl}
 use Rattle.c_grammar.specs.declared.symbol.Production.{Production}
 use Rattle.c_grammar.specs.declared.symbol.Production.TheVariants as ends
 use Rattle.c_grammar.specs.Tree as tree

@@ -1,5 +1,5 @@
 -- The plain stacks of the parser's own.
-use Rattle.std.specs.Prelude.{◌≡◌, Result, Ok, Err, Option, Some, None, map, string_bytes}
+use Rattle.std.specs.Prelude.{◌≡◌, Result, Ok, Err, Some, None, map, string_bytes}
 use Rattle.std.specs.Option.{option_map}
 use Rattle.c_lex.specs.Lexeme.{lexeme_of}
 use Rattle.c_grammar.specs.declared.symbol.Production.{Production}
@@ -17,7 +17,7 @@ use Rattle.c_parse.specs.Reduce.{reduce}
 abbrev pub operands_of : Operands → plain.Operands
 operands_of s =
     record {
-      expressions = map exp_of s.expressions;
+      expressions = map (λ x. exp_of x.value) s.expressions;
       arguments = map (map exp_of) s.arguments;
       calls = map call_of s.calls;
       values = map rhs_of s.values;
@@ -27,15 +27,15 @@ operands_of s =
 abbrev pub types_of : Types → plain.Types
 types_of s =
     record {
-      words = map word_of s.words;
-      word_lists = map words_of s.word_lists;
+      words = map (λ x. word_of x.value) s.words;
+      word_lists = map (λ x. words_of x.value) s.word_lists;
       stars = s.stars;
-      dimensions = map dimensions_of s.dimensions;
-      declarators = map declarator_of s.declarators;
-      declarator_lists = map declarators_of s.declarator_lists;
-      members = map members_of s.members;
-      enumerators = map enumerator_of s.enumerators;
-      enumerator_lists = map enumerators_of s.enumerator_lists;
+      dimensions = map (λ x. dimensions_of x.value) s.dimensions;
+      declarators = map (λ x. declarator_of x.value) s.declarators;
+      declarator_lists = map (λ x. declarators_of x.value) s.declarator_lists;
+      members = map (λ x. members_of x.value) s.members;
+      enumerators = map (λ x. enumerator_of x.value) s.enumerators;
+      enumerator_lists = map (λ x. enumerators_of x.value) s.enumerator_lists;
     }
 
 abbrev pub statements_of : Statements → plain.Statements
@@ -49,9 +49,9 @@ statements_of s =
       labels = map label_of s.labels;
       label_lists = map (map label_of) s.label_lists;
       starts = map start_of s.starts;
-      statements = map stmt_of s.statements;
-      item_lists = map items_of s.item_lists;
-      groups = map groups_of s.groups;
+      statements = map (λ x. stmt_of x.value) s.statements;
+      item_lists = map (λ x. items_of x.value) s.item_lists;
+      groups = map (λ x. groups_of x.value) s.groups;
     }
 
 abbrev pub externals_of : Externals → plain.Externals

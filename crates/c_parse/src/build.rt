@@ -7,7 +7,7 @@ ghost use Rattle.c_grammar.specs.declared.script.Step.{Step as Steps};
 ghost use Rattle.c_grammar.specs.Build.{OfUnit};
 ghost use Rattle.c_grammar.specs.Script.{replay};
 ghost use Rattle.c_grammar.specs.Tree.{External};
-ghost use Rattle.c_grammar.specs.View.{decl_of, unit_of};
+ghost use Rattle.c_grammar.specs.View.{unit_of};
 ghost use Rattle.c_parse.specs.Reduce.{rebuild};
 ghost use Rattle.c_parse.specs.Stacks.{empty, put};
 ghost use Rattle.c_parse.specs.StacksOf.{stacks_of};

@@ -18,20 +18,19 @@ impl Stacks<'_> {
         let declarator = self.types.declarators.pop()?;
         self.types
             .declarator_lists
-            .push(Declarators::Last(Box::new(alloc, declarator)?))
+            .push(Box::new(alloc, Declarators::Last(declarator))?)
     }
 
     /// A declarator before others.
     pub(crate) fn more_declarators(&mut self, alloc: Global) -> Result<(), BuildFault>
         ensures { Reduces Production.MoreDeclarators (stacks_of self.old) result (stacks_of self.new) }
     {
-        let rest = self.types.declarator_lists.pop()?;
         self.tokens.pop()?;
+        let rest = self.types.declarator_lists.pop()?;
         let declarator = self.types.declarators.pop()?;
-        self.types.declarator_lists.push(Declarators::More(
-            Box::new(alloc, declarator)?,
-            Box::new(alloc, rest)?,
-        ))
+        self.types
+            .declarator_lists
+            .push(Box::new(alloc, Declarators::More(declarator, rest))?)
     }
 
     /// No more stars.
@@ -45,8 +44,8 @@ impl Stacks<'_> {
     pub(crate) fn more_stars(&mut self) -> Result<(), BuildFault>
         ensures { Reduces Production.MoreStars (stacks_of self.old) result (stacks_of self.new) }
     {
-        let mut stars = self.types.stars.pop()?;
         let at = self.tokens.pop()?.start;
+        let mut stars = self.types.stars.pop()?;
         stars.push(at)?;
         self.types.stars.push(stars)
     }
@@ -63,36 +62,40 @@ impl Stacks<'_> {
     pub(crate) fn declarator(&mut self, alloc: Global) -> Result<(), BuildFault>
         ensures { Reduces Production.Declarator (stacks_of self.old) result (stacks_of self.new) }
     {
-        let dimensions = self.types.dimensions.pop()?;
         let token = self.tokens.pop()?;
+        let dimensions = self.types.dimensions.pop()?;
         let stars = self.types.stars.pop()?;
-        self.types.declarators.push(Declarator::Declare(
-            stars.into_vec(),
-            token.start,
-            name_of(alloc, token)?,
-            Box::new(alloc, dimensions)?,
-        ))
+        self.types.declarators.push(Box::new(
+            alloc,
+            Declarator::Declare(
+                stars.into_vec(),
+                token.start,
+                name_of(alloc, token)?,
+                dimensions,
+            ),
+        )?)
     }
 
     /// No more array lengths.
-    pub(crate) fn no_dimensions(&mut self) -> Result<(), BuildFault>
+    pub(crate) fn no_dimensions(&mut self, alloc: Global) -> Result<(), BuildFault>
         ensures { Reduces Production.NoDimensions (stacks_of self.old) result (stacks_of self.new) }
     {
-        self.types.dimensions.push(Dimensions::None)
+        self.types
+            .dimensions
+            .push(Box::new(alloc, Dimensions::None)?)
     }
 
     /// An array length before others.
     pub(crate) fn more_dimensions(&mut self, alloc: Global) -> Result<(), BuildFault>
         ensures { Reduces Production.MoreDimensions (stacks_of self.old) result (stacks_of self.new) }
     {
+        self.tokens.pop()?;
+        self.tokens.pop()?;
         let rest = self.types.dimensions.pop()?;
-        self.tokens.pop()?;
         let length = self.operands.expressions.pop()?;
-        self.tokens.pop()?;
-        self.types.dimensions.push(Dimensions::More(
-            Box::new(alloc, length)?,
-            Box::new(alloc, rest)?,
-        ))
+        self.types
+            .dimensions
+            .push(Box::new(alloc, Dimensions::More(length, rest))?)
     }
 
     /// The locals of one declaration.
@@ -102,7 +105,7 @@ impl Stacks<'_> {
         let inits = self.statements.init_lists.pop()?;
         let words = self.types.word_lists.pop()?;
         self.statements.locals.push(Local {
-            words,
+            words: Box::into_inner(words),
             inits: inits.into_vec(),
         })
     }
@@ -111,8 +114,8 @@ impl Stacks<'_> {
     pub(crate) fn init(&mut self) -> Result<(), BuildFault>
         ensures { Reduces Production.Init (stacks_of self.old) result (stacks_of self.new) }
     {
-        let value = self.operands.values.pop()?;
         self.tokens.pop()?;
+        let value = self.operands.values.pop()?;
         self.statements.initials.push(Some(value))
     }
 
@@ -131,7 +134,10 @@ impl Stacks<'_> {
         let value = self.statements.initials.pop()?;
         let declarator = self.types.declarators.pop()?;
         let mut inits = Stack::new(alloc);
-        inits.push(Init { declarator, value })?;
+        inits.push(Init {
+            declarator: Box::into_inner(declarator),
+            value,
+        })?;
         self.statements.init_lists.push(inits)
     }
 
@@ -139,11 +145,14 @@ impl Stacks<'_> {
     pub(crate) fn more_inits(&mut self) -> Result<(), BuildFault>
         ensures { Reduces Production.MoreInits (stacks_of self.old) result (stacks_of self.new) }
     {
-        let mut inits = self.statements.init_lists.pop()?;
         self.tokens.pop()?;
+        let mut inits = self.statements.init_lists.pop()?;
         let value = self.statements.initials.pop()?;
         let declarator = self.types.declarators.pop()?;
-        inits.push(Init { declarator, value })?;
+        inits.push(Init {
+            declarator: Box::into_inner(declarator),
+            value,
+        })?;
         self.statements.init_lists.push(inits)
     }
 }

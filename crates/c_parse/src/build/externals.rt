@@ -15,28 +15,33 @@ impl Stacks<'_> {
         ensures { Reduces Production.Function (stacks_of self.old) result (stacks_of self.new) }
     {
         self.tokens.pop()?;
-        let body = self.statements.item_lists.pop()?;
         self.tokens.pop()?;
+        let body = self.statements.item_lists.pop()?;
         let Some(parameters) = self.externals.parameters.pop()? else {
             return Err(BuildFault::Missing);
         };
         let declarator = self.types.declarators.pop()?;
         let words = self.types.word_lists.pop()?;
-        self.externals
-            .externals
-            .push(Decl::Function(words, declarator, parameters, body))
+        self.externals.externals.push(Decl::Function(
+            Box::into_inner(words),
+            Box::into_inner(declarator),
+            parameters,
+            Box::into_inner(body),
+        ))
     }
 
     /// A declaration that begins with `typedef`.
     pub(crate) fn type_definition(&mut self) -> Result<(), BuildFault>
         ensures { Reduces (Production.Declaration true) (stacks_of self.old) result (stacks_of self.new) }
     {
+        let at = self.tokens.pop()?.start;
         let tops = self.externals.top_lists.pop()?;
         let words = self.types.word_lists.pop()?;
-        let at = self.tokens.pop()?.start;
-        self.externals
-            .externals
-            .push(Decl::Declaration(Some(at), words, tops.into_vec()))
+        self.externals.externals.push(Decl::Declaration(
+            Some(at),
+            Box::into_inner(words),
+            tops.into_vec(),
+        ))
     }
 
     /// Another declaration.
@@ -45,9 +50,11 @@ impl Stacks<'_> {
     {
         let tops = self.externals.top_lists.pop()?;
         let words = self.types.word_lists.pop()?;
-        self.externals
-            .externals
-            .push(Decl::Declaration(None, words, tops.into_vec()))
+        self.externals.externals.push(Decl::Declaration(
+            None,
+            Box::into_inner(words),
+            tops.into_vec(),
+        ))
     }
 
     /// A declaration without declarators.
@@ -73,8 +80,8 @@ impl Stacks<'_> {
     pub(crate) fn more_tops(&mut self) -> Result<(), BuildFault>
         ensures { Reduces Production.MoreTops (stacks_of self.old) result (stacks_of self.new) }
     {
-        let mut tops = self.externals.top_lists.pop()?;
         self.tokens.pop()?;
+        let mut tops = self.externals.top_lists.pop()?;
         let top = self.externals.tops.pop()?;
         tops.push(top)?;
         self.externals.top_lists.push(tops)
@@ -88,7 +95,7 @@ impl Stacks<'_> {
         let parameters = self.externals.parameters.pop()?;
         let declarator = self.types.declarators.pop()?;
         self.externals.tops.push(Top {
-            declarator,
+            declarator: Box::into_inner(declarator),
             parameters,
             value,
         })
@@ -105,9 +112,9 @@ impl Stacks<'_> {
     pub(crate) fn some_value(&mut self) -> Result<(), BuildFault>
         ensures { Reduces Production.SomeValue (stacks_of self.old) result (stacks_of self.new) }
     {
-        let value = self.operands.expressions.pop()?;
         self.tokens.pop()?;
-        self.operands.tests.push(Some(value))
+        let value = self.operands.expressions.pop()?;
+        self.operands.tests.push(Some(Box::into_inner(value)))
     }
 
     /// The end of a text.

@@ -15,9 +15,10 @@ impl Stacks<'_> {
         ensures { Reduces Production.Name (stacks_of self.old) result (stacks_of self.new) }
     {
         let token = self.tokens.pop()?;
-        self.operands
-            .expressions
-            .push(CExp::Name(token.start, name_of(alloc, token)?))
+        self.operands.expressions.push(Box::new(
+            alloc,
+            CExp::Name(token.start, name_of(alloc, token)?),
+        )?)
     }
 
     /// A number.
@@ -25,7 +26,9 @@ impl Stacks<'_> {
         ensures { Reduces Production.Number (stacks_of self.old) result (stacks_of self.new) }
     {
         let token = self.tokens.pop()?;
-        self.operands.expressions.push(constant(alloc, token)?)
+        self.operands
+            .expressions
+            .push(Box::new(alloc, constant(alloc, token)?)?)
     }
 
     /// A character constant.
@@ -33,7 +36,9 @@ impl Stacks<'_> {
         ensures { Reduces Production.Character (stacks_of self.old) result (stacks_of self.new) }
     {
         let token = self.tokens.pop()?;
-        self.operands.expressions.push(constant(alloc, token)?)
+        self.operands
+            .expressions
+            .push(Box::new(alloc, constant(alloc, token)?)?)
     }
 
     /// `(e)`
@@ -41,11 +46,11 @@ impl Stacks<'_> {
         ensures { Reduces Production.Parenthesis (stacks_of self.old) result (stacks_of self.new) }
     {
         self.tokens.pop()?;
-        let inner = self.operands.expressions.pop()?;
         let at = self.tokens.pop()?.start;
+        let inner = self.operands.expressions.pop()?;
         self.operands
             .expressions
-            .push(CExp::Parenthesis(at, Box::new(alloc, inner)?))
+            .push(Box::new(alloc, CExp::Parenthesis(at, inner))?)
     }
 
     /// `e[i]`
@@ -53,10 +58,12 @@ impl Stacks<'_> {
         ensures { Reduces Production.Index (stacks_of self.old) result (stacks_of self.new) }
     {
         self.tokens.pop()?;
-        let index = self.operands.expressions.pop()?;
         self.tokens.pop()?;
+        let index = self.operands.expressions.pop()?;
         let base = self.operands.expressions.pop()?;
-        self.operands.expressions.push(CExp::Index(Box::new(alloc, base)?, Box::new(alloc, index)?))
+        self.operands
+            .expressions
+            .push(Box::new(alloc, CExp::Index(base, index))?)
     }
 
     /// `e.x`
@@ -66,7 +73,7 @@ impl Stacks<'_> {
         let token = self.tokens.pop()?;
         self.tokens.pop()?;
         let base = self.operands.expressions.pop()?;
-        self.operands.expressions.push(CExp::Member(Box::new(alloc, base)?, name_of(alloc, token)?))
+        self.operands.expressions.push(Box::new(alloc, CExp::Member(base, name_of(alloc, token)?))?)
     }
 
     /// `e->x`
@@ -76,32 +83,32 @@ impl Stacks<'_> {
         let token = self.tokens.pop()?;
         self.tokens.pop()?;
         let base = self.operands.expressions.pop()?;
-        self.operands.expressions.push(CExp::PointerMember(
-            Box::new(alloc, base)?,
-            name_of(alloc, token)?,
-        ))
+        self.operands.expressions.push(Box::new(
+            alloc,
+            CExp::PointerMember(base, name_of(alloc, token)?),
+        )?)
     }
 
     /// An operator before its operand.
     pub(crate) fn unary(&mut self, alloc: Global, operator: UnaryOperator) -> Result<(), BuildFault>
         ensures { Reduces (Production.Unary operator) (stacks_of self.old) result (stacks_of self.new) }
     {
-        let operand = self.operands.expressions.pop()?;
         let at = self.tokens.pop()?.start;
+        let operand = self.operands.expressions.pop()?;
         self.operands
             .expressions
-            .push(CExp::Unary(at, operator, Box::new(alloc, operand)?))
+            .push(Box::new(alloc, CExp::Unary(at, operator, operand))?)
     }
 
     /// `sizeof e`
     pub(crate) fn sizeof_value(&mut self, alloc: Global) -> Result<(), BuildFault>
         ensures { Reduces Production.SizeofValue (stacks_of self.old) result (stacks_of self.new) }
     {
-        let operand = self.operands.expressions.pop()?;
         let at = self.tokens.pop()?.start;
+        let operand = self.operands.expressions.pop()?;
         self.operands
             .expressions
-            .push(CExp::SizeofValue(at, Box::new(alloc, operand)?))
+            .push(Box::new(alloc, CExp::SizeofValue(at, operand))?)
     }
 
     /// `sizeof(T)`
@@ -109,32 +116,29 @@ impl Stacks<'_> {
         ensures { Reduces Production.SizeofType (stacks_of self.old) result (stacks_of self.new) }
     {
         self.tokens.pop()?;
-        let stars = self.types.stars.pop()?;
-        let words = self.types.word_lists.pop()?;
         self.tokens.pop()?;
         let at = self.tokens.pop()?.start;
-        self.operands.expressions.push(CExp::SizeofType(
-            at,
-            Box::new(alloc, words)?,
-            stars.into_vec(),
-        ))
+        let stars = self.types.stars.pop()?;
+        let words = self.types.word_lists.pop()?;
+        self.operands.expressions.push(Box::new(
+            alloc,
+            CExp::SizeofType(at, words, stars.into_vec()),
+        )?)
     }
 
     /// `(T)e`
     pub(crate) fn cast(&mut self, alloc: Global) -> Result<(), BuildFault>
         ensures { Reduces Production.Cast (stacks_of self.old) result (stacks_of self.new) }
     {
-        let operand = self.operands.expressions.pop()?;
         self.tokens.pop()?;
+        let at = self.tokens.pop()?.start;
+        let operand = self.operands.expressions.pop()?;
         let stars = self.types.stars.pop()?;
         let words = self.types.word_lists.pop()?;
-        let at = self.tokens.pop()?.start;
-        self.operands.expressions.push(CExp::Cast(
-            at,
-            Box::new(alloc, words)?,
-            stars.into_vec(),
-            Box::new(alloc, operand)?,
-        ))
+        self.operands.expressions.push(Box::new(
+            alloc,
+            CExp::Cast(at, words, stars.into_vec(), operand),
+        )?)
     }
 
     /// An operator between operands.
@@ -145,30 +149,26 @@ impl Stacks<'_> {
     ) -> Result<(), BuildFault>
         ensures { Reduces (Production.Binary operator) (stacks_of self.old) result (stacks_of self.new) }
     {
-        let right = self.operands.expressions.pop()?;
         self.tokens.pop()?;
+        let right = self.operands.expressions.pop()?;
         let left = self.operands.expressions.pop()?;
-        self.operands.expressions.push(CExp::Binary(
-            operator,
-            Box::new(alloc, left)?,
-            Box::new(alloc, right)?,
-        ))
+        self.operands
+            .expressions
+            .push(Box::new(alloc, CExp::Binary(operator, left, right))?)
     }
 
     /// `c ? a : b`
     pub(crate) fn conditional(&mut self, alloc: Global) -> Result<(), BuildFault>
         ensures { Reduces Production.Conditional (stacks_of self.old) result (stacks_of self.new) }
     {
+        self.tokens.pop()?;
+        self.tokens.pop()?;
         let otherwise = self.operands.expressions.pop()?;
-        self.tokens.pop()?;
         let then = self.operands.expressions.pop()?;
-        self.tokens.pop()?;
         let test = self.operands.expressions.pop()?;
-        self.operands.expressions.push(CExp::Conditional(
-            Box::new(alloc, test)?,
-            Box::new(alloc, then)?,
-            Box::new(alloc, otherwise)?,
-        ))
+        self.operands
+            .expressions
+            .push(Box::new(alloc, CExp::Conditional(test, then, otherwise))?)
     }
 
     /// An expression on the right.
@@ -176,16 +176,18 @@ impl Stacks<'_> {
         ensures { Reduces Production.Value (stacks_of self.old) result (stacks_of self.new) }
     {
         let value = self.operands.expressions.pop()?;
-        self.operands.values.push(Rhs::Value(value))
+        self.operands
+            .values
+            .push(Rhs::Value(Box::into_inner(value)))
     }
 
     /// A call.
     pub(crate) fn call(&mut self) -> Result<(), BuildFault>
         ensures { Reduces Production.Call (stacks_of self.old) result (stacks_of self.new) }
     {
-        let arguments = self.operands.arguments.pop()?;
         self.tokens.pop()?;
-        let CExp::Name(at, name) = self.operands.expressions.pop()? else {
+        let arguments = self.operands.arguments.pop()?;
+        let CExp::Name(at, name) = Box::into_inner(self.operands.expressions.pop()?) else {
             return Err(BuildFault::Missing);
         };
         self.operands.calls.push(Call {
@@ -218,7 +220,7 @@ impl Stacks<'_> {
         self.tokens.pop()?;
         let argument = self.operands.expressions.pop()?;
         let mut arguments = Stack::new(alloc);
-        arguments.push(argument)?;
+        arguments.push(Box::into_inner(argument))?;
         self.operands.arguments.push(arguments)
     }
 
@@ -226,10 +228,10 @@ impl Stacks<'_> {
     pub(crate) fn more_arguments(&mut self) -> Result<(), BuildFault>
         ensures { Reduces Production.MoreArguments (stacks_of self.old) result (stacks_of self.new) }
     {
-        let mut arguments = self.operands.arguments.pop()?;
         self.tokens.pop()?;
+        let mut arguments = self.operands.arguments.pop()?;
         let argument = self.operands.expressions.pop()?;
-        arguments.push(argument)?;
+        arguments.push(Box::into_inner(argument))?;
         self.operands.arguments.push(arguments)
     }
 }

@@ -60,8 +60,8 @@ impl Stacks<'_> {
     pub(crate) fn some_parameters(&mut self, alloc: Global) -> Result<(), BuildFault>
         ensures { Reduces Production.SomeParameters (stacks_of self.old) result (stacks_of self.new) }
     {
-        let parameters = self.externals.param_lists.pop()?;
         self.tokens.pop()?;
+        let parameters = self.externals.param_lists.pop()?;
         self.externals
             .parameters
             .push(Some(without_void(alloc, parameters)))
@@ -90,8 +90,8 @@ impl Stacks<'_> {
     pub(crate) fn more_parameters(&mut self) -> Result<(), BuildFault>
         ensures { Reduces Production.MoreParameters (stacks_of self.old) result (stacks_of self.new) }
     {
-        let mut parameters = self.externals.param_lists.pop()?;
         self.tokens.pop()?;
+        let mut parameters = self.externals.param_lists.pop()?;
         let parameter = self.externals.params.pop()?;
         parameters.push(parameter)?;
         self.externals.param_lists.push(parameters)
@@ -106,7 +106,7 @@ impl Stacks<'_> {
         let stars = self.types.stars.pop()?;
         let words = self.types.word_lists.pop()?;
         self.externals.params.push(Param {
-            words,
+            words: Box::into_inner(words),
             stars: stars.into_vec(),
             name,
             bracket,
@@ -151,8 +151,10 @@ impl Stacks<'_> {
         ensures { Reduces Production.SizedBracket (stacks_of self.old) result (stacks_of self.new) }
     {
         self.tokens.pop()?;
-        let length = self.operands.expressions.pop()?;
         self.tokens.pop()?;
-        self.externals.brackets.push(Bracket::Length(length))
+        let length = self.operands.expressions.pop()?;
+        self.externals
+            .brackets
+            .push(Bracket::Length(Box::into_inner(length)))
     }
 }

@@ -12,22 +12,26 @@ impl Stacks<'_> {
     pub(crate) fn assign(&mut self) -> Result<(), BuildFault>
         ensures { Reduces Production.Assign (stacks_of self.old) result (stacks_of self.new) }
     {
-        let value = self.operands.values.pop()?;
         self.tokens.pop()?;
+        let value = self.operands.values.pop()?;
         let place = self.operands.expressions.pop()?;
-        self.statements.simples.push(Simple::Assign(place, value))
+        self.statements
+            .simples
+            .push(Simple::Assign(Box::into_inner(place), value))
     }
 
     /// `e += x` and its kin.
     pub(crate) fn update(&mut self, operator: BinaryOperator) -> Result<(), BuildFault>
         ensures { Reduces (Production.Update operator) (stacks_of self.old) result (stacks_of self.new) }
     {
-        let value = self.operands.expressions.pop()?;
         self.tokens.pop()?;
+        let value = self.operands.expressions.pop()?;
         let place = self.operands.expressions.pop()?;
-        self.statements
-            .simples
-            .push(Simple::Update(operator, place, value))
+        self.statements.simples.push(Simple::Update(
+            operator,
+            Box::into_inner(place),
+            Box::into_inner(value),
+        ))
     }
 
     /// `e++` and `e--`
@@ -36,18 +40,20 @@ impl Stacks<'_> {
     {
         self.tokens.pop()?;
         let place = self.operands.expressions.pop()?;
-        self.statements.simples.push(Simple::After(operator, place))
+        self.statements
+            .simples
+            .push(Simple::After(operator, Box::into_inner(place)))
     }
 
     /// `++e` and `--e`
     pub(crate) fn before(&mut self, operator: StepOperator) -> Result<(), BuildFault>
         ensures { Reduces (Production.Before operator) (stacks_of self.old) result (stacks_of self.new) }
     {
-        let place = self.operands.expressions.pop()?;
         let at = self.tokens.pop()?.start;
+        let place = self.operands.expressions.pop()?;
         self.statements
             .simples
-            .push(Simple::Before(at, operator, place))
+            .push(Simple::Before(at, operator, Box::into_inner(place)))
     }
 
     /// A call.
@@ -97,7 +103,7 @@ impl Stacks<'_> {
     {
         self.tokens.pop()?;
         let test = self.operands.expressions.pop()?;
-        self.operands.tests.push(Some(test))
+        self.operands.tests.push(Some(Box::into_inner(test)))
     }
 
     /// A `for` without a step.

@@ -15,7 +15,7 @@ use std::alloc::Global;
 /// Expressions and what is made of them. A list that is being built has its last element at the bottom.
 #[derive(Drop)]
 pub(crate) struct Operands {
-    pub(crate) expressions: Stack<CExp>,
+    pub(crate) expressions: Stack<Box<CExp>>,
     pub(crate) arguments: Stack<Stack<CExp>>,
     pub(crate) calls: Stack<Call>,
     pub(crate) values: Stack<Rhs>,
@@ -25,15 +25,15 @@ pub(crate) struct Operands {
 /// Types and declarators.
 #[derive(Drop)]
 pub(crate) struct Types {
-    pub(crate) words: Stack<Word>,
-    pub(crate) word_lists: Stack<Words>,
+    pub(crate) words: Stack<Box<Word>>,
+    pub(crate) word_lists: Stack<Box<Words>>,
     pub(crate) stars: Stack<Stack<usize>>,
-    pub(crate) dimensions: Stack<Dimensions>,
-    pub(crate) declarators: Stack<Declarator>,
-    pub(crate) declarator_lists: Stack<Declarators>,
-    pub(crate) members: Stack<Members>,
-    pub(crate) enumerators: Stack<Enumerator>,
-    pub(crate) enumerator_lists: Stack<Enumerators>,
+    pub(crate) dimensions: Stack<Box<Dimensions>>,
+    pub(crate) declarators: Stack<Box<Declarator>>,
+    pub(crate) declarator_lists: Stack<Box<Declarators>>,
+    pub(crate) members: Stack<Box<Members>>,
+    pub(crate) enumerators: Stack<Box<Enumerator>>,
+    pub(crate) enumerator_lists: Stack<Box<Enumerators>>,
 }
 
 /// Statements and their parts.
@@ -47,9 +47,9 @@ pub(crate) struct Statements {
     pub(crate) labels: Stack<Label>,
     pub(crate) label_lists: Stack<Stack<Label>>,
     pub(crate) starts: Stack<Start>,
-    pub(crate) statements: Stack<Stmt>,
-    pub(crate) item_lists: Stack<Items>,
-    pub(crate) groups: Stack<Groups>,
+    pub(crate) statements: Stack<Box<Stmt>>,
+    pub(crate) item_lists: Stack<Box<Items>>,
+    pub(crate) groups: Stack<Box<Groups>>,
 }
 
 /// What stands outside functions.
@@ -66,7 +66,7 @@ pub(crate) struct Externals {
     pub(crate) texts: Stack<Stack<Decl>>,
 }
 
-/// All stacks.
+/// All stacks. A tree that stands in a box within others is in its box already.
 #[derive(Drop)]
 pub(crate) struct Stacks<'a> {
     pub(crate) tokens: Stack<&'a Token>,

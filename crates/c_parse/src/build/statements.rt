@@ -10,11 +10,13 @@ use std::alloc::Global;
 
 impl Stacks<'_> {
     /// `;`
-    pub(crate) fn empty_statement(&mut self) -> Result<(), BuildFault>
+    pub(crate) fn empty_statement(&mut self, alloc: Global) -> Result<(), BuildFault>
         ensures { Reduces Production.Empty (stacks_of self.old) result (stacks_of self.new) }
     {
         let at = self.tokens.pop()?.start;
-        self.statements.statements.push(Stmt::Empty(at))
+        self.statements
+            .statements
+            .push(Box::new(alloc, Stmt::Empty(at))?)
     }
 
     /// A block.
@@ -22,97 +24,100 @@ impl Stacks<'_> {
         ensures { Reduces Production.Block (stacks_of self.old) result (stacks_of self.new) }
     {
         self.tokens.pop()?;
-        let items = self.statements.item_lists.pop()?;
         let at = self.tokens.pop()?.start;
+        let items = self.statements.item_lists.pop()?;
         self.statements
             .statements
-            .push(Stmt::Block(at, Box::new(alloc, items)?))
+            .push(Box::new(alloc, Stmt::Block(at, items))?)
     }
 
     /// `break;`
-    pub(crate) fn break_loop(&mut self) -> Result<(), BuildFault>
+    pub(crate) fn break_loop(&mut self, alloc: Global) -> Result<(), BuildFault>
         ensures { Reduces Production.Break (stacks_of self.old) result (stacks_of self.new) }
     {
         self.tokens.pop()?;
         let at = self.tokens.pop()?.start;
-        self.statements.statements.push(Stmt::Break(at))
+        self.statements
+            .statements
+            .push(Box::new(alloc, Stmt::Break(at))?)
     }
 
     /// `continue;`
-    pub(crate) fn continue_loop(&mut self) -> Result<(), BuildFault>
+    pub(crate) fn continue_loop(&mut self, alloc: Global) -> Result<(), BuildFault>
         ensures { Reduces Production.Continue (stacks_of self.old) result (stacks_of self.new) }
     {
         self.tokens.pop()?;
         let at = self.tokens.pop()?.start;
-        self.statements.statements.push(Stmt::Continue(at))
+        self.statements
+            .statements
+            .push(Box::new(alloc, Stmt::Continue(at))?)
     }
 
     /// `return;`
-    pub(crate) fn return_nothing(&mut self) -> Result<(), BuildFault>
+    pub(crate) fn return_nothing(&mut self, alloc: Global) -> Result<(), BuildFault>
         ensures { Reduces Production.Return (stacks_of self.old) result (stacks_of self.new) }
     {
         self.tokens.pop()?;
         let at = self.tokens.pop()?.start;
-        self.statements.statements.push(Stmt::Return(at, None))
+        self.statements
+            .statements
+            .push(Box::new(alloc, Stmt::Return(at, None))?)
     }
 
     /// `return r;`
-    pub(crate) fn return_value(&mut self) -> Result<(), BuildFault>
+    pub(crate) fn return_value(&mut self, alloc: Global) -> Result<(), BuildFault>
         ensures { Reduces Production.ReturnValue (stacks_of self.old) result (stacks_of self.new) }
     {
         self.tokens.pop()?;
-        let value = self.operands.values.pop()?;
         let at = self.tokens.pop()?.start;
+        let value = self.operands.values.pop()?;
         self.statements
             .statements
-            .push(Stmt::Return(at, Some(value)))
+            .push(Box::new(alloc, Stmt::Return(at, Some(value)))?)
     }
 
     /// An `if` without `else`.
     pub(crate) fn if_alone(&mut self, alloc: Global) -> Result<(), BuildFault>
         ensures { Reduces Production.If (stacks_of self.old) result (stacks_of self.new) }
     {
-        let then = self.statements.statements.pop()?;
         self.tokens.pop()?;
-        let test = self.operands.expressions.pop()?;
         self.tokens.pop()?;
         let at = self.tokens.pop()?.start;
-        self.statements
-            .statements
-            .push(Stmt::If(at, test, Box::new(alloc, then)?))
+        let then = self.statements.statements.pop()?;
+        let test = self.operands.expressions.pop()?;
+        self.statements.statements.push(Box::new(alloc, Stmt::If(at, Box::into_inner(test), then))?)
     }
 
     /// An `if` with `else`.
     pub(crate) fn if_else(&mut self, alloc: Global) -> Result<(), BuildFault>
         ensures { Reduces Production.IfElse (stacks_of self.old) result (stacks_of self.new) }
     {
-        let otherwise = self.statements.statements.pop()?;
         self.tokens.pop()?;
-        let then = self.statements.statements.pop()?;
         self.tokens.pop()?;
-        let test = self.operands.expressions.pop()?;
         self.tokens.pop()?;
         let at = self.tokens.pop()?.start;
-        self.statements.statements.push(Stmt::IfElse(
-            at,
-            test,
-            Box::new(alloc, then)?,
-            Box::new(alloc, otherwise)?,
-        ))
+        let otherwise = self.statements.statements.pop()?;
+        let then = self.statements.statements.pop()?;
+        let test = self.operands.expressions.pop()?;
+        self.statements.statements.push(Box::new(
+            alloc,
+            Stmt::IfElse(at, Box::into_inner(test), then, otherwise),
+        )?)
     }
 
     /// `while (e) s`
     pub(crate) fn while_loop(&mut self, alloc: Global) -> Result<(), BuildFault>
         ensures { Reduces Production.While (stacks_of self.old) result (stacks_of self.new) }
     {
-        let body = self.statements.statements.pop()?;
         self.tokens.pop()?;
-        let test = self.operands.expressions.pop()?;
         self.tokens.pop()?;
         let at = self.tokens.pop()?.start;
-        self.statements
-            .statements
-            .push(Stmt::While(at, test, Box::new(alloc, body)?))
+        let body = self.statements.statements.pop()?;
+        let test = self.operands.expressions.pop()?;
+        self.statements.statements.push(Box::new(
+            alloc,
+            Stmt::While(at, Box::into_inner(test), body),
+        )?)
     }
 
     /// `do s while (e);`
@@ -121,29 +126,27 @@ impl Stacks<'_> {
     {
         self.tokens.pop()?;
         self.tokens.pop()?;
-        let test = self.operands.expressions.pop()?;
         self.tokens.pop()?;
         self.tokens.pop()?;
-        let body = self.statements.statements.pop()?;
         let at = self.tokens.pop()?.start;
-        self.statements
-            .statements
-            .push(Stmt::Do(at, Box::new(alloc, body)?, test))
+        let test = self.operands.expressions.pop()?;
+        let body = self.statements.statements.pop()?;
+        self.statements.statements.push(Box::new(alloc, Stmt::Do(at, body, Box::into_inner(test)))?)
     }
 
     /// `for (start; test; step) s`
     pub(crate) fn for_loop(&mut self, alloc: Global) -> Result<(), BuildFault>
         ensures { Reduces Production.For (stacks_of self.old) result (stacks_of self.new) }
     {
+        self.tokens.pop()?;
+        let at = self.tokens.pop()?.start;
         let body = self.statements.statements.pop()?;
         let step = self.statements.steps.pop()?;
         let test = self.operands.tests.pop()?;
         let start = self.statements.starts.pop()?;
-        self.tokens.pop()?;
-        let at = self.tokens.pop()?.start;
         self.statements
             .statements
-            .push(Stmt::For(at, start, test, step, Box::new(alloc, body)?))
+            .push(Box::new(alloc, Stmt::For(at, start, test, step, body))?)
     }
 
     /// A switch.
@@ -151,31 +154,36 @@ impl Stacks<'_> {
         ensures { Reduces Production.Switch (stacks_of self.old) result (stacks_of self.new) }
     {
         self.tokens.pop()?;
-        let groups = self.statements.groups.pop()?;
         self.tokens.pop()?;
         self.tokens.pop()?;
-        let value = self.operands.expressions.pop()?;
         self.tokens.pop()?;
         let at = self.tokens.pop()?.start;
-        self.statements
-            .statements
-            .push(Stmt::Switch(at, value, Box::new(alloc, groups)?))
+        let groups = self.statements.groups.pop()?;
+        let value = self.operands.expressions.pop()?;
+        self.statements.statements.push(Box::new(
+            alloc,
+            Stmt::Switch(at, Box::into_inner(value), groups),
+        )?)
     }
 
     /// A simple statement.
-    pub(crate) fn simple(&mut self) -> Result<(), BuildFault>
+    pub(crate) fn simple(&mut self, alloc: Global) -> Result<(), BuildFault>
         ensures { Reduces Production.Simple (stacks_of self.old) result (stacks_of self.new) }
     {
         self.tokens.pop()?;
         let simple = self.statements.simples.pop()?;
-        self.statements.statements.push(Stmt::Simple(simple))
+        self.statements
+            .statements
+            .push(Box::new(alloc, Stmt::Simple(simple))?)
     }
 
     /// The end of a block.
-    pub(crate) fn no_items(&mut self) -> Result<(), BuildFault>
+    pub(crate) fn no_items(&mut self, alloc: Global) -> Result<(), BuildFault>
         ensures { Reduces Production.NoItems (stacks_of self.old) result (stacks_of self.new) }
     {
-        self.statements.item_lists.push(Items::None)
+        self.statements
+            .item_lists
+            .push(Box::new(alloc, Items::None)?)
     }
 
     /// Locals in a block.
@@ -186,7 +194,7 @@ impl Stacks<'_> {
         let local = self.statements.locals.pop()?;
         self.statements
             .item_lists
-            .push(Items::Local(local, Box::new(alloc, rest)?))
+            .push(Box::new(alloc, Items::Local(local, rest))?)
     }
 
     /// A statement in a block.
@@ -195,17 +203,16 @@ impl Stacks<'_> {
     {
         let rest = self.statements.item_lists.pop()?;
         let statement = self.statements.statements.pop()?;
-        self.statements.item_lists.push(Items::Statement(
-            Box::new(alloc, statement)?,
-            Box::new(alloc, rest)?,
-        ))
+        self.statements
+            .item_lists
+            .push(Box::new(alloc, Items::Statement(statement, rest))?)
     }
 
     /// The end of a switch.
-    pub(crate) fn no_groups(&mut self) -> Result<(), BuildFault>
+    pub(crate) fn no_groups(&mut self, alloc: Global) -> Result<(), BuildFault>
         ensures { Reduces Production.NoGroups (stacks_of self.old) result (stacks_of self.new) }
     {
-        self.statements.groups.push(Groups::None)
+        self.statements.groups.push(Box::new(alloc, Groups::None)?)
     }
 
     /// A group of a switch before others.
@@ -217,13 +224,10 @@ impl Stacks<'_> {
         let first = self.statements.statements.pop()?;
         let labels = self.statements.label_lists.pop()?;
         let label = self.statements.labels.pop()?;
-        self.statements.groups.push(Groups::More(
-            label,
-            labels.into_vec(),
-            Box::new(alloc, first)?,
-            Box::new(alloc, items)?,
-            Box::new(alloc, rest)?,
-        ))
+        self.statements.groups.push(Box::new(
+            alloc,
+            Groups::More(label, labels.into_vec(), first, items, rest),
+        )?)
     }
 
     /// `case e:`
@@ -231,9 +235,11 @@ impl Stacks<'_> {
         ensures { Reduces Production.Case (stacks_of self.old) result (stacks_of self.new) }
     {
         self.tokens.pop()?;
-        let value = self.operands.expressions.pop()?;
         let at = self.tokens.pop()?.start;
-        self.statements.labels.push(Label::Case(at, value))
+        let value = self.operands.expressions.pop()?;
+        self.statements
+            .labels
+            .push(Label::Case(at, Box::into_inner(value)))
     }
 
     /// `default:`

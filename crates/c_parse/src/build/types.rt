@@ -11,10 +11,10 @@ use std::alloc::Global;
 
 impl Stacks<'_> {
     /// The end of the words of a type.
-    pub(crate) fn no_words(&mut self) -> Result<(), BuildFault>
+    pub(crate) fn no_words(&mut self, alloc: Global) -> Result<(), BuildFault>
         ensures { Reduces Production.NoWords (stacks_of self.old) result (stacks_of self.new) }
     {
-        self.types.word_lists.push(Words::None)
+        self.types.word_lists.push(Box::new(alloc, Words::None)?)
     }
 
     /// A word before others.
@@ -23,17 +23,17 @@ impl Stacks<'_> {
     {
         let rest = self.types.word_lists.pop()?;
         let word = self.types.words.pop()?;
-        self.types.word_lists.push(Words::More(Box::new(alloc, word)?, Box::new(alloc, rest)?))
+        self.types
+            .word_lists
+            .push(Box::new(alloc, Words::More(word, rest))?)
     }
 
     /// A keyword.
-    pub(crate) fn reserved(&mut self) -> Result<(), BuildFault>
+    pub(crate) fn reserved(&mut self, alloc: Global) -> Result<(), BuildFault>
         ensures { Reduces Production.Reserved (stacks_of self.old) result (stacks_of self.new) }
     {
         let token = self.tokens.pop()?;
-        self.types
-            .words
-            .push(Word::Reserved(token.start, keyword_of(token)))
+        self.types.words.push(Box::new(alloc, Word::Reserved(token.start, keyword_of(token)))?)
     }
 
     /// A name that a typedef made.
@@ -41,9 +41,7 @@ impl Stacks<'_> {
         ensures { Reduces Production.Named (stacks_of self.old) result (stacks_of self.new) }
     {
         let token = self.tokens.pop()?;
-        self.types
-            .words
-            .push(Word::Named(token.start, name_of(alloc, token)?))
+        self.types.words.push(Box::new(alloc, Word::Named(token.start, name_of(alloc, token)?))?)
     }
 
     /// A struct by its tag.
@@ -52,36 +50,33 @@ impl Stacks<'_> {
     {
         let token = self.tokens.pop()?;
         let at = self.tokens.pop()?.start;
-        self.types
-            .words
-            .push(Word::StructTag(at, name_of(alloc, token)?))
+        self.types.words.push(Box::new(alloc, Word::StructTag(at, name_of(alloc, token)?))?)
     }
 
     /// A struct with its members.
     pub(crate) fn struct_body(&mut self, alloc: Global) -> Result<(), BuildFault>
         ensures { Reduces Production.StructBody (stacks_of self.old) result (stacks_of self.new) }
     {
-        let members = self.types.members.pop()?;
         self.tokens.pop()?;
         let at = self.tokens.pop()?.start;
+        let members = self.types.members.pop()?;
         self.types
             .words
-            .push(Word::StructBody(at, None, Box::new(alloc, members)?))
+            .push(Box::new(alloc, Word::StructBody(at, None, members))?)
     }
 
     /// A struct with its tag and members.
     pub(crate) fn tagged_struct(&mut self, alloc: Global) -> Result<(), BuildFault>
         ensures { Reduces Production.TaggedStruct (stacks_of self.old) result (stacks_of self.new) }
     {
-        let members = self.types.members.pop()?;
         self.tokens.pop()?;
         let token = self.tokens.pop()?;
         let at = self.tokens.pop()?.start;
-        self.types.words.push(Word::StructBody(
-            at,
-            Some(name_of(alloc, token)?),
-            Box::new(alloc, members)?,
-        ))
+        let members = self.types.members.pop()?;
+        self.types.words.push(Box::new(
+            alloc,
+            Word::StructBody(at, Some(name_of(alloc, token)?), members),
+        )?)
     }
 
     /// An enum by its tag.
@@ -90,36 +85,33 @@ impl Stacks<'_> {
     {
         let token = self.tokens.pop()?;
         let at = self.tokens.pop()?.start;
-        self.types
-            .words
-            .push(Word::EnumTag(at, name_of(alloc, token)?))
+        self.types.words.push(Box::new(alloc, Word::EnumTag(at, name_of(alloc, token)?))?)
     }
 
     /// An enum with its enumerators.
     pub(crate) fn enum_body(&mut self, alloc: Global) -> Result<(), BuildFault>
         ensures { Reduces Production.EnumBody (stacks_of self.old) result (stacks_of self.new) }
     {
-        let enumerators = self.types.enumerator_lists.pop()?;
         self.tokens.pop()?;
         let at = self.tokens.pop()?.start;
+        let enumerators = self.types.enumerator_lists.pop()?;
         self.types
             .words
-            .push(Word::EnumBody(at, None, Box::new(alloc, enumerators)?))
+            .push(Box::new(alloc, Word::EnumBody(at, None, enumerators))?)
     }
 
     /// An enum with its tag and enumerators.
     pub(crate) fn tagged_enum(&mut self, alloc: Global) -> Result<(), BuildFault>
         ensures { Reduces Production.TaggedEnum (stacks_of self.old) result (stacks_of self.new) }
     {
-        let enumerators = self.types.enumerator_lists.pop()?;
         self.tokens.pop()?;
         let token = self.tokens.pop()?;
         let at = self.tokens.pop()?.start;
-        self.types.words.push(Word::EnumBody(
-            at,
-            Some(name_of(alloc, token)?),
-            Box::new(alloc, enumerators)?,
-        ))
+        let enumerators = self.types.enumerator_lists.pop()?;
+        self.types.words.push(Box::new(
+            alloc,
+            Word::EnumBody(at, Some(name_of(alloc, token)?), enumerators),
+        )?)
     }
 
     /// The last member of a struct.
@@ -129,10 +121,9 @@ impl Stacks<'_> {
         self.tokens.pop()?;
         let declarators = self.types.declarator_lists.pop()?;
         let words = self.types.word_lists.pop()?;
-        self.types.members.push(Members::Last(
-            Box::new(alloc, words)?,
-            Box::new(alloc, declarators)?,
-        ))
+        self.types
+            .members
+            .push(Box::new(alloc, Members::Last(words, declarators))?)
     }
 
     /// A member before others.
@@ -142,11 +133,9 @@ impl Stacks<'_> {
         let rest = self.types.members.pop()?;
         let declarators = self.types.declarator_lists.pop()?;
         let words = self.types.word_lists.pop()?;
-        self.types.members.push(Members::More(
-            Box::new(alloc, words)?,
-            Box::new(alloc, declarators)?,
-            Box::new(alloc, rest)?,
-        ))
+        self.types
+            .members
+            .push(Box::new(alloc, Members::More(words, declarators, rest))?)
     }
 
     /// An enumerator without a value.
@@ -154,23 +143,23 @@ impl Stacks<'_> {
         ensures { Reduces Production.Implicit (stacks_of self.old) result (stacks_of self.new) }
     {
         let token = self.tokens.pop()?;
-        self.types
-            .enumerators
-            .push(Enumerator::Implicit(token.start, name_of(alloc, token)?))
+        self.types.enumerators.push(Box::new(
+            alloc,
+            Enumerator::Implicit(token.start, name_of(alloc, token)?),
+        )?)
     }
 
     /// An enumerator with its value.
     pub(crate) fn explicit(&mut self, alloc: Global) -> Result<(), BuildFault>
         ensures { Reduces Production.Explicit (stacks_of self.old) result (stacks_of self.new) }
     {
-        let value = self.operands.expressions.pop()?;
         self.tokens.pop()?;
         let token = self.tokens.pop()?;
-        self.types.enumerators.push(Enumerator::Explicit(
-            token.start,
-            name_of(alloc, token)?,
-            Box::new(alloc, value)?,
-        ))
+        let value = self.operands.expressions.pop()?;
+        self.types.enumerators.push(Box::new(
+            alloc,
+            Enumerator::Explicit(token.start, name_of(alloc, token)?, value),
+        )?)
     }
 
     /// The last enumerator.
@@ -181,7 +170,7 @@ impl Stacks<'_> {
         let enumerator = self.types.enumerators.pop()?;
         self.types
             .enumerator_lists
-            .push(Enumerators::Last(Box::new(alloc, enumerator)?))
+            .push(Box::new(alloc, Enumerators::Last(enumerator))?)
     }
 
     /// The last enumerator, with a comma.
@@ -193,19 +182,18 @@ impl Stacks<'_> {
         let enumerator = self.types.enumerators.pop()?;
         self.types
             .enumerator_lists
-            .push(Enumerators::Last(Box::new(alloc, enumerator)?))
+            .push(Box::new(alloc, Enumerators::Last(enumerator))?)
     }
 
     /// An enumerator before others.
     pub(crate) fn more_enumerators(&mut self, alloc: Global) -> Result<(), BuildFault>
         ensures { Reduces Production.MoreEnumerators (stacks_of self.old) result (stacks_of self.new) }
     {
-        let rest = self.types.enumerator_lists.pop()?;
         self.tokens.pop()?;
+        let rest = self.types.enumerator_lists.pop()?;
         let enumerator = self.types.enumerators.pop()?;
-        self.types.enumerator_lists.push(Enumerators::More(
-            Box::new(alloc, enumerator)?,
-            Box::new(alloc, rest)?,
-        ))
+        self.types
+            .enumerator_lists
+            .push(Box::new(alloc, Enumerators::More(enumerator, rest))?)
     }
 }
