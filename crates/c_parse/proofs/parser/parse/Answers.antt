@@ -1,10 +1,11 @@
-use Rattle.std.proofs.Common.{◌≡◌, [], ◌∷◌, Some, None, List, sym, subst, ◌∙◌, inl, inr, ap}
+use Rattle.std.proofs.Common.{◌≡◌, [], ◌∷◌, Some, List, sym, subst, ◌∙◌, inl}
 use Rattle.c_lex.specs.Lexeme.{lexemes_of}
 use Rattle.c_grammar.specs.declared.script.Step.{Step}
 use Rattle.c_grammar.specs.Build.{OfUnit}
 use Rattle.c_grammar.specs.Script.{replay}
 use Rattle.c_parse.specs.Limits.{first_limit}
-use Rattle.c_parse.proofs.OneAnswer.{limit_of_each, only_tree, is_first}
+use Rattle.c_parse.proofs.OneAnswer.{limit_of_each, only_tree, is_first, refused_is_told, error_is_told}
+use Rattle.c_parse.specs.Answer.{of_script}
 use Rattle.c_parse.proofs.parser.parse.Goals as goal
 
 pub returns-in-Some-clause-only : goal.returns-in-Some-clause-only
@@ -34,3 +35,8 @@ returns-clause-limit c = λ tree limit at s first.
     let replayed = subst (λ (steps : List Step). replay steps (lexemes_of c.args.tokens.now) [] ≡ Some (OfUnit found.0 ∷ [])) (sym c.deref.ensures.value) found.2 in
     let limit = limit_of_each (lexemes_of c.args.tokens.now) found.0 tree c.in_ok-limit.field-0 found.1 s (c.in_ok-limit.ensures found.0 replayed) in
     c.in_default.not-Some _ (limit ∙ first)
+
+pub returns-in_err-steps-clause-fault : goal.returns-in_err-steps-clause-fault
+returns-in_err-steps-clause-fault c =
+    error_is_told c.from_residual.result (lexemes_of c.args.tokens.now) (of_script c.in_err-steps.field-0.0) c.from_residual.ensures.1
+    (refused_is_told (lexemes_of c.args.tokens.now) c.in_err-steps.field-0.0 c.in_err-steps.ensures.refused c.in_err-steps.ensures.placed)
