@@ -7,3 +7,4 @@ pub mod ParameterNames
 pub mod DistinctNames
 pub mod Commands
 pub mod Complete
+pub mod Told

@@ -1,0 +1,18 @@
+use Rattle.std.proofs.Common.{subst}
+use Rattle.c_lex.specs.Lexeme.{lexemes_of}
+use Rattle.c_grammar.specs.View.{unit_of}
+use Rattle.c_parse.specs.Answer.{IsFaultOf}
+use Rattle.ac_core.proofs.Told.{tree_answer, no_tree_answer, of_result}
+use Rattle.ac_core.proofs.answer.show_tokens.Goals as goal
+
+pub returns-in-Ok : goal.returns-in-Ok
+returns-in-Ok c =
+    of_result c.show_unit.result _ _
+    (λ a. tree_answer (lexemes_of c.args.tokens.now) (unit_of c.in-Ok.unit) a.status a.lines.items (record { spells = c.in-Ok.ensures.found.0; within = c.in-Ok.ensures.found.1 }))
+    c.show_unit.ensures
+
+pub returns-in-Err-Syntax : goal.returns-in-Err-Syntax
+returns-in-Err-Syntax c =
+    of_result c.syntax.result _ _
+    (λ a. no_tree_answer (lexemes_of c.args.tokens.now) c.in-Err-Syntax.at a.status a.lines.items (subst (λ fault. IsFaultOf (lexemes_of c.args.tokens.now) fault) c.in-Err-Syntax.field-0-is c.in-Err-Syntax.ensures.fault))
+    c.syntax.ensures
