@@ -14,3 +14,5 @@ pub mod Cells
 pub mod Places
 pub mod Elsewhere
 pub mod Wrapped
+pub mod Elements
+pub mod Walks

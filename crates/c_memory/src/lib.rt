@@ -1,6 +1,12 @@
 //! Memory of bytes with tags, typed heaps, and what reads and writes mean on either.
 #![tactic(auto)]
 
+mod addresses;
 pub mod heap_laws;
 pub mod memory_laws;
+mod pages;
+mod paths;
+mod steps;
 pub mod tag_laws;
+
+pub use steps::Step;
