@@ -16,3 +16,7 @@ pub mod Elsewhere
 pub mod Wrapped
 pub mod Elements
 pub mod Walks
+pub mod Scalars
+pub mod Spaces
+pub mod Layered
+pub mod Paged

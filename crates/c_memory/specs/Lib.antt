@@ -6,3 +6,5 @@ pub mod CodeStep
 pub mod Place
 pub mod CodeTag
 pub mod Pages
+pub mod Layers
+pub mod Nearest

@@ -4,9 +4,11 @@
 mod addresses;
 pub mod heap_laws;
 pub mod memory_laws;
+mod nearest;
 mod pages;
 mod paths;
 mod steps;
 pub mod tag_laws;
+mod types;
 
 pub use steps::Step;
