@@ -20,3 +20,4 @@ pub mod Scalars
 pub mod Spaces
 pub mod Layered
 pub mod Paged
+pub mod Rows

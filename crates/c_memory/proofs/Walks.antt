@@ -1,13 +1,13 @@
 -- Where the steps of a path lead, one after the other.
-use Rattle.std.proofs.Common.{◌≡◌, ℕ, suc, ◌+◌, ◌*◌, ◌%◌, ◌<◌, true, ltb, leb, ◌&&◌, List, [], ◌∷◌, length, get_or, map, drop, add-one, drop-cons, Option, Some, None, ℤ, pos, ◌+ℤ◌, refl, sym, ap, ap₂, ◌∙◌}
-use Rattle.std.proofs.lemmas.Bool.{and_parts, ltb-true}
+use Rattle.std.proofs.Common.{◌≡◌, ℕ, suc, ◌+◌, ◌*◌, ◌%◌, ◌<◌, ◌≤◌, true, arith, ltb, leb, ◌&&◌, List, [], ◌∷◌, length, get_or, map, drop, add-one, drop-cons, Option, Some, None, ℤ, pos, ◌+ℤ◌, refl, sym, ap, ap₂, ◌∙◌}
+use Rattle.std.proofs.lemmas.Bool.{and_parts, and_from, ltb-true, leb-true, le-leb}
 use Rattle.c_values.specs.Types.{CType, Array, Struct}
 use Rattle.c_values.specs.Name.{Name}
-use Rattle.c_values.specs.Layout.{Layout, IsLayout, Shape, Incomplete, Scalar, Record, Row, type_of, shape_of, size_of, is_complete, is_object}
+use Rattle.c_values.specs.Layout.{Layout, IsLayout, Shape, Incomplete, Scalar, Record, Row, type_of, shape_of, size_of, is_complete, is_object, largest_size}
 use Rattle.c_values.specs.Path.{Step, Field, Index, Spot, spot, step_spot, and_then_spot, further}
 use Rattle.c_values.specs.PartOf.{IsPart}
 use Rattle.c_values.proofs.Laid.{shape_type}
-use Rattle.c_values.proofs.Steps.{to_member, to_element}
+use Rattle.c_values.proofs.Steps.{to_member}
 use Rattle.c_memory.specs.Memory.{address_at}
 use Rattle.c_memory.specs.Place.{Place, place_from}
 use Rattle.c_memory.proofs.Elements.{address_further}
@@ -18,11 +18,15 @@ pub member_object : (l : Layout) (x : Name) (k o : ℕ) (u : CType) → IsLayout
     step_spot (shape_of l (Struct x)) (Field k) ≡ Some (record { offset = pos o; shape = shape_of l u }) → is_object l u ≡ true
 member_object l x k o u h object e = (to_member l x k o u h object e).object
 
+small_element : (n e k : ℕ) → 0 < n → leb (n * e) k ≡ true → leb e k ≡ true
+small_element n e k some h = let more : e ≤ n * e = grind arith in le-leb e k (omega (arith, leb-true (n * e) k h))
+
 -- an element of an object is an object
-pub element_object : (l : Layout) (u : CType) (n : ℕ) → IsLayout l → is_object l (Array u n) ≡ true → is_object l u ≡ true
-element_object l u n h object =
-    let some : 0 < n = ltb-true 0 n (and_parts (ltb 0 n) (is_complete (shape_of l u)) (object_complete l (Array u n) object)).0 in
-    (to_element l u n 0 h object some).object
+pub element_object : (l : Layout) (u : CType) (n : ℕ) → is_object l (Array u n) ≡ true → is_object l u ≡ true
+element_object l u n object =
+    let whole = and_parts (is_complete (shape_of l (Array u n))) (leb (size_of l (Array u n)) largest_size) object in
+    let part = and_parts (ltb 0 n) (is_complete (shape_of l u)) whole.0 in
+    and_from (is_complete (shape_of l u)) (leb (size_of l u) largest_size) part.1 (small_element n (size_of l u) largest_size (ltb-true 0 n part.0) whole.1)
 
 -- a struct has no elements
 no_element : (s : Shape) (x : Name) (i : ℤ) → type_of s ≡ Struct x → step_spot s (Index i) ≡ None

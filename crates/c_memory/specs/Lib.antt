@@ -8,3 +8,4 @@ pub mod CodeTag
 pub mod Pages
 pub mod Layers
 pub mod Nearest
+pub mod Inner

@@ -6,6 +6,7 @@ pub mod heap_laws;
 pub mod memory_laws;
 mod nearest;
 mod pages;
+mod parts;
 mod paths;
 mod steps;
 pub mod tag_laws;

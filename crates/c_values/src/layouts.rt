@@ -126,6 +126,7 @@ impl Layout {
         ensures none { IfNone result (step_spot (shape_of self.now (Struct name.now)) (Field k) ≡ None) }
         ensures some { IfSome result (λ m. step_spot (shape_of self.now (Struct name.now)) (Field k)
             ≡ Some (record { offset = pos m.0; shape = shape_of self.now (type_of m.1.now) })) }
+        ensures layout { IsLayout self.now }
     {
         let places = self.table.get(name)?;
         let k = k as usize;

@@ -12,13 +12,13 @@ pub size_of-requires : goal.size_of-requires
 size_of-requires c =
     let object = subst (λ (t : CType). is_object c.args.l.now t ≡ true) (ap type_of c.in-Array.is) c.requires in
     subst (λ t. is_object c.args.l.now (type_of t) ≡ true) (sym c.deref-ty.ensures)
-    (element_object c.args.l.now (type_of c.in-Array.element.value) c.in-Array.field-1 c.target-target.ensures.layout object)
+    (element_object c.args.l.now (type_of c.in-Array.element.value) c.in-Array.field-1 object)
 
 pub returns-in-Array-clause-object : goal.returns-in-Array-clause-object
 returns-in-Array-clause-object c =
     let object = subst (λ (t : CType). is_object c.args.l.now t ≡ true) (ap type_of c.in-Array.is) c.requires in
     subst (λ t. is_object c.args.l.now (type_of t) ≡ true) (sym c.deref-ty.ensures)
-    (element_object c.args.l.now (type_of c.in-Array.element.value) c.in-Array.field-1 c.target-target.ensures.layout object)
+    (element_object c.args.l.now (type_of c.in-Array.element.value) c.in-Array.field-1 object)
 
 pub returns-in-Struct-clause-place : goal.returns-in-Struct-clause-place
 returns-in-Struct-clause-place c =
