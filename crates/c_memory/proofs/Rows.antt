@@ -1,12 +1,14 @@
 -- The members of a struct, one after the other.
-use Rattle.std.proofs.Common.{◌≡◌, ℕ, zero, suc, ◌+◌, ◌*◌, ◌/◌, ◌%◌, ◌<◌, ◌≤◌, nat_eq, nat_le, nat_lt, Bool, true, false, ◌&&◌, cond, List, [], Option, Some, None, pos, refl, sym, ap, ap₂, ◌∙◌, subst, arith, max}
+use Rattle.std.proofs.Common.{◌≡◌, ℕ, zero, suc, ◌+◌, ◌-◌, ◌*◌, ◌/◌, ◌%◌, ◌<◌, ◌≤◌, nat_eq, nat_le, nat_lt, Bool, true, false, ◌&&◌, cond, List, [], Option, Some, None, pos, refl, sym, ap, ap₂, ◌∙◌, subst, arith, max}
+use Rattle.std.proofs.lemmas.Nat.{div-add-mod'}
+use Rattle.std.proofs.lemmas.Bool.Decides.{nat_tests}
 use Rattle.std.proofs.lemmas.Bool.{and_parts, and_from, cond-true, cond-false, leb-true, le-leb, ltb-true, lt-ltb}
 use Rattle.c_values.specs.Types.{CType, Struct, Array}
 use Rattle.c_values.specs.Name.{Name}
-use Rattle.c_values.specs.Layout.{Layout, IsLayout, Shape, Incomplete, Scalar, Record, Row, Fields, no_fields, field, size, shape_of, size_of, is_object, is_complete, largest_size}
+use Rattle.c_values.specs.Layout.{Layout, IsLayout, Shape, Incomplete, Scalar, Record, Row, Fields, no_fields, field, size, type_of, shape_of, size_of, is_object, is_complete, largest_size}
 use Rattle.c_values.specs.Path.{Step, Field, Index, Spot, member_spot, step_spot}
 use Rattle.c_values.proofs.Formed.{IsFormed, AreFormed, size_some, members_end}
-use Rattle.c_values.proofs.Laid.{shape_good}
+use Rattle.c_values.proofs.Laid.{shape_good, shape_type}
 use Rattle.c_values.proofs.Height.{height, highest}
 use Rattle.c_memory.specs.Tags.{root_path, member_path, prefixed}
 use Rattle.c_memory.specs.Inner.{inner_path, LiesIn, LiesInNone}
@@ -90,13 +92,76 @@ member_number l t k q h object e =
 pub object_some : (l : Layout) (t : CType) → IsLayout l → is_object l t ≡ true → 0 < size_of l t
 object_some l t h object = size_some (shape_of l t) (shape_good l h t (object_complete l t object)).formed
 
+index_split : (offset bytes size : ℕ) → bytes ≡ size → 0 < bytes → (offset / bytes) * size + offset % bytes ≡ offset
+index_split offset bytes size e some = let h = div-add-mod' offset bytes in ap (λ n. (offset / bytes) * n + offset % bytes) (sym e) ∙ h
+
+index_path : (e : Shape) (n : ℕ) (t : CType) (offset bytes : ℕ) → bytes ≡ size e → offset / bytes < n →
+    inner_path (Row e n) t offset ≡ prefixed (Index (pos (offset / bytes))) (root_path e t (offset % bytes))
+index_path e n t offset bytes same lt =
+    let P : ℕ → Option (List Step) = λ b. prefixed (Index (pos (offset / b))) (root_path e t (offset % b)) in
+    let here : nat_lt (offset / size e) n ≡ true = lt-ltb (offset / size e) n (subst (λ b. offset / b < n) same lt) in
+    cond-true (nat_lt (offset / size e) n) (P (size e)) None here ∙ ap P (sym same)
+
 -- an offset in an array lies in an element
 pub lies_in_element : (l : Layout) (u : CType) (n offset bytes : ℕ) → is_object l (Array u n) ≡ true → bytes ≡ size_of l u → 0 < bytes → offset / bytes < n →
     LiesIn l (Array u n) offset (offset / bytes) u (offset % bytes)
 lies_in_element l u n offset bytes object e some lt = record {
   at = (offset / bytes) * size_of l u;
   here = refl;
-  split = ?;
+  split = index_split offset bytes (size_of l u) e some;
   object = element_object l u n object;
-  path = λ t. ?;
+  path = λ t. index_path (shape_of l u) n t offset bytes e lt;
 }
+
+-- the members of a struct's shape
+inner_members : (s : Shape) (x : Name) (t : CType) (d : ℕ) → type_of s ≡ Struct x → inner_path s t d ≡ member_path (fields_of s) 0 t d
+inner_members Incomplete x t d e = refl
+inner_members (Scalar u width) x t d e = refl
+inner_members (Record y n align fs) x t d e = refl
+inner_members (Row e n) x t d h = absurd cc
+
+pub within_member : (at d n : ℕ) → at ≤ d → d - at < n → (nat_le at d && nat_lt d (at + n)) ≡ true
+within_member at d n h k = and_from (nat_le at d) (nat_lt d (at + n)) (le-leb at d h) (lt-ltb d (at + n) (omega arith))
+
+pub before_member : (at d n : ℕ) → d < at → (nat_le at d && nat_lt d (at + n)) ≡ false
+before_member at d n h = grind (arith, nat_tests)
+
+pub after_member : (at d n : ℕ) → at + n ≤ d → (nat_le at d && nat_lt d (at + n)) ≡ false
+after_member at d n h = grind (arith, nat_tests)
+
+module _ (l : Layout) (h : IsLayout l) (x : Name) (object : is_object l (Struct x) ≡ true) (offset : ℕ) where
+  -- the search has come to the member of this number
+  abbrev pub HasCome : ℕ → Type 0
+  HasCome k = (t : CType) → member_path (fields_of (shape_of l (Struct x))) 0 t offset ≡ member_path (drop_fields k (fields_of (shape_of l (Struct x)))) k t offset
+
+  own_type : type_of (shape_of l (Struct x)) ≡ Struct x
+  own_type = shape_type l h (Struct x) (object_complete l (Struct x) object)
+
+  module _ (k at : ℕ) (u : CType) (here : step_spot (shape_of l (Struct x)) (Field k) ≡ Some (record { offset = pos at; shape = shape_of l u })) (come : HasCome k) where
+    at_member : (t : CType) → member_path (fields_of (shape_of l (Struct x))) 0 t offset ≡
+        cond (nat_le at offset && nat_lt offset (at + size_of l u)) (prefixed (Field k) (root_path (shape_of l u) t (offset - at))) (member_path (drop_fields (k + 1) (fields_of (shape_of l (Struct x)))) (suc k) t offset)
+    at_member t = come t ∙ ap (λ fs. member_path fs k t offset) (members_next (shape_of l (Struct x)) k at (shape_of l u) here)
+
+    pub lies_in_member : at ≤ offset → offset - at < size_of l u → LiesIn l (Struct x) offset k u (offset - at)
+    lies_in_member low high = record {
+      at = at;
+      here = here;
+      split = omega arith;
+      object = member_object l x k at u h object here;
+      path = λ t.
+          inner_members (shape_of l (Struct x)) x t offset own_type
+          ∙ at_member t
+          ∙ cond-true (nat_le at offset && nat_lt offset (at + size_of l u)) (prefixed (Field k) (root_path (shape_of l u) t (offset - at))) (member_path (drop_fields (k + 1) (fields_of (shape_of l (Struct x)))) (suc k) t offset) (within_member at offset (size_of l u) low high);
+    }
+
+    pub past_member : (nat_le at offset && nat_lt offset (at + size_of l u)) ≡ false → HasCome (k + 1)
+    past_member out t =
+        let next : suc k ≡ k + 1 = omega arith in
+        at_member t
+        ∙ cond-false (nat_le at offset && nat_lt offset (at + size_of l u)) (prefixed (Field k) (root_path (shape_of l u) t (offset - at))) (member_path (drop_fields (k + 1) (fields_of (shape_of l (Struct x)))) (suc k) t offset) out
+        ∙ ap (λ n. member_path (drop_fields (k + 1) (fields_of (shape_of l (Struct x)))) n t offset) next
+
+  pub lies_in_no_member : (k : ℕ) → step_spot (shape_of l (Struct x)) (Field k) ≡ None → HasCome k → LiesInNone l (Struct x) offset
+  lies_in_no_member k e come = record {
+    path = λ t. inner_members (shape_of l (Struct x)) x t offset own_type ∙ come t ∙ ap (λ fs. member_path fs k t offset) (members_done (shape_of l (Struct x)) k e);
+  }
