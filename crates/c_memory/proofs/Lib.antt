@@ -21,3 +21,4 @@ pub mod Spaces
 pub mod Layered
 pub mod Paged
 pub mod Rows
+pub mod Inside

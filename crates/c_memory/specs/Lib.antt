@@ -9,3 +9,5 @@ pub mod Pages
 pub mod Layers
 pub mod Nearest
 pub mod Inner
+pub mod TagIndex
+pub mod TagFault

@@ -2,6 +2,7 @@
 #![tactic(auto)]
 
 mod addresses;
+mod faults;
 pub mod heap_laws;
 pub mod memory_laws;
 mod nearest;
@@ -10,6 +11,10 @@ mod parts;
 mod paths;
 mod steps;
 pub mod tag_laws;
+mod tag_table;
 mod types;
 
+pub use faults::HeapFault;
+pub use parts::{Part, is_root_here, part_at};
 pub use steps::Step;
+pub use tag_table::TagTable;

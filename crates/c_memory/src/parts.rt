@@ -24,6 +24,9 @@ pub(crate) fn has_part(l: &Layout, whole: &CType, t: &CType, offset: u64) -> boo
     requires { is_object l.now (type_of whole.now) ≡ true }
     ensures { result ≡ is_some (root_path (shape_of l.now (type_of whole.now)) (type_of t.now) offset) }
 {
+    if offset >= u64::from(size_of(l, whole)) {
+        return false;
+    }
     let mut whole = whole;
     let mut offset = offset;
     while !is_root_here(whole, t, offset) {
