@@ -22,3 +22,4 @@ pub mod Layered
 pub mod Paged
 pub mod Rows
 pub mod Inside
+pub mod Indexed
