@@ -23,3 +23,4 @@ pub mod Paged
 pub mod Rows
 pub mod Inside
 pub mod Indexed
+pub mod Neighbours

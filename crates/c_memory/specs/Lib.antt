@@ -11,3 +11,4 @@ pub mod Nearest
 pub mod Inner
 pub mod TagIndex
 pub mod TagFault
+pub mod Ranges

@@ -1,10 +1,11 @@
 -- Why tags can't stand in a memory: the first tag that is misaligned, null, past the end of the space or over an earlier
 -- one, in this order.
-use Rattle.std.specs.Prelude.{ℕ, suc, ◌+◌, ◌%◌, nat_eq, nat_lt, nat_le, Bool, true, ◌&&◌, ◌||◌, List, [], ◌∷◌, ◌++◌, Option, Some, None, if◌then◌else◌}
+use Rattle.std.specs.Prelude.{◌≡◌, ℕ, suc, ◌+◌, ◌%◌, nat_eq, nat_lt, nat_le, Bool, true, ◌&&◌, ◌||◌, List, [], ◌∷◌, ◌++◌, Option, Some, None, if◌then◌else◌}
 use Rattle.c_memory.specs.declared.faults.HeapFault.{HeapFault}
 use Rattle.c_memory.specs.declared.faults.HeapFault.TheVariants.{Misaligned, Null, Past, Overlap}
-use Rattle.c_values.specs.Layout.{Layout, size_of, align_of, space}
+use Rattle.c_values.specs.Layout.{Layout, size_of, align_of, space, is_object}
 use Rattle.c_memory.specs.Memory.{Tag}
+use Rattle.c_memory.specs.Tags.{is_root_type}
 
 -- the objects have no byte in common
 abbrev pub are_apart : Layout → Tag → Tag → Bool
@@ -30,3 +31,8 @@ or_else (Some e) o = Some e
 abbrev pub first_fault : Layout → List Tag → ℕ → List Tag → Option HeapFault
 first_fault l earlier k [] = None
 first_fault l earlier k (t ∷ ts) = or_else (tag_fault l earlier k t) (first_fault l (earlier ++ t ∷ []) (suc k) ts)
+
+-- an integer, a pointer or a struct, and an object of the layout
+pub record IsRoot (l : Layout) (t : Tag) : Type 0 where
+  pub root : is_root_type t.type ≡ true
+  pub object : is_object l t.type ≡ true

@@ -99,8 +99,8 @@ pub(crate) fn take_pages(
     Ok(())
 }
 
-// Makes sure that a page is there.
-fn take_page(pages: &mut Pages, number: u64) -> Result<(), AllocError>
+/// Makes sure that a page is there.
+pub(crate) fn take_page(pages: &mut Pages, number: u64) -> Result<(), AllocError>
     ensures page { OnOk result (IsSome (get nat_eq pages.new number)) }
     ensures bytes { byte_at pages.new ≡ byte_at pages.old }
     ensures kept { KeepsPages pages.old pages.new }
@@ -140,8 +140,8 @@ fn put_in_page(pages: &mut Pages, target: Target, address: u64, size: u64, bits:
     put_slice(pages, address, &bytes[..size as usize]);
 }
 
-// Puts bytes into one page.
-fn put_slice(pages: &mut Pages, address: u64, bytes: &[u8])
+/// Puts bytes into one page.
+pub(crate) fn put_slice(pages: &mut Pages, address: u64, bytes: &[u8])
     requires page { address % 256 + length bytes.now ≤ 256 }
     requires pages { 0 < length bytes.now → IsSome (get nat_eq pages.old (address / 256)) }
     ensures here { (i : ℕ) → i < length bytes.now → byte_at pages.new (address + i) ≡ slice_index bytes.now i }

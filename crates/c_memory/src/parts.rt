@@ -2,7 +2,7 @@
 
 ghost use Rattle.std.specs.Prelude.{◌≡◌, true, is_some, IfNone, IfSome};
 ghost use Rattle.c_values.specs.Types.{Array, Struct};
-ghost use Rattle.c_values.specs.Layout.{shape_of, is_object};
+ghost use Rattle.c_values.specs.Layout.{IsLayout, shape_of, is_object};
 ghost use Rattle.c_values.specs.CodeTypes.{type_of};
 ghost use Rattle.c_memory.specs.Tags.{root_path};
 ghost use Rattle.c_memory.specs.Inner.{is_root_here, LiesIn, LiesInNone};
@@ -22,7 +22,8 @@ pub struct Part<'a> {
 /// part of a member or of an element.
 pub(crate) fn has_part(l: &Layout, whole: &CType, t: &CType, offset: u64) -> bool
     requires { is_object l.now (type_of whole.now) ≡ true }
-    ensures { result ≡ is_some (root_path (shape_of l.now (type_of whole.now)) (type_of t.now) offset) }
+    ensures found { result ≡ is_some (root_path (shape_of l.now (type_of whole.now)) (type_of t.now) offset) }
+    ensures layout { IsLayout l.now }
 {
     if offset >= u64::from(size_of(l, whole)) {
         return false;

@@ -5,8 +5,8 @@ use Rattle.c_memory.specs.Inner.{part_step}
 use Rattle.c_memory.proofs.Inside.{step_lower, path_outside, root_here, root_in, root_in_none, some_prefixed}
 use Rattle.c_memory.proofs.parts.has_part.Goals as goal
 
-pub returns-then-offset-from : goal.returns-then-offset-from
-returns-then-offset-from c =
+pub returns-then-offset-from-clause-found : goal.returns-then-offset-from-clause-found
+returns-then-offset-from-clause-found c =
     sym (path_outside c.args.l.now c.size_of.ensures.layout (type_of c.args.whole.now) c.requires (type_of c.args.t.now) c.args.offset (omega (arith, c.size_of.ensures.value)))
 
 pub loop-whole-smaller : goal.loop-whole-smaller
@@ -28,15 +28,15 @@ loop-whole-preserved c =
           ∙ c.loop-whole.invariant.path;
     }
 
-pub returns-in-None : goal.returns-in-None
-returns-in-None c =
+pub returns-in-None-clause-found : goal.returns-in-None-clause-found
+returns-in-None-clause-found c =
     let u = type_of c.loop-whole.whole.now in
     let t = type_of c.args.t.now in
     let out = sym c.is_root_here.ensures ∙ c.loop-whole-test.true in
     sym (ap is_some (root_in_none c.args.l.now c.size_of.ensures.layout u c.loop-whole.invariant.object t c.loop-whole.offset out c.in-None.ensures.none)) ∙ c.loop-whole.invariant.path
 
-pub returns : goal.returns
-returns c =
+pub returns-clause-found : goal.returns-clause-found
+returns-clause-found c =
     let u = type_of c.loop-whole.whole.now in
     let t = type_of c.args.t.now in
     let here = sym c.is_root_here.ensures ∙ c.loop-whole-test.false in
