@@ -24,3 +24,5 @@ pub mod Rows
 pub mod Inside
 pub mod Indexed
 pub mod Neighbours
+pub mod Sound
+pub mod Pieces

@@ -12,3 +12,4 @@ pub mod Inner
 pub mod TagIndex
 pub mod TagFault
 pub mod Ranges
+pub mod CodeHeap

@@ -2,6 +2,8 @@
 #![tactic(auto)]
 
 mod addresses;
+mod byte_heap;
+mod byte_heap_calls;
 mod faults;
 pub mod heap_laws;
 pub mod memory_laws;
@@ -16,6 +18,7 @@ pub mod tag_laws;
 mod tag_table;
 mod types;
 
+pub use byte_heap::ByteHeap;
 pub use faults::HeapFault;
 pub use parts::{Part, is_root_here, part_at};
 pub use steps::Step;

@@ -1,7 +1,7 @@
 //! Tags that can stand in a memory.
 
-ghost use Rattle.std.specs.Prelude.{◌≡◌, ◌^◌, ℕ, [], ◌⊎◌, true, None, Some, map, slice_get, IfOk, IfErr};
-ghost use Rattle.c_values.specs.Layout.{is_object, align_of, size_of, space};
+ghost use Rattle.std.specs.Prelude.{◌≡◌, ◌^◌, ℕ, [], ◌∷◌, ◌++◌, ◌⊎◌, true, None, Some, map, slice_get, IfOk, IfErr};
+ghost use Rattle.c_values.specs.Layout.{IsLayout, is_object};
 ghost use Rattle.c_values.specs.Types.{address_width};
 ghost use Rattle.c_values.specs.CodeTypes.{target_of, type_of};
 ghost use Rattle.c_memory.specs.Memory.{Tag};
@@ -30,12 +30,33 @@ pub(crate) fn table_of(
 {
     let mut table = TagTable::new(alloc);
     for (k, (address, ty)) in tags.iter().enumerate() {
-        if let Some(fault) = tag_fault(&table, l, k, *address, ty) {
-            return Err(fault);
-        }
-        table = table.with(*address, copy_of(alloc, ty)?)?;
+        table = with_tag(alloc, l, table, k, *address, ty)?;
     }
     Ok(table)
+}
+
+// The table with one tag more, unless that is at fault.
+fn with_tag(
+    alloc: Global,
+    l: &Layout,
+    table: TagTable,
+    k: usize,
+    address: u64,
+    ty: &CType,
+) -> Result<TagTable, HeapFault>
+    requires tags { AreTags l.now table }
+    requires root { IsRoot l.now (record { address = address; type = type_of ty.now }) }
+    ensures tags { IfOk result (λ t. t ≡ table ++ record { address = address; type = type_of ty.now } ∷ []) }
+    ensures well_tagged { IfOk result (λ t. AreTags l.now t) }
+    ensures sound { IfOk result
+        (λ _. tag_fault l.now table k (record { address = address; type = type_of ty.now }) ≡ None) }
+    ensures cause { IfErr result
+        (λ e. (e ≡ Memory) ⊎ (tag_fault l.now table k (record { address = address; type = type_of ty.now }) ≡ Some e)) }
+{
+    match tag_fault(&table, l, k, address, ty) {
+        Some(fault) => Err(fault),
+        None => Ok(table.with(address, copy_of(alloc, ty)?)?),
+    }
 }
 
 // What is wrong with a tag after the earlier ones.
@@ -48,15 +69,17 @@ fn tag_fault(
 ) -> Option<HeapFault>
     requires tags { AreTags l.now table.now }
     requires object { is_object l.now (type_of ty.now) ≡ true }
-    ensures { result ≡ tag_fault l.now table.now k (record { address = address; type = type_of ty.now }) }
+    ensures fault { result ≡ tag_fault l.now table.now k (record { address = address; type = type_of ty.now }) }
+    ensures layout { IsLayout l.now }
 {
+    let size = size_of(l, ty);
     if address % u64::from(align_of(l, ty)) > 0 {
         return Some(HeapFault::Misaligned(k));
     }
     if address == 0 {
         return Some(HeapFault::Null(k));
     }
-    if space(l.target()) < u128::from(address) + u128::from(size_of(l, ty)) {
+    if space(l.target()) < u128::from(address) + u128::from(size) {
         return Some(HeapFault::Past(k));
     }
     if table.is_apart(l, ty, address) {
