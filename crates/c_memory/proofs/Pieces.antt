@@ -1,8 +1,9 @@
 -- Bytes that are put piece by piece, and ranges that are put one after the other.
-use Rattle.std.proofs.Common.{◌≡◌, ℕ, zero, suc, ◌+◌, ◌-◌, ◌<◌, ◌≤◌, nat_le, nat_lt, ◌⊎◌, inl, inr, Bool, true, false, ◌&&◌, cond, List, [], ◌∷◌, ◌++◌, length, map, take, drop, get_or, slice_index, refl, sym, ap, ◌∙◌, subst, arith, length-take, length-drop, get_or-take, get_or-drop}
+use Rattle.std.proofs.Common.{◌≡◌, ℕ, zero, suc, ◌+◌, ◌-◌, ◌<◌, ◌≤◌, nat_le, nat_lt, ◌⊎◌, inl, inr, Bool, true, false, ◌&&◌, cond, List, [], ◌∷◌, ◌++◌, length, map, take, drop, get_or, slice_index, refl, sym, ap, ◌∙◌, subst, arith, length-take, length-drop, get_or-take, get_or-drop, lit<}
 use Rattle.std.proofs.Math.Path.{fun_ext}
 use Rattle.std.proofs.lemmas.Bool.{cases_lt, cond-true, cond-false, and_from, le-leb, lt-ltb}
 use Rattle.std.proofs.lemmas.Bool.Decides.{nat_tests}
+use Rattle.c_memory.specs.Memory.{AreBytes}
 use Rattle.c_memory.specs.Ranges.{Run, AreRuns, run_byte}
 
 abbrev pub Here : (ℕ → ℕ) → ℕ → ℕ → List ℕ → Type 0
@@ -39,6 +40,25 @@ module _ (xs : List ℕ) (a done count : ℕ) (fits : done + count ≤ length xs
   piece_elsewhere new old first elsewhere before x (inr c) =
       let n = piece_length in
       elsewhere x (inr (omega (arith, n))) ∙ before x (inr (omega arith))
+
+-- bytes are put among bytes
+pub bytes_put : (xs : List ℕ) (a : ℕ) (new old : ℕ → ℕ) → ((i : ℕ) → slice_index xs i < 256) → Here new a (length xs) xs → Elsewhere new old a (length xs) → AreBytes old → AreBytes new
+bytes_put xs a new old small here elsewhere before x = by_cases (cases_lt x a) (cases_lt x (a + length xs))
+  where
+    by_cases : (x < a) ⊎ (a ≤ x) → (x < a + length xs) ⊎ (a + length xs ≤ x) → new x < 256
+    by_cases (inl c) k = subst (λ n. n < 256) (sym (elsewhere x (inl c))) (before x)
+    by_cases (inr c) (inr d) = subst (λ n. n < 256) (sym (elsewhere x (inr d))) (before x)
+    by_cases (inr c) (inl d) =
+        let at : x ≡ a + (x - a) = omega arith in
+        subst (λ n. n < 256) (sym (ap new at ∙ here (x - a) (omega arith))) (small (x - a))
+
+pub runs_within : (from to more : ℕ) (rs : List Run) → to ≤ more → AreRuns from to rs → AreRuns from more rs
+runs_within from to more [] le h = omega arith
+runs_within from to more (r ∷ rs) le h = (h.0, runs_within (r.address + length r.bytes) to more rs le h.1)
+
+-- one byte after the end of no byte
+pub no_byte : AreBytes (run_byte [])
+no_byte x = lit< tt
 
 abbrev pub is_in : Run → ℕ → Bool
 is_in r x = nat_le r.address x && nat_lt x (r.address + length r.bytes)

@@ -22,5 +22,9 @@ loop-address-preserved c =
     let old = byte_at c.loop-address.pages in
     let here : Here new r.address (length r.bytes) r.bytes = subst (λ xs. Here new r.address (length xs) xs) c.deref.ensures.value c.in_ok-put_range.ensures.here in
     let elsewhere : Elsewhere new old r.address (length r.bytes) = subst (λ (xs : List ℕ). Elsewhere new old r.address (length xs)) c.deref.ensures.value c.in_ok-put_range.ensures.elsewhere in
-    run_put (2 ^ 64) (map run_of (take k rs)) r (map run_of (drop (k + 1) rs)) all new old c.loop-address.invariant here elsewhere
-    ∙ sym (ap run_byte (one_longer run_of rs k c.loop-address-item.result c.loop-address-test.true c.loop-address-item.is))
+    record {
+      value =
+          run_put (2 ^ 64) (map run_of (take k rs)) r (map run_of (drop (k + 1) rs)) all new old c.loop-address.invariant.value here elsewhere
+          ∙ sym (ap run_byte (one_longer run_of rs k c.loop-address-item.result c.loop-address-test.true c.loop-address-item.is));
+      bytes = c.in_ok-put_range.ensures.bytes c.loop-address.invariant.bytes;
+    }

@@ -1,6 +1,6 @@
 use Rattle.std.proofs.Common.{◌≡◌, ◌+◌, ◌≤◌, ◌∙◌, length, sym, subst, ap, ℕ, ◌⊎◌, ◌<◌, arith}
 use Rattle.c_memory.specs.Pages.{byte_at}
-use Rattle.c_memory.proofs.Pieces.{Here, Elsewhere, piece_here, piece_elsewhere}
+use Rattle.c_memory.proofs.Pieces.{Here, Elsewhere, piece_here, piece_elsewhere, bytes_put}
 use Rattle.c_memory.proofs.ranges.put_range.Goals as goal
 
 pub loop-done-preserved : goal.loop-done-preserved
@@ -18,3 +18,14 @@ loop-done-preserved c =
       here = piece_here xs a l.done n fits (byte_at c.put_slice.new.pages) (byte_at c.take_page.new.pages) c.put_slice.ensures.here c.put_slice.ensures.elsewhere before;
       elsewhere = piece_elsewhere xs a l.done n fits (byte_at c.put_slice.new.pages) (byte_at c.take_page.new.pages) (byte_at c.args.pages.now) c.put_slice.ensures.elsewhere others;
     }
+
+pub returns-clause-bytes : goal.returns-clause-bytes
+returns-clause-bytes c =
+    let l = c.loop-done in
+    let xs = c.args.bytes.now in
+    let a = c.args.address in
+    let few = l.invariant.few in
+    let n : l.done ≡ length xs = omega arith in
+    let new = byte_at l.pages in
+    let old = byte_at c.args.pages.now in
+    bytes_put xs a new old (λ i. (c.type_inv.bytes i).fits) (subst (λ m. Here new a m xs) n l.invariant.here) (subst (λ m. Elsewhere new old a m) n l.invariant.elsewhere)
