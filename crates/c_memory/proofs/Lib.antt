@@ -26,3 +26,4 @@ pub mod Indexed
 pub mod Neighbours
 pub mod Sound
 pub mod Pieces
+pub mod Listed

@@ -13,3 +13,4 @@ pub mod TagIndex
 pub mod TagFault
 pub mod Ranges
 pub mod CodeHeap
+pub mod CodeParts
