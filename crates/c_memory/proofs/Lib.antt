@@ -27,3 +27,4 @@ pub mod Neighbours
 pub mod Sound
 pub mod Pieces
 pub mod Listed
+pub mod Joined

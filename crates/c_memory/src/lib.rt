@@ -7,6 +7,7 @@ mod byte_heap_calls;
 mod faults;
 pub mod heap_laws;
 mod heaps;
+mod loads;
 pub mod memory_laws;
 mod nearest;
 mod pages;
