@@ -28,3 +28,4 @@ pub mod Sound
 pub mod Pieces
 pub mod Listed
 pub mod Joined
+pub mod Put

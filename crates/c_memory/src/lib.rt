@@ -16,6 +16,7 @@ mod parts_of_values;
 mod paths;
 mod ranges;
 mod steps;
+mod stores;
 mod tag_faults;
 pub mod tag_laws;
 mod tag_table;
