@@ -29,3 +29,4 @@ pub mod Pieces
 pub mod Listed
 pub mod Joined
 pub mod Put
+pub mod Read

@@ -4,6 +4,7 @@
 mod addresses;
 mod byte_heap;
 mod byte_heap_calls;
+mod byte_heap_places;
 mod faults;
 pub mod heap_laws;
 mod heaps;

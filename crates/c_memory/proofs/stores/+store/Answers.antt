@@ -8,6 +8,7 @@ use Rattle.c_values.specs.CodeTypes.{target_of, type_of}
 use Rattle.c_values.specs.CodeValue.{value_of}
 use Rattle.c_values.specs.Value.{Parts}
 use Rattle.c_memory.specs.Memory.{store}
+use Rattle.c_memory.specs.CodeParts.{values_in}
 use Rattle.c_memory.specs.Pages.{byte_at}
 use Rattle.c_memory.proofs.Walks.{element_object, member_object}
 use Rattle.c_memory.proofs.Inside.{step_lower}
@@ -142,5 +143,10 @@ pub store_whole-returns-in-Array-clause-bytes : goal.store_whole-returns-in-Arra
 store_whole-returns-in-Array-clause-bytes t c =
     let l = c.args.l.now in
     let old = byte_at c.args.pages.now in
-    c.store_array.ensures.bytes
-    ∙ sym (ap₂ (λ (u : CType) v. store (space l) (shape_of l u) c.args.address v old) (ap type_of c.in-Array.is) c.in-Some.ensures.some)
+    let n = c.in-Array.length in
+    let parts = Parts (values_in c.in-Some.parts.now) in
+    let put : byte_at c.store_array.new.pages ≡ store (space l) (shape_of l (Array (type_of c.deref.result.now) n)) c.args.address parts old = c.store_array.ensures.bytes in
+    let same : Array (type_of c.deref.result.now) n ≡ type_of c.args.t.now = ap (λ u. Array (type_of u) n) c.deref.ensures ∙ sym (ap type_of c.in-Array.is) in
+    put
+    ∙ ap (λ u. store (space l) (shape_of l u) c.args.address parts old) same
+    ∙ sym (ap (λ v. store (space l) (shape_of l (type_of c.args.t.now)) c.args.address v old) c.in-Some.ensures.some)
