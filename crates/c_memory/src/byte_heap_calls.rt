@@ -17,7 +17,7 @@ use crate::pages::byte_at;
 use crate::ranges::pages_of;
 use crate::tag_faults::table_of;
 use c_values::{CType, Layout};
-use std::alloc::Global;
+use std::alloc::{AllocError, Global};
 
 impl ByteHeap {
     /// The heap with these bytes and tags: the bytes in ranges, which are in order and apart, and the others 0. A tag's
@@ -42,6 +42,16 @@ impl ByteHeap {
         let tags = table_of(alloc, l, tags)?;
         let pages = pages_of(alloc, bytes)?;
         Ok(ByteHeap { pages, tags })
+    }
+
+    /// A copy.
+    pub fn copy(&self, alloc: Global) -> Result<ByteHeap, AllocError>
+        ensures { IfOk result (λ h. memory_of h ≡ memory_of self.now) }
+    {
+        Ok(ByteHeap {
+            pages: self.pages.clone()?,
+            tags: self.tags.copy(alloc)?,
+        })
     }
 
     /// The byte at an address.

@@ -11,6 +11,7 @@ ghost use Rattle.c_memory.specs.TagFault.{is_apart};
 
 use crate::nearest::{first_after, last_at};
 use crate::parts::has_part;
+use crate::types::copy_of;
 use c_values::{CType, Layout, size_of};
 use std::alloc::{AllocError, Global};
 use std::collections::BTreeMap;
@@ -67,6 +68,18 @@ impl TagTable {
         } = self;
         places.insert(address, tags.len())?;
         tags.push((address, ty))?;
+        Ok(TagTable { tags, places })
+    }
+
+    /// A copy.
+    pub fn copy(&self, alloc: Global) -> Result<TagTable, AllocError>
+        ensures { IfOk result (λ table. table ≡ self.now) }
+    {
+        let mut tags = Vec::new(alloc);
+        for (address, ty) in &self.tags {
+            tags.push((*address, copy_of(alloc, ty)?))?;
+        }
+        let places = self.places.clone()?;
         Ok(TagTable { tags, places })
     }
 
