@@ -30,3 +30,4 @@ pub mod Listed
 pub mod Joined
 pub mod Put
 pub mod Read
+pub mod Copied
