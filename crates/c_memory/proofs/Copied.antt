@@ -1,11 +1,10 @@
 -- A copy of pages has the same bytes.
-use Rattle.std.proofs.Common.{◌≡◌, ℕ, ◌/◌, ◌%◌, ◌<◌, nat_eq, List, Option, Some, None, MatchOption, slice_index, refl, sym, ap, ◌∙◌, arith}
+use Rattle.std.proofs.Common.{◌≡◌, ℕ, ◌/◌, ◌%◌, ◌<◌, nat_eq, List, Option, Some, None, MatchOption, slice_index, ap, arith}
 use Rattle.std.specs.Prelude.{IsSomeAnd}
 use Rattle.std.proofs.Math.Path.{fun_ext}
 use Rattle.std.proofs.lemmas.Nat.{mod_below}
 use Rattle.std.proofs.lemmas.Map.Entries.{lookup_clone}
 use Rattle.std.specs.HashMap.{IsClone, get}
-use Rattle.std.specs.Map.{lookup}
 use Rattle.c_memory.specs.Pages.{Pages, page_size, page_byte, byte_at}
 
 pub same_bytes : (C : ℕ → ℕ → Type 0) (D : List ℕ → List ℕ → Type 0) → ((x y : ℕ) → C x y → y ≡ x) → ((xs ys : List ℕ) → D xs ys → (i : ℕ) → i < 256 → slice_index ys i ≡ slice_index xs i) →

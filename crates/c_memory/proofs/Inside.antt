@@ -1,11 +1,11 @@
 -- Roots in objects, from one part to the part in it.
-use Rattle.std.proofs.Common.{◌≡◌, ℕ, zero, suc, ◌+◌, ◌<◌, ◌≤◌, nat_eq, Bool, true, false, ◌&&◌, cond, max, List, [], Option, Some, None, is_some, ℤ, pos, refl, sym, ap, ◌∙◌, subst, arith}
+use Rattle.std.proofs.Common.{◌≡◌, ℕ, zero, suc, ◌<◌, ◌≤◌, nat_eq, true, false, ◌&&◌, cond, max, List, [], Option, Some, None, is_some, refl, sym, ap, ◌∙◌, subst, arith}
 use Rattle.std.proofs.lemmas.Bool.{false≢true, cond-true, cond-false}
 use Rattle.c_values.specs.Types.{CType, Integer, Void, Ptr, Struct, Array, same_type}
-use Rattle.c_values.specs.Layout.{Layout, IsLayout, Shape, Incomplete, Scalar, Record, Row, Fields, no_fields, field, size, type_of, shape_of, size_of, is_object, is_scalar}
+use Rattle.c_values.specs.Layout.{Layout, IsLayout, Shape, Incomplete, Scalar, Record, Row, Fields, no_fields, field, type_of, shape_of, size_of, is_object, is_scalar}
 use Rattle.c_values.specs.Path.{Step, Field, Index, Spot, step_spot, member_spot}
-use Rattle.c_values.proofs.Formed.{IsFormed, size_some}
-use Rattle.c_values.proofs.Geometry.{IsWithin, leads_within}
+use Rattle.c_values.proofs.Formed.{size_some}
+use Rattle.c_values.proofs.Geometry.{leads_within}
 use Rattle.c_values.proofs.Laid.{IsLaid, IsGood, structs_of, shape_good, shape_type}
 use Rattle.c_values.proofs.Height.{height, highest}
 use Rattle.c_memory.specs.Tags.{is_root_type, root_path, prefixed}

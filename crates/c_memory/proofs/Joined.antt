@@ -1,10 +1,10 @@
 -- Parts that are loaded one after the other.
-use Rattle.std.proofs.Common.{◌≡◌, ℕ, zero, suc, ◌+◌, ◌*◌, ◌%◌, true, List, [], ◌∷◌, ◌++◌, Some, None, pos, refl, sym, ap, ap₂, ◌∙◌, subst, arith}
+use Rattle.std.proofs.Common.{◌≡◌, ℕ, zero, suc, ◌+◌, ◌*◌, ◌%◌, true, List, [], ◌∷◌, ◌++◌, Some, None, pos, refl, sym, ap, ap₂, ◌∙◌, arith}
 use Rattle.std.proofs.Math.Nat.{mod-mod}
 use Rattle.c_values.specs.declared.values.Value as V
-use Rattle.c_values.specs.Types.{CType, Struct}
-use Rattle.c_values.specs.Value.{Value, Values, Bits, Parts, no_values, more}
-use Rattle.c_values.specs.Layout.{Layout, Shape, Incomplete, Scalar, Record, Row, Fields, no_fields, field, size, type_of, is_scalar, is_object, IsLayout, shape_of}
+use Rattle.c_values.specs.Types.{Struct}
+use Rattle.c_values.specs.Value.{Value, Values, Parts, no_values, more}
+use Rattle.c_values.specs.Layout.{Layout, Shape, Incomplete, Scalar, Record, Row, size, type_of, is_scalar, is_object, IsLayout, shape_of}
 use Rattle.c_values.specs.Path.{Field, step_spot}
 use Rattle.c_values.specs.CodeValue.{value_of}
 use Rattle.c_memory.specs.Memory.{load, loaded_members, loaded_elements}

@@ -1,10 +1,10 @@
 -- The parts of the code's values as lists.
-use Rattle.std.proofs.Common.{◌≡◌, List, [], ◌∷◌, refl, ap, ◌∙◌}
+use Rattle.std.proofs.Common.{◌≡◌, List, refl, ap, ◌∙◌}
 use Rattle.std.specs.Prelude.{Vec}
 use Rattle.std.specs.declared.alloc.Global.{Global}
 use Rattle.c_values.specs.declared.values.Value as V
 use Rattle.c_values.specs.declared.values.Value.{Row_of-Value, end_of-Value, more_of-Value, items-the_row-Value, items_hidden-the_row-Value-0}
-use Rattle.c_values.specs.Value.{Value, Values, Parts, no_values, more}
+use Rattle.c_values.specs.Value.{Parts, more}
 use Rattle.c_values.specs.CodeValue.{value_of, values_of}
 use Rattle.c_memory.specs.CodeParts.{values_in}
 

@@ -1,17 +1,17 @@
 -- Tags that are apart: the last at or below an address is the only one that covers it, and an object is apart from all
 -- where it is apart from its neighbours.
-use Rattle.std.proofs.Common.{◌≡◌, ℕ, zero, suc, ◌+◌, ◌-◌, ◌<◌, ◌≤◌, nat_le, ◌⊎◌, inl, inr, Bool, true, false, ◌&&◌, ◌||◌, cond, List, [], ◌∷◌, ◌++◌, length, map, get_or, Option, Some, None, is_some, slice_get, MatchBool, refl, sym, ap, ◌∙◌, subst, arith}
-use Rattle.std.proofs.lemmas.Bool.{false≢true, and_parts, and_from, cases_lt, le-leb, lt-leb, cond-true, cond-false}
+use Rattle.std.proofs.Common.{◌≡◌, ℕ, zero, suc, ◌+◌, ◌-◌, ◌<◌, ◌≤◌, nat_le, ◌⊎◌, inl, inr, Bool, true, false, ◌&&◌, ◌||◌, List, [], ◌∷◌, length, map, get_or, Option, Some, None, is_some, slice_get, refl, sym, ap, ◌∙◌, subst, arith}
+use Rattle.std.proofs.lemmas.Bool.{false≢true, and_from, cases_lt, le-leb, lt-leb, cond-true, cond-false}
 use Rattle.std.proofs.lemmas.List.{length-map}
 use Rattle.std.proofs.lemmas.Option.{slice_get-map, slice_get-get_or, slice_get_within}
 use Rattle.std.specs.Option.{option_map}
 use Rattle.std.proofs.lemmas.Bool.Decides.{nat_tests}
 use Rattle.c_values.specs.Types.{CType}
-use Rattle.c_values.specs.Layout.{Layout, IsLayout, shape_of, size_of, is_object}
+use Rattle.c_values.specs.Layout.{Layout, IsLayout, shape_of, size_of}
 use Rattle.c_values.specs.Path.{Step}
 use Rattle.c_memory.specs.Memory.{Tag}
 use Rattle.c_memory.specs.Tags.{IsTag, AreApart, ApartFrom, AreTags, root_path, path_from, is_covered}
-use Rattle.c_memory.specs.TagIndex.{IsLastTag, Covers, AllEndBy, OneEndsAfter, AllBeginAfter, OneBeginsWithin}
+use Rattle.c_memory.specs.TagIndex.{IsLastTag, AllEndBy, OneEndsAfter, AllBeginAfter, OneBeginsWithin}
 use Rattle.c_memory.specs.TagFault.{are_apart, is_apart}
 use Rattle.c_values.proofs.Formed.{size_some}
 use Rattle.c_memory.proofs.Covered.{root_of}

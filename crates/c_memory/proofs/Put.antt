@@ -1,5 +1,5 @@
 -- Parts that are stored one after the other.
-use Rattle.std.proofs.Common.{◌≡◌, ℕ, zero, suc, ◌+◌, ◌-◌, ◌*◌, ◌/◌, ◌%◌, ◌<◌, ◌≤◌, true, false, List, [], ◌∷◌, length, get_or, drop, Option, Some, None, IsSome, nat_eq, slice_get, pos, refl, sym, ap, ap₂, ◌∙◌, subst, arith}
+use Rattle.std.proofs.Common.{◌≡◌, ℕ, zero, suc, ◌+◌, ◌-◌, ◌*◌, ◌/◌, ◌%◌, ◌<◌, ◌≤◌, true, false, List, [], ◌∷◌, drop, Some, None, IsSome, nat_eq, slice_get, pos, refl, sym, ap, ap₂, ◌∙◌, subst, arith}
 use Rattle.std.proofs.Math.Nat.{mod-mod, mod-add-mod}
 use Rattle.std.specs.HashMap.{get}
 use Rattle.std.proofs.lemmas.Bool.{false≢true}
@@ -23,7 +23,7 @@ use Rattle.c_memory.proofs.Wrapped.{store_wrapped}
 pub inner_pages : (space : ℕ) (old new : Pages) (a d n m at : ℕ) → HasPages space old a n → KeepsPages old new → at ≡ (a + d) % space → d + m ≤ n → HasPages space new at m
 inner_pages space old new a d n m at has keeps here fits i lt =
     let same : (at + i) % space ≡ (a + (d + i)) % space =
-        ap (λ x. (x + i) % space) here ∙ mod-add-mod (a + d) space i ∙ ap (λ x. x % space) (let e : (a + d) + i ≡ a + (d + i) = omega arith in e) in
+    ap (λ x. (x + i) % space) here ∙ mod-add-mod (a + d) space i ∙ ap (λ x. x % space) (let e : (a + d) + i ≡ a + (d + i) = omega arith in e) in
     keeps (((at + i) % space) / page_size) (subst (λ x. IsSome (get nat_eq old (x / page_size))) (sym same) (has (d + i) (omega arith)))
 
 -- the rest of a list

@@ -3,8 +3,8 @@ use Rattle.std.proofs.Common.{◌≡◌, ℕ, true, List, false, Option, Some, N
 use Rattle.std.specs.Prelude.{IsSomeAnd}
 use Rattle.c_values.specs.Types.{CType}
 use Rattle.c_values.specs.Value.{Value}
-use Rattle.c_values.specs.Layout.{Layout, Shape, shape_of, space, is_scalar, is_object, IsLayout, type_of}
-use Rattle.c_values.specs.Path.{Step, Spot, spot}
+use Rattle.c_values.specs.Layout.{Layout, shape_of, space, is_scalar, is_object, IsLayout, type_of}
+use Rattle.c_values.specs.Path.{Spot}
 use Rattle.c_memory.specs.Memory.{Tag, load, load_spot, store, store_spot}
 use Rattle.c_memory.specs.Place.{Place, place_of, place_from}
 use Rattle.c_values.proofs.Laid.{shape_type}

@@ -1,15 +1,14 @@
 -- The members of a struct, one after the other.
-use Rattle.std.proofs.Common.{◌≡◌, ℕ, zero, suc, ◌+◌, ◌-◌, ◌*◌, ◌/◌, ◌%◌, ◌<◌, ◌≤◌, nat_eq, nat_le, nat_lt, Bool, true, false, ◌&&◌, cond, List, [], Option, Some, None, pos, refl, sym, ap, ap₂, ◌∙◌, subst, arith, max}
+use Rattle.std.proofs.Common.{◌≡◌, ℕ, zero, suc, ◌+◌, ◌-◌, ◌*◌, ◌/◌, ◌%◌, ◌<◌, ◌≤◌, nat_le, nat_lt, true, false, ◌&&◌, cond, List, Option, Some, None, pos, refl, sym, ap, ap₂, ◌∙◌, subst, arith}
 use Rattle.std.proofs.lemmas.Nat.{div-add-mod'}
 use Rattle.std.proofs.lemmas.Bool.Decides.{nat_tests}
-use Rattle.std.proofs.lemmas.Bool.{and_parts, and_from, cond-true, cond-false, leb-true, le-leb, ltb-true, lt-ltb}
+use Rattle.std.proofs.lemmas.Bool.{and_parts, and_from, cond-true, cond-false, leb-true, le-leb, lt-ltb}
 use Rattle.c_values.specs.Types.{CType, Struct, Array}
 use Rattle.c_values.specs.Name.{Name}
 use Rattle.c_values.specs.Layout.{Layout, IsLayout, Shape, Incomplete, Scalar, Record, Row, Fields, no_fields, field, size, type_of, shape_of, size_of, is_object, is_complete, largest_size}
 use Rattle.c_values.specs.Path.{Step, Field, Index, Spot, member_spot, step_spot}
 use Rattle.c_values.proofs.Formed.{IsFormed, AreFormed, size_some, members_end}
 use Rattle.c_values.proofs.Laid.{shape_good, shape_type}
-use Rattle.c_values.proofs.Height.{height, highest}
 use Rattle.c_memory.specs.Tags.{root_path, member_path, prefixed}
 use Rattle.c_memory.specs.Inner.{inner_path, LiesIn, LiesInNone}
 use Rattle.c_memory.proofs.Objects.{object_complete}

@@ -1,7 +1,7 @@
 -- Numbers of a few bytes, the lowest first.
-use Rattle.std.proofs.Common.{◌≡◌, ℕ, zero, suc, ◌+◌, ◌-◌, ◌*◌, ◌/◌, ◌%◌, ◌^◌, ◌<◌, ◌≤◌, ◌⊎◌, inl, inr, List, length, slice_index, take, nat_eq, cond, true, false, refl, sym, ap, ap₂, ◌∙◌, subst, arith, mod-eq_of_lt, get_or-take, length-take}
+use Rattle.std.proofs.Common.{◌≡◌, ℕ, zero, suc, ◌+◌, ◌-◌, ◌*◌, ◌/◌, ◌%◌, ◌<◌, ◌≤◌, ◌⊎◌, inl, inr, List, length, slice_index, take, refl, sym, ap, ap₂, ◌∙◌, subst, arith, mod-eq_of_lt, get_or-take, length-take}
 use Rattle.std.proofs.Math.Path.{fun_ext}
-use Rattle.std.proofs.lemmas.Bool.{cases_lt, cond-true, cond-false}
+use Rattle.std.proofs.lemmas.Bool.{cases_lt}
 use Rattle.std.specs.Int.{w64, from_le_bytes, to_le_bytes}
 use Rattle.c_memory.specs.Memory.{little_endian, with_byte, with_bytes}
 use Rattle.c_memory.specs.Pages.{IsRun}

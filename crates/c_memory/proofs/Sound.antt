@@ -1,6 +1,6 @@
 -- A tag without a fault is a tag beside the earlier ones.
-use Rattle.std.proofs.Common.{◌≡◌, ℕ, zero, suc, ◌+◌, ◌%◌, ◌<◌, ◌≤◌, nat_eq, nat_lt, nat_le, ◌⊎◌, inl, inr, Bool, true, false, not, ◌&&◌, ◌||◌, cond, List, [], ◌∷◌, ◌++◌, length, map, take, drop, get_or, Option, Some, None, slice_get, refl, sym, ap, ap₂, ◌∙◌, subst, arith}
-use Rattle.std.proofs.lemmas.Bool.{false≢true, and_parts, leb-true}
+use Rattle.std.proofs.Common.{◌≡◌, ℕ, zero, suc, ◌+◌, ◌%◌, ◌<◌, nat_eq, nat_lt, nat_le, ◌⊎◌, inl, inr, Bool, true, false, not, ◌&&◌, ◌||◌, cond, List, [], ◌∷◌, ◌++◌, Option, Some, None, slice_get, refl, ap, ◌∙◌, subst, arith}
+use Rattle.std.proofs.lemmas.Bool.{and_parts, leb-true}
 use Rattle.std.proofs.lemmas.Bool.Decides.{nat_tests}
 use Rattle.c_memory.specs.declared.faults.HeapFault.{HeapFault}
 use Rattle.c_memory.specs.declared.faults.HeapFault.TheVariants.{Misaligned, Null, Past, Overlap}
@@ -8,7 +8,7 @@ use Rattle.c_values.specs.Layout.{Layout, IsLayout, size_of, align_of, space, sh
 use Rattle.c_values.proofs.Formed.{formed_alignment, some_bytes}
 use Rattle.c_values.proofs.Laid.{shape_good}
 use Rattle.c_memory.specs.Memory.{Tag}
-use Rattle.c_memory.specs.Tags.{IsTag, AreApart, ApartFrom, AreTags, is_pointer_ok}
+use Rattle.c_memory.specs.Tags.{IsTag, AreApart, ApartFrom, AreTags}
 use Rattle.c_memory.specs.TagFault.{are_apart, is_apart, tag_fault, or_else, first_fault, IsRoot}
 use Rattle.c_memory.proofs.Objects.{object_complete}
 use Rattle.c_memory.proofs.Rows.{object_some}

@@ -1,5 +1,5 @@
 -- The space is made of whole pages.
-use Rattle.std.proofs.Common.{◌≡◌, ℕ, ◌+◌, ◌*◌, ◌/◌, ◌%◌, ◌^◌, ◌<◌, ◌≤◌, arith}
+use Rattle.std.proofs.Common.{ℕ, ◌+◌, ◌%◌, ◌^◌, ◌<◌, ◌≤◌, arith}
 use Rattle.c_values.specs.Types.{Target, Ilp32, Lp64, address_width}
 
 -- what is in one page is in the space

@@ -1,11 +1,10 @@
 -- Where the steps of a path lead, one after the other.
-use Rattle.std.proofs.Common.{◌≡◌, ℕ, suc, ◌+◌, ◌*◌, ◌%◌, ◌<◌, ◌≤◌, true, arith, ltb, leb, ◌&&◌, List, [], ◌∷◌, length, get_or, map, drop, add-one, drop-cons, Option, Some, None, ℤ, pos, ◌+ℤ◌, refl, sym, ap, ap₂, ◌∙◌}
+use Rattle.std.proofs.Common.{◌≡◌, ℕ, suc, ◌+◌, ◌*◌, ◌<◌, ◌≤◌, true, arith, ltb, leb, List, ◌∷◌, length, get_or, map, drop, add-one, drop-cons, Option, Some, None, ℤ, pos, refl, sym, ap, ap₂, ◌∙◌}
 use Rattle.std.proofs.lemmas.Bool.{and_parts, and_from, ltb-true, leb-true, le-leb}
 use Rattle.c_values.specs.Types.{CType, Array, Struct}
 use Rattle.c_values.specs.Name.{Name}
 use Rattle.c_values.specs.Layout.{Layout, IsLayout, Shape, Incomplete, Scalar, Record, Row, type_of, shape_of, size_of, is_complete, is_object, largest_size}
 use Rattle.c_values.specs.Path.{Step, Field, Index, Spot, spot, step_spot, and_then_spot, further}
-use Rattle.c_values.specs.PartOf.{IsPart}
 use Rattle.c_values.proofs.Laid.{shape_type}
 use Rattle.c_values.proofs.Steps.{to_member}
 use Rattle.c_memory.specs.Memory.{address_at}

@@ -1,5 +1,5 @@
 -- Bytes that are given in ranges: an address and the bytes from it on. An absent byte is 0.
-use Rattle.std.specs.Prelude.{ℕ, ◌+◌, ◌-◌, ◌<◌, ◌≤◌, nat_le, nat_lt, ◌&&◌, List, [], ◌∷◌, length, slice_index, Vec, if◌then◌else◌}
+use Rattle.std.specs.Prelude.{ℕ, ◌+◌, ◌-◌, ◌≤◌, nat_le, nat_lt, ◌&&◌, List, [], ◌∷◌, length, slice_index, Vec, if◌then◌else◌}
 use Rattle.std.specs.declared.alloc.Global.{Global}
 
 pub record Run : Type 0 where

@@ -66,12 +66,7 @@ pub fn part_at<'a>(l: &'a Layout, whole: &'a CType, offset: u64) -> Option<Part<
     }
 }
 
-fn element_at<'a>(
-    l: &'a Layout,
-    element: &'a CType,
-    length: u32,
-    offset: u64,
-) -> Option<Part<'a>>
+fn element_at<'a>(l: &'a Layout, element: &'a CType, length: u32, offset: u64) -> Option<Part<'a>>
     requires { is_object l.now (Array (type_of element.now) length) ≡ true }
     ensures none { IfNone result (LiesInNone l.now (Array (type_of element.now) length) offset) }
     ensures some { IfSome result

@@ -44,12 +44,7 @@ pub(crate) fn place_at<'a>(
 }
 
 // The place to which one step leads.
-fn place_in<'a>(
-    l: &'a Layout,
-    target: Target,
-    whole: Place<'a>,
-    step: Step,
-) -> Option<Place<'a>>
+fn place_in<'a>(l: &'a Layout, target: Target, whole: Place<'a>, step: Step) -> Option<Place<'a>>
     requires layout { IsLayout l.now }
     requires target { target_of target ≡ l.now.target }
     requires object { is_object l.now (type_of whole.ty.now) ≡ true }
@@ -65,12 +60,7 @@ fn place_in<'a>(
 }
 
 // The place of a member.
-fn member_of<'a>(
-    l: &'a Layout,
-    target: Target,
-    whole: Place<'a>,
-    k: u32,
-) -> Option<Place<'a>>
+fn member_of<'a>(l: &'a Layout, target: Target, whole: Place<'a>, k: u32) -> Option<Place<'a>>
     requires layout { IsLayout l.now }
     requires target { target_of target ≡ l.now.target }
     requires object { is_object l.now (type_of whole.ty.now) ≡ true }

@@ -60,13 +60,7 @@ fn with_tag(
 }
 
 // What is wrong with a tag after the earlier ones.
-fn tag_fault(
-    table: &TagTable,
-    l: &Layout,
-    k: usize,
-    address: u64,
-    ty: &CType,
-) -> Option<HeapFault>
+fn tag_fault(table: &TagTable, l: &Layout, k: usize, address: u64, ty: &CType) -> Option<HeapFault>
     requires tags { AreTags l.now table.now }
     requires object { is_object l.now (type_of ty.now) ≡ true }
     ensures fault { result ≡ tag_fault l.now table.now k (record { address = address; type = type_of ty.now }) }

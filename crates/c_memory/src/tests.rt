@@ -46,7 +46,14 @@ fn pages_that_are_kept(rt: HostRuntime) -> Result<(), Fail> {
     bytes.push((8192, [2u8].to_vec(alloc)?))?;
     let mut heap = ByteHeap::new(alloc, &l, &bytes, &[])?;
     assert_eq!(rt; heap.pages(), 2);
-    heap.write_value(alloc, &l, &uint(), 12288, &[], &Value::Word(Word::new(32, 1)))?;
+    heap.write_value(
+        alloc,
+        &l,
+        &uint(),
+        12288,
+        &[],
+        &Value::Word(Word::new(32, 1)),
+    )?;
     assert_eq!(rt; heap.pages(), 3);
     assert_eq!(rt; heap.read_word(&l, &uint(), 16384, &[]).bits(), 0);
     assert_eq!(rt; heap.pages(), 3);
@@ -57,13 +64,19 @@ fn pages_that_are_kept(rt: HostRuntime) -> Result<(), Fail> {
 #[test]
 fn over_the_end_of_the_space(rt: HostRuntime) -> Result<(), Fail> {
     let alloc = rt.alloc();
-    for (target, address) in [(Target::Ilp32, 4294967294), (Target::Lp64, 18446744073709551614)] {
+    for (target, address) in [
+        (Target::Ilp32, 4294967294),
+        (Target::Lp64, 18446744073709551614),
+    ] {
         let l = no_structs(alloc, target)?;
         let mut bytes = Vec::new(alloc);
         bytes.push((0, [3u8, 4].to_vec(alloc)?))?;
         bytes.push((address, [1u8, 2].to_vec(alloc)?))?;
         let heap = ByteHeap::new(alloc, &l, &bytes, &[])?;
-        assert_eq!(rt; heap.read_word(&l, &uint(), address, &[]).bits(), 0x04030201);
+        assert_eq!(rt;
+            heap.read_word(&l, &uint(), address, &[]).bits(),
+            0x04030201
+        );
     }
     Ok(())
 }

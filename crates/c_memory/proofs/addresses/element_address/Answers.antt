@@ -1,4 +1,3 @@
-use Rattle.std.proofs.Common.{◌≡◌}
 use Rattle.c_values.specs.CodeTypes.{target_of}
 use Rattle.c_memory.proofs.Elements.{element_address}
 use Rattle.c_memory.proofs.addresses.element_address.Goals as goal

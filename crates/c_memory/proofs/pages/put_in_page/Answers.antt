@@ -1,4 +1,4 @@
-use Rattle.std.proofs.Common.{◌≡◌, ◌∙◌, ◌+◌, ◌^◌, ◌<◌, ◌≤◌, ℕ, refl, sym, arith, length}
+use Rattle.std.proofs.Common.{◌^◌}
 use Rattle.c_values.specs.Types.{address_width}
 use Rattle.c_values.specs.CodeTypes.{target_of}
 use Rattle.c_memory.specs.Pages.{byte_at}

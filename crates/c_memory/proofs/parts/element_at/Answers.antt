@@ -1,4 +1,4 @@
-use Rattle.std.proofs.Common.{◌≡◌, ◌<◌, ◌/◌, ◌∙◌, arith, sym, subst}
+use Rattle.std.proofs.Common.{◌<◌, ◌/◌, ◌∙◌, arith, sym, subst}
 use Rattle.c_values.specs.CodeTypes.{type_of}
 use Rattle.c_memory.proofs.Walks.{element_object}
 use Rattle.c_memory.proofs.Rows.{object_some, lies_in_element}

@@ -1,5 +1,4 @@
-use Rattle.std.proofs.Common.{◌≡◌, ◌∙◌, true, is_some, arith, sym, ap}
-use Rattle.c_values.specs.Layout.{size_of}
+use Rattle.std.proofs.Common.{◌∙◌, is_some, arith, sym, ap}
 use Rattle.c_values.specs.CodeTypes.{type_of}
 use Rattle.c_memory.specs.Inner.{part_step}
 use Rattle.c_memory.proofs.Inside.{step_lower, path_outside, root_here, root_in, root_in_none, some_prefixed}

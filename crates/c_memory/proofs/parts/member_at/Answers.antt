@@ -1,6 +1,6 @@
-use Rattle.std.proofs.Common.{◌≡◌, ◌+◌, ◌-◌, ◌<◌, ◌≤◌, ◌∙◌, arith, sym, subst}
+use Rattle.std.proofs.Common.{◌-◌, ◌<◌, ◌≤◌, arith, sym, subst}
 use Rattle.c_values.specs.Types.{Struct}
-use Rattle.c_values.specs.Layout.{shape_of, size_of}
+use Rattle.c_values.specs.Layout.{size_of}
 use Rattle.c_values.specs.CodeTypes.{type_of}
 use Rattle.c_memory.specs.Inner.{LiesIn}
 use Rattle.c_memory.proofs.Walks.{member_object}
@@ -37,7 +37,7 @@ members-preserved c =
     let at = c.in-Some.at in
     past_member l c.in-Some.ensures.layout c.args.name.now c.requires c.args.offset c.members.k at u c.in-Some.ensures.some c.members.invariant
     (elim c.else-at-offset.branch [
-      else-at-offset-via-then-at-offset+else-offset-at w ↦ after_member at c.args.offset (size_of l u) (omega (arith, w.size_of.ensures.value))
+      | else-at-offset-via-then-at-offset+else-offset-at w ↦ after_member at c.args.offset (size_of l u) (omega (arith, w.size_of.ensures.value))
       | else-at-offset-via-else-at-offset w ↦ before_member at c.args.offset (size_of l u) (omega arith)
     ])
 

@@ -1,4 +1,4 @@
-use Rattle.std.proofs.Common.{◌≡◌, ℕ, ◌-◌}
+use Rattle.std.proofs.Common.{◌≡◌, ◌-◌}
 use Rattle.c_values.specs.Types.{CType, Struct}
 use Rattle.c_values.specs.Layout.{shape_of}
 use Rattle.c_memory.specs.Tags.{member_path}

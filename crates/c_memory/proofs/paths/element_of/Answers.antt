@@ -1,5 +1,4 @@
 use Rattle.std.proofs.Common.{◌≡◌, true, ap, sym, ◌∙◌, subst}
-use Rattle.std.specs.Prelude.{string_bytes}
 use Rattle.c_values.specs.Types.{CType}
 use Rattle.c_values.specs.Layout.{is_object, space, shape_of}
 use Rattle.c_values.specs.Path.{Index, step_spot}

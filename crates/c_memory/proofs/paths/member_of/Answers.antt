@@ -1,5 +1,5 @@
 use Rattle.std.proofs.Common.{◌≡◌, true, ap, subst, sym, ◌∙◌}
-use Rattle.std.specs.Prelude.{string_bytes, Some, pos}
+use Rattle.std.specs.Prelude.{string_bytes}
 use Rattle.c_values.specs.Types.{CType, Struct}
 use Rattle.c_values.specs.Layout.{is_object, shape_of}
 use Rattle.c_values.specs.Path.{Field, step_spot}

@@ -1,4 +1,4 @@
-use Rattle.std.proofs.Common.{◌≡◌, ◌∙◌, map, drop, ap, sym, ◌+◌}
+use Rattle.std.proofs.Common.{◌∙◌, map, drop, ap, sym, ◌+◌}
 use Rattle.c_values.specs.Layout.{shape_of, space}
 use Rattle.c_values.specs.Path.{spot}
 use Rattle.c_values.specs.CodeTypes.{type_of}

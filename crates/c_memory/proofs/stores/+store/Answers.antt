@@ -1,10 +1,10 @@
-use Rattle.std.proofs.Common.{◌≡◌, ◌+◌, ◌-◌, ◌*◌, ◌%◌, ◌^◌, ◌<◌, ◌≤◌, ◌∙◌, ℕ, Some, None, slice_get, ap, ap₂, sym, subst, arith}
+use Rattle.std.proofs.Common.{◌≡◌, ◌+◌, ◌*◌, ◌%◌, ◌^◌, ◌<◌, ◌∙◌, Some, None, slice_get, ap, ap₂, sym, subst, arith}
 use Rattle.std.proofs.lemmas.Nat.{mod_below, pow_pos}
 use Rattle.std.specs.Prelude.{string_bytes}
-use Rattle.c_values.specs.Types.{CType, Struct, Array, address_width}
-use Rattle.c_values.specs.Layout.{shape_of, size_of, size, space}
+use Rattle.c_values.specs.Types.{Struct, Array, address_width}
+use Rattle.c_values.specs.Layout.{shape_of, size_of, space}
 use Rattle.c_values.specs.Path.{Field, step_spot}
-use Rattle.c_values.specs.CodeTypes.{target_of, type_of}
+use Rattle.c_values.specs.CodeTypes.{type_of}
 use Rattle.c_values.specs.CodeValue.{value_of}
 use Rattle.c_values.specs.Value.{Parts}
 use Rattle.c_memory.specs.Memory.{store}
@@ -25,10 +25,9 @@ store_array-store-requires t c =
     let u = type_of c.args.element.now in
     let n = c.from-size.ensures ∙ c.size_of.ensures.value in
     let at : c.moved-address.result ≡ (c.args.address + c.elements.i * size_of l u) % space l =
-        c.moved-address.ensures ∙ ap₂ (λ k w. (c.args.address + k) % 2 ^ address_width w) (ap₂ (λ i m. i * m) c.from.ensures n) c.target.ensures.value in
+    c.moved-address.ensures ∙ ap₂ (λ k w. (c.args.address + k) % 2 ^ address_width w) (ap₂ (λ i m. i * m) c.from.ensures n) c.target.ensures.value in
     let small = mod_below (c.args.address + c.elements.i * size_of l u) (space l) (pow_pos (address_width l.target)) in
-    let fall = c.decreases in
-    (
+    let fall = c.decreases in (
       omega (arith, fall),
       (
         c.size_of.ensures.layout,
@@ -37,7 +36,7 @@ store_array-store-requires t c =
           (
             subst (λ k. k < space l) (sym at) small,
             inner_pages (space l) c.args.pages.now c.elements.pages c.args.address (c.elements.i * size_of l u) (size_of l (Array u c.args.length)) (size_of l u) c.moved-address.result
-            c.requires.pages c.elements.invariant.pages at (element_within l u c.args.length c.elements.i c.size_of.ensures.layout c.requires.object c.elements-test.true),
+                c.requires.pages c.elements.invariant.pages at (element_within l u c.args.length c.elements.i c.size_of.ensures.layout c.requires.object c.elements-test.true),
           ),
         ),
       ),
@@ -49,7 +48,7 @@ store_array-elements-preserved t c =
     let u = type_of c.args.element.now in
     let n = c.from-size.ensures ∙ c.size_of.ensures.value in
     let at : c.moved-address.result ≡ (c.args.address + c.elements.i * size_of l u) % space l =
-        c.moved-address.ensures ∙ ap₂ (λ k w. (c.args.address + k) % 2 ^ address_width w) (ap₂ (λ i m. i * m) c.from.ensures n) c.target.ensures.value in
+    c.moved-address.ensures ∙ ap₂ (λ k w. (c.args.address + k) % 2 ^ address_width w) (ap₂ (λ i m. i * m) c.from.ensures n) c.target.ensures.value in
     let part : slice_get c.args.parts.now c.elements.i ≡ Some c.in-Some.value.now = cc c.in-Some.ensures in
     record {
       bytes =
@@ -72,10 +71,9 @@ store_struct-store-requires t c =
     let step : step_spot (shape_of l (Struct x)) (Field c.members.k) ≡ Some _ = ap (λ y. step_spot (shape_of l (Struct y)) (Field c.members.k)) (sym c.as_str.ensures.value) ∙ c.in-Some.ensures.some in
     let low = step_lower (shape_of l (Struct x)) (Field c.members.k) _ step in
     let at : c.moved-address.result ≡ (c.args.address + c.in-Some.at) % space l =
-        c.moved-address.ensures ∙ ap₂ (λ k w. (c.args.address + k) % 2 ^ address_width w) c.from.ensures c.target.ensures.value in
+    c.moved-address.ensures ∙ ap₂ (λ k w. (c.args.address + k) % 2 ^ address_width w) c.from.ensures c.target.ensures.value in
     let small = mod_below (c.args.address + c.in-Some.at) (space l) (pow_pos (address_width l.target)) in
-    let fall = c.decreases in
-    (
+    let fall = c.decreases in (
       omega (arith, low, fall),
       (
         c.in-Some.ensures.layout,
@@ -84,7 +82,7 @@ store_struct-store-requires t c =
           (
             subst (λ k. k < space l) (sym at) small,
             inner_pages (space l) c.args.pages.now c.members.pages c.args.address c.in-Some.at (size_of l (Struct x)) (size_of l u) c.moved-address.result
-            c.requires.pages c.members.invariant.pages at (member_within l x c.members.k c.in-Some.at u c.in-Some.ensures.layout c.requires.object step),
+                c.requires.pages c.members.invariant.pages at (member_within l x c.members.k c.in-Some.at u c.in-Some.ensures.layout c.requires.object step),
           ),
         ),
       ),
@@ -109,7 +107,7 @@ store_struct-members-preserved t c =
     let u = type_of c.in-Some.ty.now in
     let step = ap (λ y. step_spot (shape_of l (Struct y)) (Field c.members.k)) (sym c.as_str.ensures.value) ∙ c.in-Some.ensures.some in
     let at : c.moved-address.result ≡ (c.args.address + c.in-Some.at) % space l =
-        c.moved-address.ensures ∙ ap₂ (λ k w. (c.args.address + k) % 2 ^ address_width w) c.from.ensures c.target.ensures.value in
+    c.moved-address.ensures ∙ ap₂ (λ k w. (c.args.address + k) % 2 ^ address_width w) c.from.ensures c.target.ensures.value in
     let part : slice_get c.args.parts.now c.members.k ≡ Some c.in-Some-part.value.now = cc c.in-Some-part.ensures in
     record {
       bytes =

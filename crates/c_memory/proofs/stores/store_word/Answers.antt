@@ -1,7 +1,7 @@
-use Rattle.std.proofs.Common.{◌≡◌, ◌∙◌, ◌^◌, ap, ap₂, sym}
+use Rattle.std.proofs.Common.{◌∙◌, ◌^◌, ap, ap₂, sym}
 use Rattle.c_values.specs.Types.{address_width}
-use Rattle.c_values.specs.Layout.{shape_of, size_of, space}
-use Rattle.c_values.specs.CodeTypes.{target_of, type_of}
+use Rattle.c_values.specs.Layout.{shape_of, space}
+use Rattle.c_values.specs.CodeTypes.{type_of}
 use Rattle.c_values.specs.CodeValue.{value_of}
 use Rattle.c_memory.specs.Memory.{store, with_bytes}
 use Rattle.c_memory.specs.Pages.{byte_at}

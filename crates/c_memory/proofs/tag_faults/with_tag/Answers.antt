@@ -1,4 +1,4 @@
-use Rattle.std.proofs.Common.{◌≡◌, ◌++◌, ◌∷◌, [], ◌∙◌, List, ap, ap₂, sym, subst, None, Some, slice_get}
+use Rattle.std.proofs.Common.{◌≡◌, ◌++◌, ◌∷◌, [], ◌∙◌, List, ap₂, sym, subst, Some, slice_get}
 use Rattle.c_values.specs.CodeTypes.{type_of}
 use Rattle.c_memory.specs.Memory.{Tag}
 use Rattle.c_memory.specs.Tags.{AreTags}

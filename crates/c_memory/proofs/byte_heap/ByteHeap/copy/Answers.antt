@@ -1,6 +1,5 @@
-use Rattle.std.proofs.Common.{◌≡◌, ap₂, ℕ, List}
-use Rattle.c_memory.specs.Memory.{Memory, Tag}
-use Rattle.c_memory.specs.Pages.{byte_at}
+use Rattle.std.proofs.Common.{ap₂, ℕ, List}
+use Rattle.c_memory.specs.Memory.{Tag}
 use Rattle.c_memory.proofs.Copied.{same_bytes}
 use Rattle.c_memory.proofs.byte_heap.ByteHeap.copy.Goals as goal
 

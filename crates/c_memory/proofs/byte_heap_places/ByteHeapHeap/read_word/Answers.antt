@@ -1,4 +1,4 @@
-use Rattle.std.proofs.Common.{◌≡◌, ◌∙◌, true, Option, Some, IfSome, map, ap, sym, subst}
+use Rattle.std.proofs.Common.{◌≡◌, ◌∙◌, true, Option, IfSome, map, ap, sym, subst}
 use Rattle.std.specs.Option.{option_map}
 use Rattle.c_values.specs.Layout.{shape_of, space, is_object}
 use Rattle.c_values.specs.Path.{spot}

@@ -1,9 +1,8 @@
-use Rattle.std.proofs.Common.{◌≡◌, ◌+◌, ◌-◌, ◌*◌, ◌<◌, ◌≤◌, ◌∙◌, true, false, is_some, length, subst, sym, ap, arith}
-use Rattle.c_values.specs.Types.{CType}
+use Rattle.std.proofs.Common.{◌≡◌, ◌-◌, ◌∙◌, true, is_some, subst, sym, ap, arith}
 use Rattle.c_values.specs.Layout.{is_object, shape_of}
 use Rattle.c_values.specs.CodeTypes.{type_of}
 use Rattle.c_memory.specs.Memory.{Tag}
-use Rattle.c_memory.specs.Tags.{root_path, path_from}
+use Rattle.c_memory.specs.Tags.{root_path}
 use Rattle.c_memory.specs.CodeTag.{tag_of}
 use Rattle.c_memory.proofs.Neighbours.{tag_at, item_at, within_list, path_of, none_covers, last_covers}
 use Rattle.c_memory.proofs.tag_table.TagTable.find.Goals as goal

@@ -1,5 +1,4 @@
-use Rattle.std.proofs.Common.{◌≡◌, ◌<◌, ◌∙◌, true, false, Bool, MatchBool, refl, sym, subst}
-use Rattle.c_values.specs.Layout.{size_of}
+use Rattle.std.proofs.Common.{◌≡◌, ◌∙◌, true, false, Bool, MatchBool, sym, subst}
 use Rattle.c_values.specs.CodeTypes.{type_of}
 use Rattle.c_memory.specs.Memory.{Tag}
 use Rattle.c_memory.specs.TagIndex.{AllBeginAfter, OneBeginsWithin}

@@ -1,4 +1,4 @@
-use Rattle.std.proofs.Common.{◌≡◌, ◌++◌, ◌∷◌, [], ◌∙◌, ℕ, List, map, ap, sym, subst, length, slice_get, Some, arith}
+use Rattle.std.proofs.Common.{◌≡◌, ◌++◌, ◌∷◌, [], ◌∙◌, List, map, ap, sym, subst, length, slice_get, Some, arith}
 use Rattle.std.proofs.lemmas.List.{map-append, length-map}
 use Rattle.c_values.specs.CodeTypes.{type_of}
 use Rattle.c_memory.specs.Memory.{Tag}
