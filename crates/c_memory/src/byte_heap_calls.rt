@@ -16,6 +16,7 @@ use crate::faults::HeapFault;
 use crate::pages::byte_at;
 use crate::ranges::pages_of;
 use crate::tag_faults::table_of;
+use crate::tag_table::TagTable;
 use c_values::{CType, Layout};
 use std::alloc::{AllocError, Global};
 
@@ -66,6 +67,13 @@ impl ByteHeap {
         ensures { map tag_of result.now ≡ (memory_of self.now).tags }
     {
         self.tags.tags()
+    }
+
+    /// The tags, with what finds them by their addresses.
+    pub fn tag_table(&self) -> &TagTable
+        ensures { result.now ≡ (memory_of self.now).tags }
+    {
+        &self.tags
     }
 
     /// How many pages are kept. Every address whose byte isn't 0 lies in one of them.
