@@ -63,7 +63,7 @@ module _ (space : ℕ) (bytes bytes' : ℕ → ℕ) where
         (load_same s (a + offset) f.first (λ i lt. subst (λ b. bytes (b % space) ≡ bytes' (b % space)) (sym (add_assoc a offset i)) (h (offset + i) (omega (arith, f.after)) (omega (arith, end, lt)))))
         (members_same fs align n (offset + size s) a f.others (λ i from lt. h i (omega (arith, f.after, from)) lt))
 
-first_byte : (space a n v : ℕ) (bytes : ℕ → ℕ) → suc n ≤ space → with_bytes space a (suc n) v bytes (a % space) ≡ v % 256
+pub first_byte : (space a n v : ℕ) (bytes : ℕ → ℕ) → suc n ≤ space → with_bytes space a (suc n) v bytes (a % space) ≡ v % 256
 first_byte space a n v bytes fit =
     bytes_frame space (a + 1) n (v / 256) (with_byte (a % space) (v % 256) bytes) (a % space) (λ i lt e. apart_addresses space a 0 (1 + i) (omega arith) (omega arith) (ap (λ b. b % space) (add-zero a) ∙ sym e ∙ ap (λ b. b % space) (add_assoc a 1 i)))
     ∙ cond-true (nat_eq (a % space) (a % space)) (v % 256) (bytes (a % space)) (eq-eqb (a % space) (a % space) refl)

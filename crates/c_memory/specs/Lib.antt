@@ -2,3 +2,15 @@ pub mod Memory
 pub mod Tags
 pub mod TypedHeap
 pub mod Heap
+pub mod CodeStep
+pub mod Place
+pub mod CodeTag
+pub mod Pages
+pub mod Layers
+pub mod Nearest
+pub mod Inner
+pub mod TagIndex
+pub mod TagFault
+pub mod Ranges
+pub mod CodeHeap
+pub mod CodeParts

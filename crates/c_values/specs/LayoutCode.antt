@@ -54,7 +54,7 @@ wrapped_around (Struct x) = refl
 wrapped_around (Ptr t) = ap (λ u. Ptr u) (wrapped_around t)
 wrapped_around (Array t n) = ap (λ u. Array u n) (wrapped_around t)
 
-abbrev type_code : Coded CType
+abbrev pub type_code : Coded CType
 type_code = code_by (List (Option ℕ) × (ℕ × Name)) (coded× (coded_list (coded_option coded_ℕ)) (coded× coded_ℕ (coded_list coded_ℕ))) (λ t. (around t, last t)) (λ p. wrapped p.0 (last_type p.1)) wrapped_around
 
 abbrev member_code : Coded Member

@@ -121,11 +121,12 @@ impl Layout {
         &self.structs
     }
 
-    // The offset and the type of a struct's member.
-    pub(crate) fn member(&self, name: &str, k: u32) -> Option<(u32, &CType)>
+    /// The offset and the type of a struct's member, from 0. There is none where the struct has no body, or no such member.
+    pub fn member(&self, name: &str, k: u32) -> Option<(u32, &CType)>
         ensures none { IfNone result (step_spot (shape_of self.now (Struct name.now)) (Field k) ≡ None) }
         ensures some { IfSome result (λ m. step_spot (shape_of self.now (Struct name.now)) (Field k)
             ≡ Some (record { offset = pos m.0; shape = shape_of self.now (type_of m.1.now) })) }
+        ensures layout { IsLayout self.now }
     {
         let places = self.table.get(name)?;
         let k = k as usize;

@@ -1,0 +1,11 @@
+//! What a typed heap is.
+
+use c_memory::TagTable;
+use c_values::Value;
+
+/// Tags, with the value that lies at each.
+#[derive(Drop)]
+pub struct TypedHeap {
+    pub(crate) tags: TagTable,
+    pub(crate) values: Vec<Value>,
+}
