@@ -1,1 +1,10 @@
 pub mod Typed
+pub mod Cast
+pub mod Scope
+pub mod Checked
+pub mod Integers
+pub mod Constant
+pub mod Operand
+pub mod Operators
+pub mod Declarations
+pub mod Expressions

@@ -1,2 +1,6 @@
 //! Typed C units: each expression has its type, and each conversion stands where it is made.
 #![tactic(auto)]
+
+mod fault;
+
+pub use fault::{TypeFault, TypeKind};
