@@ -8,3 +8,4 @@ pub mod Operand
 pub mod Operators
 pub mod Declarations
 pub mod Expressions
+pub mod View

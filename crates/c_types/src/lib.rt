@@ -2,5 +2,6 @@
 #![tactic(auto)]
 
 mod fault;
+pub mod typed;
 
 pub use fault::{TypeFault, TypeKind};
