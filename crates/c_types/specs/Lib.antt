@@ -1,2 +1,11 @@
 pub mod Typed
+pub mod Cast
+pub mod Scope
+pub mod Checked
+pub mod Integers
+pub mod Constant
+pub mod Operand
+pub mod Operators
+pub mod Declarations
+pub mod Expressions
 pub mod View

@@ -1,0 +1,254 @@
+-- Declarations of types, members, enumerators and tags: the rules (C99 6.7.2, 6.7.5).
+use Rattle.std.specs.Prelude.{ℕ, zero, suc, ◌+◌, ◌==◌, nat_le, Bool, true, false, not, ◌&&◌, ◌||◌, List, [], ◌∷◌, ◌++◌, map, Option, Some, None, is_some, is_none, ℤ, pos, negsuc, if◌then◌else◌}
+use Rattle.std.specs.Fmt.{decimal}
+use Rattle.c_lex.specs.declared.token.Keyword.{Keyword}
+use Rattle.c_lex.specs.declared.token.Keyword.TheVariants as K
+use Rattle.c_values.specs.Name.{Name, with_name, is_among}
+use Rattle.c_values.specs.Types.{IntType, Char, SChar, UChar, Short, UShort, Int, UInt, Long, ULong, LLong, ULLong, CType, Integer, Void, Ptr, Struct, Array}
+use Rattle.c_values.specs.Number.{is_of_type}
+use Rattle.c_values.specs.Layout.{Layout, Member, StructDef, is_object}
+use Rattle.c_types.specs.declared.fault.TypeKind.TheVariants.{Unknown, Twice, Mismatch, Incomplete, OutOfSubset, Large}
+use Rattle.c_types.specs.Scope.{Scope, Tag, StructTag, EnumTag, is_declared_here}
+use Rattle.c_types.specs.Checked.{Ruling, Ruled, Refused, refuse, ◌>=>◌}
+use Rattle.c_types.specs.Operand.{is_array}
+
+-- how often each integer word stands
+pub record Integers : Type 0 where
+  pub chars : ℕ
+  pub shorts : ℕ
+  pub ints : ℕ
+  pub longs : ℕ
+  pub signeds : ℕ
+  pub unsigneds : ℕ
+
+abbrev pub no_integers : Integers
+no_integers = record { chars = 0; shorts = 0; ints = 0; longs = 0; signeds = 0; unsigneds = 0 }
+
+-- no `signed` or `unsigned`, or one of these
+pub data Signedness : Type 0 where
+  Plain : Signedness
+  Signed : Signedness
+  Unsigned : Signedness
+
+abbrev pub signedness : ℕ → ℕ → Option Signedness
+signedness zero zero = Some Plain
+signedness (suc zero) zero = Some Signed
+signedness zero (suc zero) = Some Unsigned
+signedness _ _ = None
+
+abbrev pub char_type : Signedness → IntType
+char_type Plain = Char
+char_type Signed = SChar
+char_type Unsigned = UChar
+
+abbrev pub short_type : Signedness → IntType
+short_type Unsigned = UShort
+short_type _ = Short
+
+abbrev pub int_type : Signedness → IntType
+int_type Unsigned = UInt
+int_type _ = Int
+
+abbrev pub long_type : Signedness → IntType
+long_type Unsigned = ULong
+long_type _ = Long
+
+abbrev pub long_long_type : Signedness → IntType
+long_long_type Unsigned = ULLong
+long_long_type _ = LLong
+
+-- by the numbers of `char`, `short` and `long`, where `int` stands at most once
+abbrev pub sized : Signedness → ℕ → ℕ → ℕ → Option IntType
+sized s zero zero zero = Some (int_type s)
+sized s (suc zero) zero zero = Some (char_type s)
+sized s zero (suc zero) zero = Some (short_type s)
+sized s zero zero (suc zero) = Some (long_type s)
+sized s zero zero (suc (suc zero)) = Some (long_long_type s)
+sized s _ _ _ = None
+
+abbrev pub sized_where : Option Signedness → Integers → Option IntType
+sized_where None n = None
+sized_where (Some s) n =
+    if nat_le n.ints 1 && (n.ints == 0 || n.chars == 0) then sized s n.chars n.shorts n.longs else None
+
+-- the type that integer words write (C99 6.7.2p2)
+abbrev pub integer_type : Integers → Option IntType
+integer_type n = sized_where (signedness n.signeds n.unsigneds) n
+
+-- what one word says: a keyword, or a type
+pub data Part : Type 0 where
+  Word : Keyword → Part
+  Type' : CType → Part
+
+-- what the words of a type and its storage say
+pub record Specs : Type 0 where
+  pub integers : Integers
+  -- how many integer words there are
+  pub words : ℕ
+  -- a type that isn't made of integer words
+  pub named : List CType
+  pub is_static : Bool
+  pub is_extern : Bool
+
+abbrev pub no_specs : Specs
+no_specs = record { integers = no_integers; words = 0; named = []; is_static = false; is_extern = false }
+
+abbrev pub with_integers : Specs → Integers → Specs
+with_integers b n = record b { integers = n; words = b.words + 1 }
+
+abbrev pub with_keyword : Specs → Keyword → Specs
+with_keyword b K.Char = with_integers b (record b.integers { chars = b.integers.chars + 1 })
+with_keyword b K.Short = with_integers b (record b.integers { shorts = b.integers.shorts + 1 })
+with_keyword b K.Int = with_integers b (record b.integers { ints = b.integers.ints + 1 })
+with_keyword b K.Long = with_integers b (record b.integers { longs = b.integers.longs + 1 })
+with_keyword b K.Signed = with_integers b (record b.integers { signeds = b.integers.signeds + 1 })
+with_keyword b K.Unsigned = with_integers b (record b.integers { unsigneds = b.integers.unsigneds + 1 })
+with_keyword b K.Void = record b { named = Void ∷ b.named }
+with_keyword b K.Static = record b { is_static = true }
+with_keyword b K.Extern = record b { is_extern = true }
+with_keyword b _ = b
+
+abbrev pub with_part : Specs → Part → Specs
+with_part b (Word k) = with_keyword b k
+with_part b (Type' t) = record b { named = t ∷ b.named }
+
+-- a type, and whether `static` or `extern` stands beside it
+pub record Base : Type 0 where
+  pub type : CType
+  pub is_static : Bool
+  pub is_extern : Bool
+
+abbrev pub integer_base : Option IntType → Ruling CType
+integer_base None = Refused OutOfSubset
+integer_base (Some i) = Ruled (Integer i)
+
+-- one type, or integer words that write one
+abbrev pub base_type : ℕ → Integers → List CType → Ruling CType
+base_type zero n (t ∷ []) = Ruled t
+base_type (suc k) n [] = integer_base (integer_type n)
+base_type _ n _ = Refused OutOfSubset
+
+abbrev pub base : Specs → Ruling Base
+base b = base_type b.words b.integers b.named >=> λ t. Ruled (record { type = t; is_static = b.is_static; is_extern = b.is_extern })
+
+-- stars around a type
+abbrev pub pointers : ℕ → CType → CType
+pointers zero t = t
+pointers (suc n) t = Ptr (pointers n t)
+
+-- arrays of a type, the length of the outermost first
+abbrev pub arrays : List ℕ → CType → CType
+arrays [] t = t
+arrays (n ∷ ns) t = Array (arrays ns t) n
+
+-- a length; one outside 1 to 4,096 is 0, and no object has it
+abbrev pub length_at : ℤ → ℕ
+length_at (pos n) = if nat_le n 4096 then n else 0
+length_at (negsuc n) = 0
+
+abbrev pub is_void : CType → Bool
+is_void Void = true
+is_void _ = false
+
+-- what the elements of an array are in the end
+abbrev pub element : CType → CType
+element (Array t n) = element t
+element t = t
+
+-- `void` or a struct without a body, or an array of such
+abbrev pub is_incomplete : Layout → CType → Bool
+is_incomplete l t = not (is_object l (element t))
+
+-- an array of what is incomplete
+abbrev pub has_incomplete_elements : Layout → CType → Bool
+has_incomplete_elements l t = is_array t && is_incomplete l t
+
+-- there is no pointer to an array
+abbrev pub points_to_array : CType → Bool
+points_to_array (Ptr t) = is_array t || points_to_array t
+points_to_array (Array t n) = points_to_array t
+points_to_array _ = false
+
+-- an array with a length outside 1 to 4,096, or of more than 65,536 bytes
+abbrev pub is_large : Layout → CType → Bool
+is_large l t = is_array t && not (is_object l t)
+
+-- a declarator: its offset, its name, and its type
+pub record Declared : Type 0 where
+  pub at : ℕ
+  pub name : Name
+  pub type : CType
+
+abbrev pub member_names : List Member → List Name
+member_names ms = map (λ m. m.name) ms
+
+-- a member behind others: its name is new, and it is an object
+abbrev pub joined : Layout → List Member → Declared → Ruling (List Member)
+joined l ms d =
+    refuse (is_among d.name (member_names ms)) Twice
+    (refuse (is_incomplete l d.type) Incomplete
+    (refuse (points_to_array d.type) OutOfSubset
+    (refuse (is_large l d.type) Large
+    (Ruled (ms ++ (record { name = d.name; type = d.type } ∷ []))))))
+
+abbrev pub struct_names : Layout → List Name
+struct_names l = map (λ d. d.name) l.structs
+
+abbrev pub is_enum_tag : Option Tag → Bool
+is_enum_tag (Some EnumTag) = true
+is_enum_tag _ = false
+
+-- a struct's tag is no enum's
+abbrev pub struct_mentioned : Scope → Name → Ruling CType
+struct_mentioned s x = refuse (is_enum_tag (s.tags x)) Twice (Ruled (Struct x))
+
+-- an enum's tag is declared
+abbrev pub enum_mentioned : Scope → Name → Ruling CType
+enum_mentioned s x = refuse (not (is_enum_tag (s.tags x))) Unknown (Ruled (Integer Int))
+
+-- the layout with one struct more
+abbrev pub with_struct : Layout → StructDef → Layout
+with_struct l d = record l { structs = l.structs ++ (d ∷ []) }
+
+abbrev pub is_complete_member : Layout → Member → Bool
+is_complete_member l m = is_object l m.type
+
+-- a tag without a name has the number of its struct
+abbrev pub tag_name : ℕ → Option Name → Name
+tag_name k (Some x) = x
+tag_name k None = 36 ∷ decimal (k + 1)
+
+-- names a tag where none has the name
+abbrev pub with_tag : Tag → Name → Scope → Scope
+with_tag t x s = record s { tags = with_name x (Some t) s.tags }
+
+abbrev pub mention : Option Name → Scope → Scope
+mention None s = s
+mention (Some x) s = if is_some (s.tags x) then s else with_tag StructTag x s
+
+-- a struct's body: its tag has no other one and is no enum's, and it isn't too large
+abbrev pub completed : Scope → StructDef → Ruling StructDef
+completed s d =
+    refuse (is_enum_tag (s.tags d.name) || is_among d.name (struct_names s.layout)) Twice
+    (refuse (not (is_object (with_struct s.layout d) (Struct d.name))) Large (Ruled d))
+
+abbrev pub complete : Option Name → StructDef → Scope → Scope
+complete x d s = record s { layout = with_struct s.layout d; unnamed = if is_none x then s.unnamed + 1 else s.unnamed }
+
+-- an enum's body: its tag is new
+abbrev pub is_tagged : Scope → Option Name → Bool
+is_tagged s None = false
+is_tagged s (Some x) = is_some (s.tags x)
+
+abbrev pub enumerated : Scope → Option Name → Ruling CType
+enumerated s x = refuse (is_tagged s x) Twice (Ruled (Integer Int))
+
+abbrev pub enumerate : Option Name → Scope → Scope
+enumerate None s = s
+enumerate (Some x) s = with_tag EnumTag x s
+
+-- an enumerator: its name is new in its block, and its value is an int
+abbrev pub enumerator : Scope → Name → ℤ → Ruling ℤ
+enumerator s x n =
+    refuse (is_declared_here s.blocks x) Twice
+    (refuse (not (is_of_type s.layout.target Int n)) Mismatch (Ruled n))
