@@ -2,7 +2,7 @@
 -- by the offset of its first token and by what is wrong with it. What is declared on the way counts for what follows.
 use Rattle.std.specs.Prelude.{ℕ, Bool, true, false}
 use Rattle.c_types.specs.declared.fault.TypeKind.{TypeKind}
-use Rattle.c_types.specs.Scope.{Scope}
+use Rattle.c_types.specs.Scope.{Scope, opened, closed}
 
 pub data Checked (A : Type 0) : Type 0 where
   Good : A → Checked A
@@ -56,3 +56,7 @@ changed f a s = Good (a, f s)
 -- the same before the parts
 abbrev pub after : {A : Type 0} → (Scope → Scope) → Judgement A → Judgement A
 after f j s = j (f s)
+
+-- the same in a block of its own
+abbrev pub in_block : {A : Type 0} → Judgement A → Judgement A
+in_block j = after opened j >>= λ a. changed closed a
