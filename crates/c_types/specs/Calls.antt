@@ -1,7 +1,7 @@
 -- Calls (C99 6.5.2.2), and what may stand on the right of an assignment, of an initialiser or of a return. A call's arguments
 -- are converted as by assignment; its function has a body somewhere in the text.
 use Rattle.std.specs.Prelude.{ℕ, suc, ◌==◌, Bool, true, false, not, List, [], ◌∷◌, length, Option, Some, None, ◌||◌, if◌then◌else◌}
-use Rattle.c_values.specs.Name.{Name, is_among}
+use Rattle.c_values.specs.Name.{Name}
 use Rattle.c_values.specs.Types.{IntType, CType, Integer, Void, Ptr, same_type}
 use Rattle.c_values.specs.Layout.{Layout}
 use Rattle.c_grammar.specs.Tree as tree
@@ -41,7 +41,7 @@ passed l _ _ = Ruled []
 abbrev pub called : Name → List C.Expr → Scope → Ruling Called
 called f es s =
     callee (entity s.blocks f) >=> λ c.
-    refuse (not (is_among f s.file.with_body)) NoBody
+    refuse (not (s.file.with_body f)) NoBody
     (refuse (not (length es == length c.params)) Arity
     (passed s.layout c.params es >=> λ as'.
     Ruled (record { number = suc s.progress.calls; function = f; result = c.result; arguments = as' })))

@@ -12,8 +12,8 @@ pub record GlobalSoFar : Type 0 where
 
 pub record File : Type 0 where
   -- the functions that have a body anywhere in the text, and those that had one so far
-  pub with_body : List Name
-  pub with_body_so_far : List Name
+  pub with_body : Name → Bool
+  pub with_body_so_far : Name → Bool
   -- in the order of their first declarations
   pub globals : List GlobalSoFar
 

@@ -3,7 +3,7 @@
 use Rattle.std.specs.Prelude.{ℕ, Bool, true, false, not, ◌&&◌, ◌||◌, List, [], ◌∷◌, map, length, Option, Some, None, is_none, is_some, reverse}
 use Rattle.std.specs.Option.{option_map_or, option_map}
 use Rattle.std.specs.List.{filter_map}
-use Rattle.c_values.specs.Name.{Name, is_among}
+use Rattle.c_values.specs.Name.{Name, with_name}
 use Rattle.c_values.specs.Types.{CType, Void, Ptr, Array, same_type}
 use Rattle.c_values.specs.Layout.{is_scalar}
 use Rattle.c_grammar.specs.Tree as tree
@@ -111,13 +111,13 @@ function_rule d ps s =
 
 -- and of one with a body, of which there is one
 abbrev pub body_rule : Declared → List Parameter → Scope → Ruling (Option CType)
-body_rule d ps s = refuse (is_among d.name s.file.with_body_so_far) Twice (function_rule d ps s)
+body_rule d ps s = refuse (s.file.with_body_so_far d.name) Twice (function_rule d ps s)
 
 abbrev pub add_function : Name → Option CType → List CType → Scope → Scope
 add_function x r ts s = declare x (Function r ts) s
 
 abbrev pub add_body : Name → Scope → Scope
-add_body x s = record s { file = record s.file { with_body_so_far = x ∷ s.file.with_body_so_far } }
+add_body x s = record s { file = record s.file { with_body_so_far = with_name x true s.file.with_body_so_far } }
 
 abbrev pub variables : List Parameter → List C.Variable
 variables ps = filter_map (λ p. option_map (λ x. record { name = x; type = p.type }) p.name) ps

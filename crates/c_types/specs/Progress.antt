@@ -30,7 +30,7 @@ own_name p x = numbered x (count_by (same_name x) p.declared)
 -- one local more
 abbrev pub with_local : Name → CType → Progress → Progress
 with_local x t p =
-    record p { declared = x ∷ p.declared; locals = p.locals ++ record { name = own_name p x; type = t } ∷ [] }
+    record p { declared = p.declared ++ x ∷ []; locals = p.locals ++ record { name = own_name p x; type = t } ∷ [] }
 
 abbrev pub next_call : Progress → Progress
 next_call p = record p { calls = suc p.calls }

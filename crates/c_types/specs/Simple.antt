@@ -8,7 +8,7 @@ use Rattle.c_grammar.specs.declared.operator.StepOperator.{StepOperator}
 use Rattle.c_grammar.specs.declared.operator.StepOperator.TheVariants.{Increment, Decrement}
 use Rattle.c_types.specs.Checked.{Judgement, pure, ◌>>=◌, Ruling, Ruled, ◌>=>◌, rule}
 use Rattle.c_types.specs.Scope.{Scope}
-use Rattle.c_types.specs.Operand.{Operand, destination, value_in}
+use Rattle.c_types.specs.Operand.{Operand, destination}
 use Rattle.c_types.specs.Operators.{binary, converted}
 use Rattle.c_types.specs.Expressions.{first, place, value}
 use Rattle.c_types.specs.Calls.{Right, right, call, assigned, calls_for, ignored}
@@ -17,11 +17,16 @@ use Rattle.c_types.specs.Typed as C
 abbrev pub assignment : Operand → Right → Scope → Ruling C.Statement
 assignment o r s = destination o >=> λ d. assigned s.layout d r
 
+-- what lies at what is assigned
+abbrev pub value_at : C.Destination → C.Expr
+value_at (C.ToLocal x t) = C.Local x t
+value_at (C.ToPlace p) = C.Value p
+
 -- `e op= x` is `e = e op x`
 abbrev pub update : BinaryOperator → Operand → C.Expr → Scope → Ruling C.Statement
 update op o a s =
     destination o >=> λ d.
-    binary s.layout op (value_in o) a >=> λ e.
+    binary s.layout op (value_at d) a >=> λ e.
     converted s.layout (C.target_type d) e >=> λ b.
     Ruled (C.Assign d b)
 

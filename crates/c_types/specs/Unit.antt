@@ -2,7 +2,7 @@
 -- node.
 use Rattle.std.specs.Prelude.{ℕ, ◌≡◌, Bool, false, List, [], ◌∷◌, ◌++◌, map, Option, Some, None, ℤ, is_some}
 use Rattle.std.specs.List.{filter_map}
-use Rattle.c_values.specs.Name.{Name}
+use Rattle.c_values.specs.Name.{Name, is_among}
 use Rattle.c_values.specs.Types.{Target, CType}
 use Rattle.c_values.specs.Value.{Value, Bits}
 use Rattle.c_values.specs.Word.{word}
@@ -42,7 +42,7 @@ at_beginning t xs = record {
   unnamed = 0;
   typedefs = λ x. None;
   blocks = (λ x. None) ∷ [];
-  file = record { with_body = filter_map body_name xs; with_body_so_far = []; globals = [] };
+  file = record { with_body = λ x. is_among x (filter_map body_name xs); with_body_so_far = λ x. false; globals = [] };
   progress = at_start [];
   folds_cast = false;
 }

@@ -163,17 +163,17 @@ pub enum Statement {
     /// The right side has the target's type.
     Assign(Destination, Expr),
     /// A call: its number, the function, the arguments at the parameters' types, and what becomes of the result.
-    Call(u32, String, Vec<Expr>, Use),
+    Call(u64, String, Vec<Expr>, Use),
     /// An `if`; an absent `else` is empty.
     If(Expr, Box<Statement>, Box<Statement>),
     /// `while (e) s`
     While(Expr, Box<Statement>),
     /// The number of a `do s while (e);`, its body and its test.
-    DoWhile(u32, Box<Statement>, Expr),
+    DoWhile(u64, Box<Statement>, Expr),
     /// A `for`: what is done first, the test, the step, and the body.
     For(Box<Statements>, Test, Box<Statement>, Box<Statement>),
     /// A switch: its number, the type of its promoted operand, and that operand.
-    Switch(u32, IntType, Expr, Box<Groups>),
+    Switch(u64, IntType, Expr, Box<Groups>),
     /// `break;`
     Break,
     /// `continue;`

@@ -1,0 +1,79 @@
+//! What a function's text has numbered and named so far.
+
+use crate::rulings::Refusal;
+use crate::typed::Variable;
+use crate::types::copy_of;
+use c_values::CType;
+use std::alloc::{AllocError, Global};
+
+/// What a function's text has numbered and named so far.
+#[derive(Debug, Drop)]
+pub(crate) struct Progress {
+    /// The number of the last call, of the last switch, and of the last do-while.
+    pub(crate) calls: u64,
+    pub(crate) switches: u64,
+    pub(crate) do_whiles: u64,
+    /// The names of its parameters and locals as the text has them, once for each declaration.
+    pub(crate) declared: Vec<String>,
+    /// Its locals by their own names, in the order of the text.
+    pub(crate) locals: Vec<Variable>,
+}
+
+impl Progress {
+    /// In front of a body, behind these parameters.
+    pub(crate) fn at_start(alloc: Global, params: Vec<String>) -> Progress {
+        Progress {
+            calls: 0,
+            switches: 0,
+            do_whiles: 0,
+            declared: params,
+            locals: Vec::new(alloc),
+        }
+    }
+
+    /// A name for the next parameter or local of this name: no other variable of the function has it.
+    pub(crate) fn own_name(&self, alloc: Global, name: &str) -> Result<String, AllocError> {
+        numbered(alloc, name, count_of(self.declared.as_slice(), name))
+    }
+
+    /// Adds a local.
+    pub(crate) fn add_local(
+        &mut self,
+        alloc: Global,
+        name: &str,
+        own: &str,
+        ty: &CType,
+    ) -> Result<(), AllocError> {
+        let name = String::from_str(alloc, name)?;
+        let local = Variable {
+            name: String::from_str(alloc, own)?,
+            ty: copy_of(alloc, ty)?,
+        };
+        self.declared.push(name)?;
+        self.locals.push(local)?;
+        Ok(())
+    }
+}
+
+/// The number behind this one. No memory holds a text in which so many things are numbered that there is none.
+pub(crate) fn following(number: u64) -> Result<u64, Refusal> {
+    match number.checked_add(1) {
+        Some(next) => Ok(next),
+        None => Err(Refusal::Memory),
+    }
+}
+
+// How often a name is among others.
+fn count_of(names: &[String], name: &str) -> usize {
+    names.iter().filter(|other| other.as_str() == name).count()
+}
+
+// The name of a variable that so many others of its name stand before. No name of a text has a `$`.
+fn numbered(alloc: Global, name: &str, others: usize) -> Result<String, AllocError> {
+    if others == 0 {
+        String::from_str(alloc, name)
+    } else {
+        let number = others as u64 + 1;
+        format!(in alloc; "{name}${number}")
+    }
+}
