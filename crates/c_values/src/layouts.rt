@@ -7,9 +7,10 @@ ghost use Rattle.c_values.specs.declared.layouts.LayoutFault.TheVariants.{Memory
 
 use crate::extents::extent;
 use crate::places::{Extent, LARGEST, Table};
+use crate::placing::places;
 use crate::tabulation::tabulate;
 use crate::types::{CType, Target};
-use std::alloc::{AllocError, AllocFailed};
+use std::alloc::{AllocError, AllocFailed, Global};
 use std::marker::Model;
 use thiserror::Error;
 
@@ -119,6 +120,32 @@ impl Layout {
         ensures { map struct_def_of result.now ≡ self.now.structs }
     {
         &self.structs
+    }
+
+    /// The struct of a name, where it has a body.
+    pub fn definition(&self, name: &str) -> Option<&StructDef> {
+        let places = self.table.get(name)?;
+        self.structs.get(places.position)
+    }
+
+    /// One struct more, behind the others.
+    ///
+    /// - `Large` where it has more than 65,536 bytes.
+    /// - `Memory` where there is no room for it. The layout is then as it was.
+    pub fn define(&mut self, alloc: Global, definition: StructDef) -> Result<(), LayoutFault> {
+        let position = self.structs.len();
+        match places(alloc, self.target, &self.table, &definition, position)? {
+            Some(found) => {
+                let name = definition.name.clone()?;
+                self.structs.push(definition)?;
+                if let Err(fault) = self.table.insert(name, found) {
+                    let _ = self.structs.pop();
+                    return Err(LayoutFault::from(fault));
+                }
+                Ok(())
+            }
+            None => Err(LayoutFault::Large(position)),
+        }
     }
 
     // The offset and the type of a struct's member.

@@ -29,6 +29,14 @@ pub fn offset_of(l: &Layout, t: &CType, path: &[PathStep]) -> Option<u32>
     Some(offset)
 }
 
+/// The part of an object that one step leads to: its offset in bytes, and its type.
+pub fn part<'a>(l: &'a Layout, t: &'a CType, step: PathStep) -> Option<(u32, &'a CType)>
+    requires { is_object l.now (type_of t.now) ≡ true }
+{
+    let found = part_of(l, t, size_of(l, t), step)?;
+    Some((found.offset, found.ty))
+}
+
 // A part of an object: where it lies in it, its type and its size, in bytes.
 #[derive(Clone, Copy)]
 struct Part<'a> {

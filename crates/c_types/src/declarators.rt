@@ -1,0 +1,61 @@
+//! Declarators: their types, and what can be wrong with these.
+
+use crate::specifiers::pointers;
+use crate::types::{copy_of, element_of, is_array};
+use c_values::{CType, Layout, Number, is_object};
+use std::alloc::{AllocError, Global};
+
+/// A declarator's offset, name and type.
+#[derive(Debug, Drop)]
+pub(crate) struct Declared {
+    pub(crate) at: usize,
+    pub(crate) name: String,
+    pub(crate) ty: CType,
+}
+
+/// A declarator begins with its first star, or its name.
+pub(crate) fn declarator_start(stars: &[usize], at: usize) -> usize {
+    match stars.first() {
+        Some(star) => *star,
+        None => at,
+    }
+}
+
+/// A declarator's type: the stars around the base type, and the arrays around that, whose lengths stand from the outermost.
+pub(crate) fn declared_type(
+    alloc: Global,
+    base: &CType,
+    stars: usize,
+    lengths: &[u32],
+) -> Result<CType, AllocError> {
+    let base = copy_of(alloc, base)?;
+    let mut ty = pointers(alloc, stars, base)?;
+    for length in lengths.iter().rev() {
+        ty = CType::Array(Box::new(alloc, ty)?, *length);
+    }
+    Ok(ty)
+}
+
+/// An array's length. One outside 1 to 4,096 is 0, and no object has it.
+pub(crate) fn length_at(n: Number) -> u32 {
+    if n.negative() || n.magnitude() > 4096 {
+        0
+    } else {
+        n.magnitude() as u32
+    }
+}
+
+/// Whether it is `void` or a struct without a body, or an array of such.
+pub(crate) fn is_incomplete(l: &Layout, t: &CType) -> bool {
+    !is_object(l, element_of(t))
+}
+
+/// Whether it is an array of what is incomplete.
+pub(crate) fn has_incomplete_elements(l: &Layout, t: &CType) -> bool {
+    is_array(t) && is_incomplete(l, t)
+}
+
+/// Whether it is an array with a length outside 1 to 4,096, or of more than 65,536 bytes.
+pub(crate) fn is_large(l: &Layout, t: &CType) -> bool {
+    is_array(t) && !is_object(l, t)
+}

@@ -1,0 +1,456 @@
+//! The rules of operators: typed operands to a typed expression, or what is wrong.
+
+use crate::constants::is_null;
+use crate::fault::TypeKind;
+use crate::integers::{promoted, usual};
+use crate::operands::type_of;
+use crate::rulings::{Refusal, refuse};
+use crate::typed::{Arithmetic, Bitwise, Direction, Equality, Expr, Relation, Sign};
+use crate::types::{Form, copy_of, formed, is_integer, is_same, is_scalar};
+use c_grammar::BinaryOperator;
+use c_values::{CType, IntType, Layout, is_object};
+use std::alloc::{AllocError, Global};
+
+/// An expression at an integer type. A conversion stands only where the type is another.
+pub(crate) fn to_integer(alloc: Global, ty: IntType, e: Expr) -> Result<Expr, AllocError> {
+    if is_of(ty, type_of(&e)) {
+        Ok(e)
+    } else {
+        Ok(Expr::Convert(CType::Int(ty), Box::new(alloc, e)?))
+    }
+}
+
+fn is_of(ty: IntType, form: Form<'_>) -> bool {
+    match form {
+        Form::Integer(other) => ty == other,
+        Form::Void | Form::Pointer(_) | Form::Struct(_) | Form::Array(_, _) => false,
+    }
+}
+
+// A pointer at the type of those to void.
+fn to_void_pointer(alloc: Global, e: Expr) -> Result<Expr, AllocError> {
+    if is_void_pointer(type_of(&e)) {
+        Ok(e)
+    } else {
+        let ty = CType::Ptr(Box::new(alloc, CType::Void)?);
+        Ok(Expr::Convert(ty, Box::new(alloc, e)?))
+    }
+}
+
+/// Whether a type is the pointer to void.
+pub(crate) fn is_void_pointer(form: Form<'_>) -> bool {
+    match form {
+        Form::Pointer(inner) => matches!(inner, CType::Void),
+        Form::Integer(_) | Form::Void | Form::Struct(_) | Form::Array(_, _) => false,
+    }
+}
+
+// Both operands of an integer operation at one type.
+#[derive(Drop)]
+struct Balanced {
+    ty: IntType,
+    left: Box<Expr>,
+    right: Box<Expr>,
+}
+
+// Two integers at their common type.
+fn balanced(alloc: Global, l: &Layout, a: Expr, b: Expr) -> Result<Balanced, Refusal> {
+    match (integer_of(&a), integer_of(&b)) {
+        (Some(i), Some(j)) => {
+            let ty = usual(l.target(), i, j);
+            let left = to_integer(alloc, ty, a)?;
+            let right = to_integer(alloc, ty, b)?;
+            Ok(Balanced {
+                ty,
+                left: Box::new(alloc, left)?,
+                right: Box::new(alloc, right)?,
+            })
+        }
+        _ => Err(Refusal::Kind(TypeKind::Mismatch)),
+    }
+}
+
+// The type of an integer.
+fn integer_of(e: &Expr) -> Option<IntType> {
+    match type_of(e) {
+        Form::Integer(ty) => Some(ty),
+        Form::Void | Form::Pointer(_) | Form::Struct(_) | Form::Array(_, _) => None,
+    }
+}
+
+fn computed(alloc: Global, l: &Layout, op: Arithmetic, a: Expr, b: Expr) -> Result<Expr, Refusal> {
+    let both = balanced(alloc, l, a, b)?;
+    Ok(Expr::Compute(op, both.ty, both.left, both.right))
+}
+
+fn combined(alloc: Global, l: &Layout, op: Bitwise, a: Expr, b: Expr) -> Result<Expr, Refusal> {
+    let both = balanced(alloc, l, a, b)?;
+    Ok(Expr::Combine(op, both.ty, both.left, both.right))
+}
+
+fn compared(alloc: Global, l: &Layout, op: Relation, a: Expr, b: Expr) -> Result<Expr, Refusal> {
+    let both = balanced(alloc, l, a, b)?;
+    Ok(Expr::Compare(op, both.ty, both.left, both.right))
+}
+
+// Each operand at its promoted type.
+fn shifted(alloc: Global, direction: Direction, a: Expr, b: Expr) -> Result<Expr, Refusal> {
+    match (integer_of(&a), integer_of(&b)) {
+        (Some(i), Some(j)) => {
+            let left = to_integer(alloc, promoted(i), a)?;
+            let right = to_integer(alloc, promoted(j), b)?;
+            Ok(Expr::Shift(
+                direction,
+                promoted(i),
+                Box::new(alloc, left)?,
+                Box::new(alloc, right)?,
+            ))
+        }
+        _ => Err(Refusal::Kind(TypeKind::Mismatch)),
+    }
+}
+
+// Whether a type is a pointer to no object.
+fn is_pointer_to_none(l: &Layout, form: Form<'_>) -> bool {
+    match form {
+        Form::Pointer(inner) => !is_object(l, inner),
+        Form::Integer(_) | Form::Void | Form::Struct(_) | Form::Array(_, _) => false,
+    }
+}
+
+// `+` also takes a pointer on either side, with an integer.
+fn added(alloc: Global, l: &Layout, a: Expr, b: Expr) -> Result<Expr, Refusal> {
+    refuse(
+        is_pointer_to_none(l, type_of(&a)) || is_pointer_to_none(l, type_of(&b)),
+        TypeKind::Incomplete,
+    )?;
+    if is_integer(type_of(&b))
+        && let Some(inner) = pointed_to(alloc, &a)?
+    {
+        return Ok(moved(alloc, Sign::Plus, inner, a, b)?);
+    }
+    if is_integer(type_of(&a))
+        && let Some(inner) = pointed_to(alloc, &b)?
+    {
+        let a = Box::new(alloc, a)?;
+        let b = Box::new(alloc, b)?;
+        return Ok(Expr::MoveBy(inner, a, b));
+    }
+    computed(alloc, l, Arithmetic::Add, a, b)
+}
+
+// `-` also takes a pointer on the left, with an integer.
+fn subtracted(alloc: Global, l: &Layout, a: Expr, b: Expr) -> Result<Expr, Refusal> {
+    refuse(is_pointer_to_none(l, type_of(&a)), TypeKind::Incomplete)?;
+    if is_integer(type_of(&b))
+        && let Some(inner) = pointed_to(alloc, &a)?
+    {
+        return Ok(moved(alloc, Sign::Minus, inner, a, b)?);
+    }
+    computed(alloc, l, Arithmetic::Subtract, a, b)
+}
+
+// A pointer to a type, moved by an integer.
+fn moved(
+    alloc: Global,
+    sign: Sign,
+    inner: CType,
+    pointer: Expr,
+    by: Expr,
+) -> Result<Expr, AllocError> {
+    let pointer = Box::new(alloc, pointer)?;
+    let by = Box::new(alloc, by)?;
+    Ok(Expr::Move(sign, inner, pointer, by))
+}
+
+// The type that a pointer points to.
+fn pointed_to(alloc: Global, e: &Expr) -> Result<Option<CType>, AllocError> {
+    match type_of(e) {
+        Form::Pointer(inner) => Ok(Some(copy_of(alloc, inner)?)),
+        Form::Integer(_) | Form::Void | Form::Struct(_) | Form::Array(_, _) => Ok(None),
+    }
+}
+
+// Two operands at one type.
+#[derive(Drop)]
+struct Pair {
+    ty: CType,
+    left: Box<Expr>,
+    right: Box<Expr>,
+}
+
+// Integers at their common type, or two pointers.
+fn paired(alloc: Global, l: &Layout, a: Expr, b: Expr) -> Result<Pair, Refusal> {
+    match meeting(l, &a, &b) {
+        Meeting::Integers => {
+            let both = balanced(alloc, l, a, b)?;
+            Ok(Pair {
+                ty: CType::Int(both.ty),
+                left: both.left,
+                right: both.right,
+            })
+        }
+        Meeting::Same => {
+            let ty = formed(alloc, type_of(&a))?;
+            Ok(pair(alloc, ty, a, b)?)
+        }
+        Meeting::LeftNull => {
+            let ty = formed(alloc, type_of(&b))?;
+            let a = null(alloc, type_of(&b), a)?;
+            Ok(pair(alloc, ty, a, b)?)
+        }
+        Meeting::RightNull => {
+            let ty = formed(alloc, type_of(&a))?;
+            let b = null(alloc, type_of(&a), b)?;
+            Ok(pair(alloc, ty, a, b)?)
+        }
+        Meeting::AtVoid => {
+            let ty = CType::Ptr(Box::new(alloc, CType::Void)?);
+            let a = to_void_pointer(alloc, a)?;
+            let b = to_void_pointer(alloc, b)?;
+            Ok(pair(alloc, ty, a, b)?)
+        }
+        Meeting::Nowhere => Err(Refusal::Kind(TypeKind::Mismatch)),
+    }
+}
+
+// At which type two operands meet.
+#[derive(Clone, Copy)]
+enum Meeting {
+    Integers,
+    // at the type of both
+    Same,
+    // the left one is a null pointer constant
+    LeftNull,
+    RightNull,
+    // at a pointer to void
+    AtVoid,
+    Nowhere,
+}
+
+fn meeting(l: &Layout, a: &Expr, b: &Expr) -> Meeting {
+    match type_of(a) {
+        Form::Integer(_) => match type_of(b) {
+            Form::Integer(_) => Meeting::Integers,
+            Form::Pointer(_) if is_null(l, a) => Meeting::LeftNull,
+            _ => Meeting::Nowhere,
+        },
+        Form::Pointer(t) => match type_of(b) {
+            Form::Integer(_) if is_null(l, b) => Meeting::RightNull,
+            Form::Pointer(u) => pointers_meeting(l, a, b, t, u),
+            _ => Meeting::Nowhere,
+        },
+        Form::Void | Form::Struct(_) | Form::Array(_, _) => Meeting::Nowhere,
+    }
+}
+
+// Two pointers of one type, a pointer and a null pointer constant, or a pointer and one to void.
+fn pointers_meeting(l: &Layout, a: &Expr, b: &Expr, t: &CType, u: &CType) -> Meeting {
+    if is_same(t, u) {
+        Meeting::Same
+    } else if is_null(l, a) {
+        Meeting::LeftNull
+    } else if is_null(l, b) {
+        Meeting::RightNull
+    } else if matches!(t, CType::Void) || matches!(u, CType::Void) {
+        Meeting::AtVoid
+    } else {
+        Meeting::Nowhere
+    }
+}
+
+// A null pointer constant at a pointer's type.
+fn null(alloc: Global, to: Form<'_>, e: Expr) -> Result<Expr, AllocError> {
+    let ty = formed(alloc, to)?;
+    Ok(Expr::ConvertNull(ty, Box::new(alloc, e)?))
+}
+
+fn pair(alloc: Global, ty: CType, left: Expr, right: Expr) -> Result<Pair, AllocError> {
+    Ok(Pair {
+        ty,
+        left: Box::new(alloc, left)?,
+        right: Box::new(alloc, right)?,
+    })
+}
+
+fn equated(alloc: Global, l: &Layout, op: Equality, a: Expr, b: Expr) -> Result<Expr, Refusal> {
+    let both = paired(alloc, l, a, b)?;
+    Ok(Expr::Equate(op, both.ty, both.left, both.right))
+}
+
+// Two scalars.
+fn scalars(alloc: Global, a: Expr, b: Expr) -> Result<(Box<Expr>, Box<Expr>), Refusal> {
+    refuse(!is_scalar(type_of(&a)), TypeKind::Mismatch)?;
+    refuse(!is_scalar(type_of(&b)), TypeKind::Mismatch)?;
+    Ok((Box::new(alloc, a)?, Box::new(alloc, b)?))
+}
+
+/// An operator between its operands, also that of a compound assignment.
+pub(crate) fn binary(
+    alloc: Global,
+    l: &Layout,
+    op: BinaryOperator,
+    a: Expr,
+    b: Expr,
+) -> Result<Expr, Refusal> {
+    match op {
+        BinaryOperator::Multiply => computed(alloc, l, Arithmetic::Multiply, a, b),
+        BinaryOperator::Divide => computed(alloc, l, Arithmetic::Divide, a, b),
+        BinaryOperator::Remainder => computed(alloc, l, Arithmetic::Remainder, a, b),
+        BinaryOperator::Add => added(alloc, l, a, b),
+        BinaryOperator::Subtract => subtracted(alloc, l, a, b),
+        BinaryOperator::ShiftLeft => shifted(alloc, Direction::Left, a, b),
+        BinaryOperator::ShiftRight => shifted(alloc, Direction::Right, a, b),
+        BinaryOperator::And => combined(alloc, l, Bitwise::BitAnd, a, b),
+        BinaryOperator::ExclusiveOr => combined(alloc, l, Bitwise::BitXor, a, b),
+        BinaryOperator::Or => combined(alloc, l, Bitwise::BitOr, a, b),
+        BinaryOperator::Less => compared(alloc, l, Relation::Less, a, b),
+        BinaryOperator::Greater => compared(alloc, l, Relation::Greater, a, b),
+        BinaryOperator::LessEqual => compared(alloc, l, Relation::LessEqual, a, b),
+        BinaryOperator::GreaterEqual => compared(alloc, l, Relation::GreaterEqual, a, b),
+        BinaryOperator::Equal => equated(alloc, l, Equality::Equal, a, b),
+        BinaryOperator::NotEqual => equated(alloc, l, Equality::NotEqual, a, b),
+        BinaryOperator::LogicalAnd => {
+            let (a, b) = scalars(alloc, a, b)?;
+            Ok(Expr::And(a, b))
+        }
+        BinaryOperator::LogicalOr => {
+            let (a, b) = scalars(alloc, a, b)?;
+            Ok(Expr::Or(a, b))
+        }
+    }
+}
+
+/// `c ? a : b`
+pub(crate) fn chosen(
+    alloc: Global,
+    l: &Layout,
+    c: Expr,
+    a: Expr,
+    b: Expr,
+) -> Result<Expr, Refusal> {
+    refuse(!is_scalar(type_of(&c)), TypeKind::Mismatch)?;
+    let c = Box::new(alloc, c)?;
+    let both = paired(alloc, l, a, b)?;
+    Ok(Expr::Choose(both.ty, c, both.left, both.right))
+}
+
+/// `-a`
+pub(crate) fn negated(alloc: Global, a: Expr) -> Result<Expr, Refusal> {
+    let (ty, a) = promoting(alloc, a)?;
+    Ok(Expr::Negate(ty, a))
+}
+
+/// `~a`
+pub(crate) fn complemented(alloc: Global, a: Expr) -> Result<Expr, Refusal> {
+    let (ty, a) = promoting(alloc, a)?;
+    Ok(Expr::Complement(ty, a))
+}
+
+/// `+a`
+pub(crate) fn kept(alloc: Global, a: Expr) -> Result<Expr, Refusal> {
+    let (ty, a) = promoting(alloc, a)?;
+    Ok(Expr::Convert(CType::Int(ty), a))
+}
+
+/// `!a`
+pub(crate) fn inverted(alloc: Global, a: Expr) -> Result<Expr, Refusal> {
+    refuse(!is_scalar(type_of(&a)), TypeKind::Mismatch)?;
+    Ok(Expr::Not(Box::new(alloc, a)?))
+}
+
+// An integer at its promoted type.
+fn promoting(alloc: Global, a: Expr) -> Result<(IntType, Box<Expr>), Refusal> {
+    match integer_of(&a) {
+        Some(i) => {
+            let a = to_integer(alloc, promoted(i), a)?;
+            Ok((promoted(i), Box::new(alloc, a)?))
+        }
+        None => Err(Refusal::Kind(TypeKind::Mismatch)),
+    }
+}
+
+/// An expression at a type, as by assignment.
+pub(crate) fn converted(alloc: Global, l: &Layout, to: Form<'_>, e: Expr) -> Result<Expr, Refusal> {
+    match to {
+        Form::Integer(i) => {
+            refuse(!is_integer(type_of(&e)), TypeKind::Mismatch)?;
+            Ok(to_integer(alloc, i, e)?)
+        }
+        Form::Pointer(inner) => to_pointer(alloc, l, inner, e),
+        Form::Struct(name) => {
+            refuse(!is_struct(name, type_of(&e)), TypeKind::Mismatch)?;
+            Ok(e)
+        }
+        Form::Void | Form::Array(_, _) => Err(Refusal::Kind(TypeKind::Mismatch)),
+    }
+}
+
+fn is_struct(name: &str, form: Form<'_>) -> bool {
+    match form {
+        Form::Struct(other) => name == other,
+        Form::Integer(_) | Form::Void | Form::Pointer(_) | Form::Array(_, _) => false,
+    }
+}
+
+// An expression at a pointer type, as by assignment.
+fn to_pointer(alloc: Global, l: &Layout, inner: &CType, e: Expr) -> Result<Expr, Refusal> {
+    match arrival(l, inner, &e) {
+        Arrival::Same => Ok(e),
+        Arrival::Null => Ok(null(alloc, Form::Pointer(inner), e)?),
+        Arrival::Void => {
+            let ty = formed(alloc, Form::Pointer(inner))?;
+            Ok(Expr::Convert(ty, Box::new(alloc, e)?))
+        }
+        Arrival::None => Err(Refusal::Kind(TypeKind::Mismatch)),
+    }
+}
+
+// How an expression comes to a pointer type.
+#[derive(Clone, Copy)]
+enum Arrival {
+    Same,
+    Null,
+    // one of the two is a pointer to void
+    Void,
+    None,
+}
+
+fn arrival(l: &Layout, inner: &CType, e: &Expr) -> Arrival {
+    match type_of(e) {
+        Form::Pointer(other) => {
+            if is_same(inner, other) {
+                Arrival::Same
+            } else if is_null(l, e) {
+                Arrival::Null
+            } else if matches!(inner, CType::Void) || matches!(other, CType::Void) {
+                Arrival::Void
+            } else {
+                Arrival::None
+            }
+        }
+        Form::Integer(_) if is_null(l, e) => Arrival::Null,
+        _ => Arrival::None,
+    }
+}
+
+/// A cast, between scalars. It stands also where the type is there already.
+pub(crate) fn cast(alloc: Global, l: &Layout, to: CType, e: Expr) -> Result<Expr, Refusal> {
+    match &to {
+        CType::Int(_) => {
+            refuse(!is_scalar(type_of(&e)), TypeKind::Mismatch)?;
+            Ok(Expr::Convert(to, Box::new(alloc, e)?))
+        }
+        CType::Ptr(_) => {
+            refuse(!is_scalar(type_of(&e)), TypeKind::Mismatch)?;
+            if is_null(l, &e) {
+                Ok(Expr::ConvertNull(to, Box::new(alloc, e)?))
+            } else {
+                Ok(Expr::Convert(to, Box::new(alloc, e)?))
+            }
+        }
+        CType::Void | CType::Struct(_) | CType::Array(_, _) => {
+            Err(Refusal::Kind(TypeKind::Mismatch))
+        }
+    }
+}

@@ -1,0 +1,85 @@
+//! What is declared at a place of the text.
+
+use c_values::{CType, Layout, LayoutFault, Number, Target};
+use std::alloc::{AllocError, Global};
+use std::collections::HashMap;
+
+/// What a tag belongs to.
+#[derive(Clone, Copy, Debug, PartialEq, Eq)]
+pub(crate) enum Tag {
+    /// A struct, by the first mention.
+    Struct,
+    /// An enum, by its body.
+    Enum,
+}
+
+/// What an ordinary name stands for.
+#[derive(Debug, Drop)]
+pub(crate) enum Entity {
+    Enumerator(Number),
+    Global(CType),
+    /// The result, none where it is void, and the parameters.
+    Function(Option<CType>, Vec<CType>),
+    /// A name of its own in the function, and the type.
+    Local(String, CType),
+    /// A local that may not be named here: in its own initialiser, or in another group of its switch.
+    Hidden,
+}
+
+/// What is declared at a place of the text.
+#[derive(Debug, Drop)]
+pub(crate) struct Scope {
+    /// The target, and the structs that are complete, in the order of their completion.
+    pub(crate) layout: Layout,
+    pub(crate) tags: HashMap<String, Tag>,
+    /// How many structs without a name there were.
+    pub(crate) unnamed: u64,
+    pub(crate) typedefs: HashMap<String, CType>,
+    /// The names of each block, the file's first, the innermost last.
+    pub(crate) blocks: Vec<HashMap<String, Entity>>,
+    /// Whether a conversion to a pointer to a type that isn't void stood where only a value is left.
+    pub(crate) folds_cast: bool,
+}
+
+impl Scope {
+    /// Before the first external.
+    pub(crate) fn of_file(alloc: Global, target: Target) -> Result<Scope, LayoutFault> {
+        let layout = Layout::build(target, Vec::new(alloc))?;
+        let mut blocks = Vec::new(alloc);
+        blocks.push(HashMap::new(alloc))?;
+        Ok(Scope {
+            layout,
+            tags: HashMap::new(alloc),
+            unnamed: 0,
+            typedefs: HashMap::new(alloc),
+            blocks,
+            folds_cast: false,
+        })
+    }
+
+    /// What a name stands for: the innermost.
+    pub(crate) fn entity(&self, name: &str) -> Option<&Entity> {
+        for names in self.blocks.iter().rev() {
+            if let Some(entity) = names.get(name) {
+                return Some(entity);
+            }
+        }
+        None
+    }
+
+    /// Whether the innermost block has the name.
+    pub(crate) fn is_declared_here(&self, name: &str) -> bool {
+        match self.blocks.last() {
+            Some(names) => names.contains_key(name),
+            None => false,
+        }
+    }
+
+    /// Declares a name in the innermost block.
+    pub(crate) fn declare(&mut self, name: String, entity: Entity) -> Result<(), AllocError> {
+        if let Some(names) = self.blocks.last_mut() {
+            let _ = names.insert(name, entity)?;
+        }
+        Ok(())
+    }
+}
