@@ -10,7 +10,7 @@ use crate::typed::{Destination, Expr, Statement, Use};
 use crate::types::{Form, copy_of, form, is_same};
 use c_grammar::tree::{CExp, Call, Rhs};
 use c_values::{CType, Layout};
-use std::alloc::Global;
+use std::alloc::{AllocError, Global};
 
 /// A call: what it hands over, and what it gives.
 #[derive(Debug, Drop)]
@@ -64,8 +64,8 @@ pub(crate) fn calls_alone(called: Called) -> Statement {
 }
 
 // What becomes of a result that isn't used.
-fn ignored(result: Option<CType>) -> Use {
-    match result {
+fn ignored(given: Option<CType>) -> Use {
+    match given {
         None => Use::NoResult,
         Some(ty) => Use::Ignored(ty),
     }
@@ -80,7 +80,7 @@ pub(crate) fn assigned(
 ) -> Result<Statement, Refusal> {
     match right {
         Right::Computed(e) => {
-            let e = converted(alloc, layout, target.ty(), e)?;
+            let e = converted(alloc, layout, form(target.ty()), e)?;
             Ok(Statement::Assign(target, e))
         }
         Right::Resulting(called) => result_assigned(target, called),
@@ -112,7 +112,7 @@ pub(crate) fn returned(
     right: Right,
 ) -> Result<Statement, Refusal> {
     match right {
-        Right::Computed(e) => Ok(Statement::Return(converted(alloc, layout, ty, e)?)),
+        Right::Computed(e) => Ok(Statement::Return(converted(alloc, layout, form(ty), e)?)),
         Right::Resulting(called) => result_returned(alloc, ty, called),
     }
 }
@@ -136,8 +136,8 @@ fn result_returned(alloc: Global, ty: &CType, called: Called) -> Result<Statemen
 }
 
 // The result of a call, where something of a type is wanted.
-fn result_for(wanted: &CType, result: Option<CType>) -> Result<CType, Refusal> {
-    match result {
+fn result_for(wanted: &CType, given: Option<CType>) -> Result<CType, Refusal> {
+    match given {
         None => Err(Refusal::Kind(TypeKind::Mismatch)),
         Some(ty) => {
             refuse(!goes_to(wanted, &ty), TypeKind::Mismatch)?;
@@ -210,7 +210,7 @@ fn passed(
     let mut passed = Vec::new(alloc);
     for (k, e) in arguments.into_iter().enumerate() {
         if k < params.len() {
-            passed.push(converted(alloc, layout, &params[k], e)?)?;
+            passed.push(converted(alloc, layout, form(&params[k]), e)?)?;
         }
     }
     Ok(passed)
@@ -219,9 +219,9 @@ fn passed(
 /// A copy of the type of a result.
 pub(crate) fn copy_of_result(
     alloc: Global,
-    result: &Option<CType>,
-) -> Result<Option<CType>, Refusal> {
-    match result {
+    ty: &Option<CType>,
+) -> Result<Option<CType>, AllocError> {
+    match ty {
         None => Ok(None),
         Some(ty) => Ok(Some(copy_of(alloc, ty)?)),
     }

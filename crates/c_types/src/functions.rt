@@ -1,5 +1,6 @@
 //! Functions: their declarations, and those with a body.
 
+use crate::calls::copy_of_result;
 use crate::declarators::Declared;
 use crate::expressions::{base, declarator};
 use crate::fault::{TypeFault, TypeKind};
@@ -81,11 +82,11 @@ pub(crate) fn is_function(
 }
 
 // Whether a function of the type may be declared where its name stands for this.
-fn agrees(entity: Option<&Entity>, result: &CType, params: &[Parameter]) -> bool {
+fn agrees(entity: Option<&Entity>, written: &CType, params: &[Parameter]) -> bool {
     match entity {
         None => true,
         Some(Entity::Function(other, types)) => {
-            same_result(other, result) && same_types(types.as_slice(), params)
+            same_result(other, written) && same_types(types.as_slice(), params)
         }
         Some(
             Entity::Enumerator(_) | Entity::Global(_) | Entity::Local(_, _) | Entity::Hidden,
@@ -93,8 +94,8 @@ fn agrees(entity: Option<&Entity>, result: &CType, params: &[Parameter]) -> bool
     }
 }
 
-fn same_result(result: &Option<CType>, written: &CType) -> bool {
-    match result {
+fn same_result(declared: &Option<CType>, written: &CType) -> bool {
+    match declared {
         None => matches!(written, CType::Void),
         Some(ty) => !matches!(written, CType::Void) && is_same(ty, written),
     }
@@ -119,33 +120,23 @@ fn is_result(ty: &CType) -> bool {
 
 /// A function's result: `void` is none.
 pub(crate) fn result_type(ty: CType) -> Option<CType> {
-    match ty {
-        CType::Void => None,
-        CType::Int(_) | CType::Ptr(_) | CType::Struct(_) | CType::Array(_, _) => Some(ty),
-    }
+    if matches!(&ty, CType::Void) { None } else { Some(ty) }
 }
 
 /// Declares a function.
 pub(crate) fn add_function(
     alloc: Global,
     name: &str,
-    result: &Option<CType>,
+    ty: &Option<CType>,
     params: &[Parameter],
     scope: &mut Scope,
 ) -> Result<(), AllocError> {
-    let result = copy_of_result(alloc, result)?;
+    let result = copy_of_result(alloc, ty)?;
     let types = types_of(alloc, params)?;
     scope.declare(
         String::from_str(alloc, name)?,
         Entity::Function(result, types),
     )
-}
-
-fn copy_of_result(alloc: Global, result: &Option<CType>) -> Result<Option<CType>, AllocError> {
-    match result {
-        None => Ok(None),
-        Some(ty) => Ok(Some(copy_of(alloc, ty)?)),
-    }
 }
 
 fn types_of(alloc: Global, params: &[Parameter]) -> Result<Vec<CType>, AllocError> {
@@ -168,13 +159,13 @@ fn body(
     alloc: Global,
     block: &Items,
     scope: &mut Scope,
-    result: &Option<CType>,
+    ty: &Option<CType>,
     params: &[Parameter],
 ) -> Result<Statements, TypeFault> {
     scope.open_block(alloc)?;
     enter(alloc, params, scope)?;
     let around = Around {
-        result,
+        result: ty,
         in_loop: false,
         in_switch: false,
     };

@@ -7,7 +7,7 @@ use crate::rulings::{Refusal, at_node, refuse};
 use crate::scope::{Entity, Scope};
 use crate::specifiers::{pointers, words_start};
 use crate::typed::Variable;
-use crate::types::{copy_of, form, is_scalar, points_to_array};
+use crate::types::{Form, copy_of, form, formed, is_scalar, points_to_array};
 use c_grammar::tree::{Bracket, Param};
 use c_values::CType;
 use std::alloc::{AllocError, Global};
@@ -129,9 +129,9 @@ fn is_declared(scope: &Scope, name: &Option<String>) -> bool {
 
 // An array as a parameter is a pointer.
 fn adjusted(alloc: Global, ty: CType) -> Result<CType, AllocError> {
-    match ty {
-        CType::Array(element, _) => Ok(CType::Ptr(element)),
-        CType::Int(_) | CType::Void | CType::Ptr(_) | CType::Struct(_) => Ok(ty),
+    match form(&ty) {
+        Form::Array(element, _) => formed(alloc, Form::Pointer(element)),
+        Form::Integer(_) | Form::Void | Form::Pointer(_) | Form::Struct(_) => Ok(ty),
     }
 }
 

@@ -4,6 +4,7 @@ use crate::calls::{Right, returned, right};
 use crate::expressions::value;
 use crate::fault::{TypeFault, TypeKind};
 use crate::locals::local;
+use crate::operands::type_of;
 use crate::progress::following;
 use crate::rulings::{Refusal, at_node, refuse};
 use crate::scope::Scope;
@@ -165,10 +166,10 @@ fn optional_right(
 fn returns(
     alloc: Global,
     layout: &Layout,
-    result: &Option<CType>,
+    ty: &Option<CType>,
     source: Option<Right>,
 ) -> Result<Statement, Refusal> {
-    match (result, source) {
+    match (ty, source) {
         (None, None) => Ok(Statement::ReturnNothing),
         (Some(ty), Some(source)) => returned(alloc, layout, ty, source),
         _ => Err(Refusal::Kind(TypeKind::Mismatch)),
@@ -177,7 +178,7 @@ fn returns(
 
 // The rule of a statement with a test: that is a scalar.
 fn is_test(test: &Expr) -> Result<(), Refusal> {
-    refuse(!is_scalar(test.form()), TypeKind::Mismatch)
+    refuse(!is_scalar(type_of(test)), TypeKind::Mismatch)
 }
 
 #[cycle(statement)]

@@ -1,9 +1,10 @@
 //! Switches.
 
-use crate::constants::integer_at;
+use crate::folding::number_at;
 use crate::expressions::{integer_constant, value};
 use crate::fault::{TypeFault, TypeKind};
 use crate::integers::promoted;
+use crate::operands::type_of;
 use crate::operators::to_integer;
 use crate::progress::following;
 use crate::rulings::{Refusal, at_node, refuse};
@@ -12,7 +13,7 @@ use crate::statements::{Around, listed, more_items, statement};
 use crate::typed::{Expr, Groups, Statement, Statements};
 use crate::types::Form;
 use c_grammar::tree::{self, CExp, Items, Label, Stmt};
-use c_values::{IntType, Number, Target};
+use c_values::{CType, IntType, Number};
 use std::alloc::{AllocError, Global};
 use std::collections::HashSet;
 
@@ -29,7 +30,7 @@ pub(crate) fn switch(
     let number = switch_number(scope)?;
     let operand = value(alloc, operand, scope)?;
     scope.open_block(alloc)?;
-    let ty = switch_type(operand.form());
+    let ty = switch_type(type_of(&operand));
     let groups = groups_at(alloc, groups, scope, inside_switch(around), ty)?;
     scope.close_block();
     at_node(at, switched(alloc, number, operand, groups))
@@ -65,7 +66,7 @@ fn switched(
     operand: Expr,
     groups: Groups,
 ) -> Result<Statement, Refusal> {
-    match operand.form() {
+    match type_of(&operand) {
         Form::Integer(ty) => {
             let ty = promoted(ty);
             let operand = to_integer(alloc, ty, operand)?;
@@ -176,7 +177,7 @@ fn add_label(
     match label {
         Label::Case(at, e) => {
             let value = integer_constant(alloc, e, scope)?;
-            let value = integer_at(scope.layout.target(), ty, value);
+            let value = number_at(&scope.layout, &CType::Int(ty), value);
             let is_new = seen.values.insert((value.negative(), value.magnitude()))?;
             at_node(*at, refuse(!is_new, TypeKind::Twice))?;
             group.values.push(value)?;

@@ -1,6 +1,7 @@
 //! Typed units. Conversions, promotions, the decay of arrays and the operation of a compound assignment are explicit;
 //! locals have names of their own; calls, switches and do-whiles have numbers from 1 on, in the order of the text.
 
+use crate::operands::place_type;
 use c_values::{CType, GlobalVar, IntType, Layout, Number};
 
 /// An operation on integers that can go out of its type, or has no result.
@@ -126,6 +127,16 @@ pub enum Destination {
     ToLocal(String, CType),
     /// A place.
     ToPlace(Place),
+}
+
+impl Destination {
+    /// The type that lies there.
+    pub(crate) fn ty(&self) -> &CType {
+        match self {
+            Destination::ToLocal(_, ty) => ty,
+            Destination::ToPlace(place) => place_type(place),
+        }
+    }
 }
 
 /// What becomes of a called function's result.

@@ -8,7 +8,8 @@ use crate::scope::Scope;
 use crate::typed::{TypedFn, TypedUnit};
 use crate::zeros::zeros;
 use c_grammar::tree::{Decl, Declarator, Unit};
-use c_values::{CType, GlobalVar, Layout, Number, Target, Value, word};
+use c_values::views::word;
+use c_values::{CType, GlobalVar, Layout, Number, Target, Value, address_width, width_of};
 use std::alloc::{AllocError, Global};
 use std::collections::HashSet;
 
@@ -18,12 +19,24 @@ use std::collections::HashSet;
 /// - `Memory` where there is no memory.
 pub fn check_unit(alloc: Global, target: Target, unit: &Unit) -> Result<TypedUnit, TypeFault> {
     let with_body = bodies(alloc, unit.externals.as_slice())?;
-    let mut scope = Scope::of_file(alloc, target, with_body)?;
+    let mut scope = scope_of(alloc, target, with_body)?;
     let mut functions = Vec::new(alloc);
     for external in &unit.externals {
         external_typed(alloc, external, &mut scope, &mut functions)?;
     }
     typed_unit(alloc, scope, functions)
+}
+
+// In front of a text with these functions that have a body. A layout without structs needs memory alone.
+fn scope_of(
+    alloc: Global,
+    target: Target,
+    with_body: HashSet<String>,
+) -> Result<Scope, TypeFault> {
+    match Scope::of_file(alloc, target, with_body) {
+        Ok(scope) => Ok(scope),
+        Err(_) => Err(TypeFault::Memory),
+    }
 }
 
 // The names of the functions that have a body.
@@ -85,4 +98,14 @@ fn global_var(
         None => zeros(alloc, layout, &ty)?,
     };
     Ok(GlobalVar { name, ty, initial })
+}
+
+// A number as a value of a scalar type.
+fn scalar_value(target: Target, ty: &CType, n: Number) -> Value {
+    match ty {
+        CType::Int(integer) => Value::Word(word(width_of(target, *integer), n)),
+        CType::Void | CType::Ptr(_) | CType::Struct(_) | CType::Array(_, _) => {
+            Value::Word(word(address_width(target), n))
+        }
+    }
 }
