@@ -13,7 +13,7 @@ use Rattle.c_types.specs.Scope.{Scope, Entity, Enumerator, Global, Function, Loc
 use Rattle.c_types.specs.Progress.{at_start}
 use Rattle.c_types.specs.Declarations.{Declared, pointers, arrays, is_incomplete, points_to_array, is_large}
 use Rattle.c_types.specs.Expressions.{base, declarator, dimensions, words_start}
-use Rattle.c_types.specs.Statements.{Around, items}
+use Rattle.c_types.specs.Statements.{Around, items, listed}
 use Rattle.c_types.specs.Typed as C
 
 -- a parameter, maybe without a name
@@ -134,7 +134,7 @@ abbrev pub around_body : Option CType → Around
 around_body r = record { result = r; in_loop = false; in_switch = false }
 
 abbrev pub body : Option CType → List Parameter → tree.Items → Judgement C.Statements
-body r ps is = in_block (after (enter ps) (items (around_body r) is))
+body r ps is = in_block (after (enter ps) (items (around_body r) is)) >>= λ ss. pure (listed ss)
 
 abbrev pub function_of : Name → Option CType → List Parameter → C.Statements → Scope → C.TypedFn
 function_of x r ps ss s =

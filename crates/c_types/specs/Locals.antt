@@ -14,10 +14,6 @@ use Rattle.c_types.specs.Expressions.{base, declarator, words_start}
 use Rattle.c_types.specs.Calls.{right, assigned}
 use Rattle.c_types.specs.Typed as C
 
-abbrev pub followed_by : C.Statements → C.Statements → C.Statements
-followed_by C.no_statements ts = ts
-followed_by (C.next s ss) ts = C.next s (followed_by ss ts)
-
 -- a local: a scalar under a name that is new in its block
 abbrev pub local_name : Declared → Scope → Ruling Name
 local_name d s =
@@ -27,8 +23,8 @@ local_name d s =
     (Ruled (own_name s.progress d.name))))
 
 -- declared, and not to be used yet
-abbrev pub add_local : Declared → Scope → Scope
-add_local d s = declare d.name Hidden (record s { progress = with_local d.name d.type s.progress })
+abbrev pub add_local : Name → Declared → Scope → Scope
+add_local own d s = declare d.name Hidden (record s { progress = with_local own d.name d.type s.progress })
 
 -- to be used from here on
 abbrev pub name_local : Name → Declared → Scope → Scope
@@ -41,18 +37,18 @@ initial own d (Some r) = right r >>= λ a. rule d.at (λ s. assigned s.layout (C
 
 abbrev pub declared : Declared → Option tree.Rhs → Judgement C.Statement
 declared d r =
-    rule d.at (local_name d) >>= λ own. changed (add_local d) own >>= λ x.
+    rule d.at (local_name d) >>= λ own. changed (add_local own d) own >>= λ x.
     initial x d r >>= λ a. changed (name_local x d) a
 
 abbrev pub init : CType → tree.Init → Judgement C.Statement
 init t (tree.Initialized d r) = declarator t d >>= λ head. declared head r
 
-abbrev pub inits : CType → List tree.Init → Judgement C.Statements
-inits t [] = pure C.no_statements
-inits t (i ∷ is) = init t i >>= λ a. inits t is >>= λ ss. pure (C.next a ss)
+abbrev pub inits : CType → List tree.Init → Judgement (List C.Statement)
+inits t [] = pure []
+inits t (i ∷ is) = init t i >>= λ a. inits t is >>= λ ss. pure (a ∷ ss)
 
 -- the locals of a declaration, none of them in another place than the function's own
-abbrev pub local : tree.Local → Judgement C.Statements
+abbrev pub local : tree.Local → Judgement (List C.Statement)
 local (tree.Locals ws is) =
     base ws >>= λ b. inits b.type is >>= λ ss.
     rule (words_start ws) (λ s. refuse (b.is_static || b.is_extern) OutOfSubset (Ruled ss))

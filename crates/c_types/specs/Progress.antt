@@ -1,6 +1,6 @@
 -- What a function's text has numbered and named so far. Calls, switches and do-whiles have numbers from 1 on, each in the order
 -- of the text; the k-th parameter or local of one name has a name of its own for each k.
-use Rattle.std.specs.Prelude.{ℕ, zero, suc, ◌+◌, List, [], ◌∷◌, ◌++◌, count_by, codes}
+use Rattle.std.specs.Prelude.{ℕ, suc, ◌+◌, ◌==◌, if◌then◌else◌, List, [], ◌∷◌, ◌++◌, count_by, codes}
 use Rattle.std.specs.Fmt.{decimal}
 use Rattle.c_values.specs.Name.{Name, same_name}
 use Rattle.c_values.specs.Types.{CType}
@@ -21,16 +21,15 @@ at_start params = record { calls = 0; switches = 0; do_whiles = 0; declared = pa
 
 -- the name of a variable that k others of the name stand before; no name of the text has a `$`
 abbrev pub numbered : Name → ℕ → Name
-numbered x zero = x
-numbered x (suc k) = x ++ codes "$" ++ decimal (k + 2)
+numbered x k = if k == 0 then x else x ++ codes "$" ++ decimal (k + 1)
 
 abbrev pub own_name : Progress → Name → Name
-own_name p x = numbered x (count_by (same_name x) p.declared)
+own_name p x = numbered x (count_by (λ y. same_name y x) p.declared)
 
--- one local more
-abbrev pub with_local : Name → CType → Progress → Progress
-with_local x t p =
-    record p { declared = p.declared ++ x ∷ []; locals = p.locals ++ record { name = own_name p x; type = t } ∷ [] }
+-- one local more, by its own name and that of the text
+abbrev pub with_local : Name → Name → CType → Progress → Progress
+with_local own x t p =
+    record p { declared = p.declared ++ x ∷ []; locals = p.locals ++ record { name = own; type = t } ∷ [] }
 
 abbrev pub next_call : Progress → Progress
 next_call p = record p { calls = suc p.calls }

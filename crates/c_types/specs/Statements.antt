@@ -16,7 +16,7 @@ use Rattle.c_types.specs.Constant.{integer_at}
 use Rattle.c_types.specs.Progress.{next_do_while, next_switch}
 use Rattle.c_types.specs.Calls.{Right, right, returned}
 use Rattle.c_types.specs.Simple.{simple}
-use Rattle.c_types.specs.Locals.{local, followed_by}
+use Rattle.c_types.specs.Locals.{local}
 use Rattle.c_types.specs.Typed as C
 
 -- what a statement stands in: the function's result, and whether there is a loop or a switch around it
@@ -106,13 +106,21 @@ is_last tree.NoGroups = true
 is_last (tree.MoreGroups l ls s is gs) = false
 
 -- a group other than the last ends by a jump
-abbrev pub separate : Bool → Bool → C.Statements → Ruling C.Statements
+abbrev pub separate : Bool → Bool → List C.Statement → Ruling (List C.Statement)
 separate last jumps ss = refuse (not (last || jumps)) FallThrough (Ruled ss)
 
-abbrev pub start : tree.Start → Judgement C.Statements
-start tree.NoStart = pure C.no_statements
+-- statements in front of others
+abbrev pub onto : List C.Statement → C.Statements → C.Statements
+onto [] ts = ts
+onto (s ∷ ss) ts = C.next s (onto ss ts)
+
+abbrev pub listed : List C.Statement → C.Statements
+listed ss = onto ss C.no_statements
+
+abbrev pub start : tree.Start → Judgement (List C.Statement)
+start tree.NoStart = pure []
 start (tree.StartLocal l) = local l
-start (tree.StartSimple s) = simple s >>= λ a. pure (C.next a C.no_statements)
+start (tree.StartSimple s) = simple s >>= λ a. pure (a ∷ [])
 
 abbrev pub loop_test : Option tree.Exp → Judgement C.Test
 loop_test None = pure C.Always
@@ -136,7 +144,7 @@ do_while_number s = Good (suc s.progress.do_whiles, record s { progress = next_d
 abbrev mutual
   pub statement : Around → tree.Stmt → Judgement C.Statement
   statement c (tree.Empty at) = pure C.Empty
-  statement c (tree.Block at is) = in_block (items c is) >>= λ ss. pure (C.Block ss)
+  statement c (tree.Block at is) = in_block (items c is) >>= λ ss. pure (C.Block (listed ss))
   statement c (tree.Simply s) = simple s
   statement c (tree.Break at) = rule at (λ s. breaks c)
   statement c (tree.Continue at) = rule at (λ s. continues c)
@@ -152,22 +160,22 @@ abbrev mutual
   statement c (tree.For at init test step s) =
       in_block
       (start init >>= λ ss. loop_test test >>= λ a. loop_step step >>= λ y. statement (inside_loop c) s >>= λ x.
-      rule at (λ sc. loop_tested a (C.For ss a y x)))
+      rule at (λ sc. loop_tested a (C.For (listed ss) a y x)))
   statement c (tree.Switch at e gs) =
       switch_number >>= λ n. value e >>= λ a.
       in_block (groups (inside_switch c) (switch_type (C.type_of a)) no_labels gs) >>= λ xs.
       rule at (λ sc. switches n a (C.type_of a) xs)
 
-  pub items : Around → tree.Items → Judgement C.Statements
-  items c tree.NoItems = pure C.no_statements
-  items c (tree.LocalItem l is) = local l >>= λ ss. items c is >>= λ ts. pure (followed_by ss ts)
-  items c (tree.StatementItem s is) = statement c s >>= λ x. items c is >>= λ ts. pure (C.next x ts)
+  pub items : Around → tree.Items → Judgement (List C.Statement)
+  items c tree.NoItems = pure []
+  items c (tree.LocalItem l is) = local l >>= λ ss. items c is >>= λ ts. pure (ss ++ ts)
+  items c (tree.StatementItem s is) = statement c s >>= λ x. items c is >>= λ ts. pure (x ∷ ts)
 
   -- the labels that stand before; a local of a group isn't named in the others
   pub groups : Around → IntType → Labels → tree.Groups → Judgement C.Groups
   groups c i seen tree.NoGroups = pure C.no_groups
   groups c i seen (tree.MoreGroups l ls s is gs) =
       labels i seen (l ∷ ls) >>= λ found. statement c s >>= λ x. items c is >>= λ ts.
-      rule (label_at l) (λ sc. separate (is_last gs) (ends_by_jump (is_jump s) is) (C.next x ts)) >>= λ ss.
+      rule (label_at l) (λ sc. separate (is_last gs) (ends_by_jump (is_jump s) is) (x ∷ ts)) >>= λ ss.
       changed hide_locals ss >>= λ ss'.
-      groups c i (both seen found) gs >>= λ xs. pure (C.group found.values found.has_default ss' xs)
+      groups c i (both seen found) gs >>= λ xs. pure (C.group found.values found.has_default (listed ss') xs)

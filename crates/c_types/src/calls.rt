@@ -29,7 +29,7 @@ pub(crate) enum Right {
 }
 
 /// A right side.
-pub(crate) fn right(alloc: Global, right: &Rhs, scope: &mut Scope) -> Result<Right, TypeFault> {
+pub(crate) fn right_side(alloc: Global, right: &Rhs, scope: &mut Scope) -> Result<Right, TypeFault> {
     match right {
         Rhs::Value(e) => Ok(Right::Computed(value(alloc, e, scope)?)),
         Rhs::Call(c) => Ok(Right::Resulting(call(alloc, c, scope)?)),
@@ -41,7 +41,7 @@ pub(crate) fn call(alloc: Global, call: &Call, scope: &mut Scope) -> Result<Call
     let arguments = values(alloc, call.arguments.as_slice(), scope)?;
     let called = at_node(
         call.at,
-        called(alloc, call.name.as_str(), arguments, &*scope),
+        call_at(alloc, call.name.as_str(), arguments, &*scope),
     )?;
     scope.progress.calls = called.number;
     Ok(called)
@@ -167,7 +167,7 @@ fn values(alloc: Global, es: &[CExp], scope: &mut Scope) -> Result<Vec<Expr>, Ty
 }
 
 // The rule of a call: its function is there and has a body, there are as many arguments as parameters, and they fit.
-fn called(
+fn call_at(
     alloc: Global,
     function: &str,
     arguments: Vec<Expr>,

@@ -1,6 +1,6 @@
 //! Locals: each is a scalar, has a name of its own, and begins with a value or with any.
 
-use crate::calls::{assigned, right};
+use crate::calls::{assigned, right_side};
 use crate::declarators::{Declared, is_incomplete};
 use crate::expressions::{base, declarator};
 use crate::fault::{TypeFault, TypeKind};
@@ -64,7 +64,7 @@ fn add_local(
     scope: &mut Scope,
 ) -> Result<(), TypeFault> {
     let name = head.name.as_str();
-    scope.progress.add_local(alloc, name, own, &head.ty)?;
+    scope.progress.add_local(alloc, own, name, &head.ty)?;
     scope.declare(String::from_str(alloc, name)?, Entity::Hidden)?;
     Ok(())
 }
@@ -88,7 +88,7 @@ fn initial(
     match value {
         None => Ok(Statement::Declare(name, ty)),
         Some(source) => {
-            let source = right(alloc, source, scope)?;
+            let source = right_side(alloc, source, scope)?;
             let target = Destination::ToLocal(name, ty);
             at_node(head.at, assigned(alloc, &scope.layout, target, source))
         }

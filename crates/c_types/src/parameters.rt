@@ -28,7 +28,7 @@ pub(crate) fn parameters(
 ) -> Result<Vec<Parameter>, TypeFault> {
     let mut typed = Vec::new(alloc);
     for param in params {
-        let parameter = parameter(alloc, param, scope, has_body)?;
+        let parameter = typed_parameter(alloc, param, scope, has_body)?;
         add_parameter(alloc, &parameter, scope)?;
         typed.push(parameter)?;
     }
@@ -49,7 +49,7 @@ pub(crate) fn add_parameter(
     Ok(())
 }
 
-fn parameter(
+fn typed_parameter(
     alloc: Global,
     param: &Param,
     scope: &mut Scope,

@@ -40,8 +40,8 @@ impl Progress {
     pub(crate) fn add_local(
         &mut self,
         alloc: Global,
-        name: &str,
         own: &str,
+        name: &str,
         ty: &CType,
     ) -> Result<(), AllocError> {
         let name = String::from_str(alloc, name)?;

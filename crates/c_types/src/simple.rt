@@ -1,6 +1,6 @@
 //! Assignments and calls as statements.
 
-use crate::calls::{Right, assigned, call, calls_alone, right};
+use crate::calls::{Right, assigned, call, calls_alone, right_side};
 use crate::copies::value_at;
 use crate::expressions::{first, place, value};
 use crate::fault::TypeFault;
@@ -38,7 +38,7 @@ fn assignment(
     scope: &mut Scope,
 ) -> Result<Statement, TypeFault> {
     let operand = place(alloc, target, scope)?;
-    let source = right(alloc, source, scope)?;
+    let source = right_side(alloc, source, scope)?;
     at_node(
         first(target),
         assigned_to(alloc, &scope.layout, operand, source),

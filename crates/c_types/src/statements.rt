@@ -1,6 +1,6 @@
 //! Statements.
 
-use crate::calls::{Right, returned, right};
+use crate::calls::{Right, returned, right_side};
 use crate::expressions::value;
 use crate::fault::{TypeFault, TypeKind};
 use crate::locals::local;
@@ -158,7 +158,7 @@ fn optional_right(
 ) -> Result<Option<Right>, TypeFault> {
     match source {
         None => Ok(None),
-        Some(source) => Ok(Some(right(alloc, source, scope)?)),
+        Some(source) => Ok(Some(right_side(alloc, source, scope)?)),
     }
 }
 
