@@ -7,7 +7,7 @@ use crate::progress::following;
 use crate::rulings::{Refusal, at_node, refuse};
 use crate::scope::{Entity, Scope};
 use crate::typed::{Destination, Expr, Statement, Use};
-use crate::types::{Form, copy_of, form, is_same};
+use crate::types::{Form, copy_of, form_of, is_same};
 use c_grammar::tree::{CExp, Call, Rhs};
 use c_values::{CType, Layout};
 use std::alloc::{AllocError, Global};
@@ -80,7 +80,7 @@ pub(crate) fn assigned(
 ) -> Result<Statement, Refusal> {
     match right {
         Right::Computed(e) => {
-            let e = converted(alloc, layout, form(target.ty()), e)?;
+            let e = converted(alloc, layout, form_of(target.ty()), e)?;
             Ok(Statement::Assign(target, e))
         }
         Right::Resulting(called) => result_assigned(target, called),
@@ -112,7 +112,7 @@ pub(crate) fn returned(
     right: Right,
 ) -> Result<Statement, Refusal> {
     match right {
-        Right::Computed(e) => Ok(Statement::Return(converted(alloc, layout, form(ty), e)?)),
+        Right::Computed(e) => Ok(Statement::Return(converted(alloc, layout, form_of(ty), e)?)),
         Right::Resulting(called) => result_returned(alloc, ty, called),
     }
 }
@@ -148,7 +148,7 @@ fn result_for(wanted: &CType, given: Option<CType>) -> Result<CType, Refusal> {
 
 // Whether a value of the second type goes to the first as by assignment, also where it is no constant.
 fn goes_to(wanted: &CType, given: &CType) -> bool {
-    match (form(wanted), form(given)) {
+    match (form_of(wanted), form_of(given)) {
         (Form::Integer(_), Form::Integer(_)) => true,
         (Form::Pointer(t), Form::Pointer(u)) => {
             is_same(t, u) || matches!(t, CType::Void) || matches!(u, CType::Void)
@@ -210,7 +210,7 @@ fn passed(
     let mut passed = Vec::new(alloc);
     for (k, e) in arguments.into_iter().enumerate() {
         if k < params.len() {
-            passed.push(converted(alloc, layout, form(&params[k]), e)?)?;
+            passed.push(converted(alloc, layout, form_of(&params[k]), e)?)?;
         }
     }
     Ok(passed)

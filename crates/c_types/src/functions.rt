@@ -10,7 +10,7 @@ use crate::rulings::{Refusal, at_node, refuse};
 use crate::scope::{Entity, Scope};
 use crate::statements::{Around, items};
 use crate::typed::{Statements, TypedFn, Variable};
-use crate::types::{copy_of, form, is_same, is_scalar, points_to_array};
+use crate::types::{copy_of, form_of, is_same, is_scalar, points_to_array};
 use c_grammar::tree::{Declarator, Items, Param, Words};
 use c_values::CType;
 use std::alloc::{AllocError, Global};
@@ -115,7 +115,7 @@ fn same_types(types: &[CType], params: &[Parameter]) -> bool {
 
 // Whether a type is `void` or a scalar.
 fn is_result(ty: &CType) -> bool {
-    matches!(ty, CType::Void) || is_scalar(form(ty)) && !points_to_array(ty)
+    matches!(ty, CType::Void) || is_scalar(form_of(ty)) && !points_to_array(ty)
 }
 
 /// A function's result: `void` is none.

@@ -13,7 +13,7 @@ use crate::rulings::{Refusal, at_node, refuse};
 use crate::scope::{Entity, Scope};
 use crate::specifiers::Base;
 use crate::typed::Expr;
-use crate::types::{copy_of, form, is_same, points_to_array};
+use crate::types::{copy_of, form_of, is_same, points_to_array};
 use c_grammar::tree::{CExp, Param, Top, Words};
 use c_values::{CType, Number};
 use std::alloc::{AllocError, Global};
@@ -244,7 +244,7 @@ fn initial_value(
 ) -> Result<Number, Refusal> {
     let global = scope.file.globals.get(head.name.as_str());
     refuse(is_initialised(global), TypeKind::Twice)?;
-    let e = converted(alloc, &scope.layout, form(&head.ty), e)?;
+    let e = converted(alloc, &scope.layout, form_of(&head.ty), e)?;
     match constant_value(&scope.layout, &e) {
         Some(value) => Ok(value),
         None => Err(Refusal::Kind(TypeKind::Mismatch)),

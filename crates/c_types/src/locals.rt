@@ -8,7 +8,7 @@ use crate::rulings::{Refusal, at_node, refuse};
 use crate::scope::{Entity, Scope};
 use crate::specifiers::words_start;
 use crate::typed::{Destination, Statement};
-use crate::types::{copy_of, form, is_scalar, points_to_array};
+use crate::types::{copy_of, form_of, is_scalar, points_to_array};
 use c_grammar::tree::{Init, Local, Rhs};
 use std::alloc::Global;
 
@@ -50,7 +50,7 @@ fn local_name(alloc: Global, head: &Declared, scope: &Scope) -> Result<String, R
     refuse(scope.is_declared_here(name), TypeKind::Twice)?;
     refuse(is_incomplete(&scope.layout, &head.ty), TypeKind::Incomplete)?;
     refuse(
-        !is_scalar(form(&head.ty)) || points_to_array(&head.ty),
+        !is_scalar(form_of(&head.ty)) || points_to_array(&head.ty),
         TypeKind::OutOfSubset,
     )?;
     Ok(scope.progress.own_name(alloc, name)?)

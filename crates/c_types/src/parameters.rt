@@ -7,7 +7,7 @@ use crate::rulings::{Refusal, at_node, refuse};
 use crate::scope::{Entity, Scope};
 use crate::specifiers::{pointers, words_start};
 use crate::typed::Variable;
-use crate::types::{Form, copy_of, form, formed, is_scalar, points_to_array};
+use crate::types::{Form, copy_of, form_of, formed, is_scalar, points_to_array};
 use c_grammar::tree::{Bracket, Param};
 use c_values::CType;
 use std::alloc::{AllocError, Global};
@@ -106,7 +106,7 @@ fn parameter_of(
     let is_large = is_large(&scope.layout, &written);
     let ty = adjusted(alloc, written)?;
     refuse(
-        points_to_array(&ty) || !is_scalar(form(&ty)) || has_body && name.is_none(),
+        points_to_array(&ty) || !is_scalar(form_of(&ty)) || has_body && name.is_none(),
         TypeKind::OutOfSubset,
     )?;
     refuse(is_large, TypeKind::Large)?;
@@ -129,7 +129,7 @@ fn is_declared(scope: &Scope, name: &Option<String>) -> bool {
 
 // An array as a parameter is a pointer.
 fn adjusted(alloc: Global, ty: CType) -> Result<CType, AllocError> {
-    match form(&ty) {
+    match form_of(&ty) {
         Form::Array(element, _) => formed(alloc, Form::Pointer(element)),
         Form::Integer(_) | Form::Void | Form::Pointer(_) | Form::Struct(_) => Ok(ty),
     }

@@ -9,7 +9,7 @@ use crate::operators::{binary, converted};
 use crate::rulings::{Refusal, at_node};
 use crate::scope::Scope;
 use crate::typed::{Expr, Statement};
-use crate::types::form;
+use crate::types::form_of;
 use c_grammar::tree::{CExp, Rhs, Simple};
 use c_grammar::{BinaryOperator, StepOperator};
 use c_values::{IntType, Layout, Number};
@@ -106,6 +106,6 @@ fn updated(
     let target = destination(operand)?;
     let before = value_at(alloc, &target)?;
     let after = binary(alloc, layout, op, before, by)?;
-    let after = converted(alloc, layout, form(target.ty()), after)?;
+    let after = converted(alloc, layout, form_of(target.ty()), after)?;
     Ok(Statement::Assign(target, after))
 }

@@ -33,7 +33,7 @@ fn inside_loop(around: Around<'_>) -> Around<'_> {
 }
 
 /// A statement.
-#[cycle(statement)]
+#[cycle(block)]
 pub(crate) fn statement(
     alloc: Global,
     stmt: &Stmt,
@@ -60,7 +60,7 @@ pub(crate) fn statement(
     }
 }
 
-#[cycle(statement)]
+#[cycle(block)]
 fn block_statement(
     alloc: Global,
     block: &Items,
@@ -74,7 +74,7 @@ fn block_statement(
 }
 
 /// Locals and statements.
-#[cycle(statement)]
+#[cycle(block)]
 pub(crate) fn items(
     alloc: Global,
     items: &Items,
@@ -87,7 +87,7 @@ pub(crate) fn items(
 }
 
 /// Adds locals and statements to those before them.
-#[cycle(statement)]
+#[cycle(block)]
 pub(crate) fn more_items(
     alloc: Global,
     items: &Items,
@@ -181,7 +181,7 @@ fn is_test(test: &Expr) -> Result<(), Refusal> {
     refuse(!is_scalar(type_of(test)), TypeKind::Mismatch)
 }
 
-#[cycle(statement)]
+#[cycle(block)]
 fn if_statement(
     alloc: Global,
     test: &CExp,
@@ -196,7 +196,7 @@ fn if_statement(
     Ok(choice(alloc, test, yes, Statement::Empty)?)
 }
 
-#[cycle(statement)]
+#[cycle(block)]
 fn if_else_statement(
     alloc: Global,
     test: &CExp,
@@ -224,7 +224,7 @@ fn choice(
     Ok(Statement::If(test, yes, no))
 }
 
-#[cycle(statement)]
+#[cycle(block)]
 fn while_statement(
     alloc: Global,
     test: &CExp,
@@ -239,7 +239,7 @@ fn while_statement(
     Ok(Statement::While(test, Box::new(alloc, body)?))
 }
 
-#[cycle(statement)]
+#[cycle(block)]
 fn do_statement(
     alloc: Global,
     body: &Stmt,
@@ -270,7 +270,7 @@ struct Head<'a> {
     step: &'a Option<Simple>,
 }
 
-#[cycle(statement)]
+#[cycle(block)]
 fn for_statement(
     alloc: Global,
     head: Head<'_>,

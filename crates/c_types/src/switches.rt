@@ -18,7 +18,7 @@ use std::alloc::{AllocError, Global};
 use std::collections::HashSet;
 
 /// A switch.
-#[cycle(statement)]
+#[cycle(block)]
 pub(crate) fn switch(
     alloc: Global,
     operand: &CExp,
@@ -95,7 +95,7 @@ struct Group {
 }
 
 // The groups of a switch at this type. A local of a group isn't named in the others.
-#[cycle(statement)]
+#[cycle(block)]
 fn groups_at(
     alloc: Global,
     groups: &tree::Groups,
@@ -135,7 +135,7 @@ fn groups_at(
     Ok(grouped(alloc, typed)?)
 }
 
-#[cycle(statement)]
+#[cycle(block)]
 fn group_statements(
     alloc: Global,
     first: &Stmt,
