@@ -11,6 +11,9 @@ pub mod Operators
 pub mod Declarations
 pub mod Expressions
 pub mod View
+pub mod CodeProgress
+pub mod CodeScope
+pub mod Answers
 pub mod Calls
 pub mod Simple
 pub mod Locals
@@ -18,3 +21,4 @@ pub mod Statements
 pub mod Functions
 pub mod Globals
 pub mod Unit
+pub mod Layers

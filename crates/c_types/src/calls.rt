@@ -29,7 +29,11 @@ pub(crate) enum Right {
 }
 
 /// A right side.
-pub(crate) fn right_side(alloc: Global, right: &Rhs, scope: &mut Scope) -> Result<Right, TypeFault> {
+pub(crate) fn right_side(
+    alloc: Global,
+    right: &Rhs,
+    scope: &mut Scope,
+) -> Result<Right, TypeFault> {
     match right {
         Rhs::Value(e) => Ok(Right::Computed(value(alloc, e, scope)?)),
         Rhs::Call(c) => Ok(Right::Resulting(call(alloc, c, scope)?)),
@@ -96,12 +100,7 @@ fn result_assigned(target: Destination, called: Called) -> Result<Statement, Ref
         arguments,
     } = called;
     let result = result_for(target.ty(), result)?;
-    Ok(Statement::Call(
-        number,
-        function,
-        arguments,
-        Use::Assigned(result, target),
-    ))
+    Ok(Statement::Call(number, function, arguments, Use::Assigned(result, target)))
 }
 
 /// A right side to the caller, in a function with a result of this type.
@@ -127,12 +126,7 @@ fn result_returned(alloc: Global, ty: &CType, called: Called) -> Result<Statemen
     } = called;
     let result = result_for(ty, result)?;
     let ty = copy_of(alloc, ty)?;
-    Ok(Statement::Call(
-        number,
-        function,
-        arguments,
-        Use::Returned(result, ty),
-    ))
+    Ok(Statement::Call(number, function, arguments, Use::Returned(result, ty)))
 }
 
 // The result of a call, where something of a type is wanted.
@@ -174,10 +168,7 @@ fn call_at(
     scope: &Scope,
 ) -> Result<Called, Refusal> {
     let (result, params) = callee(scope.entity(function))?;
-    refuse(
-        !scope.file.with_body.contains(function),
-        TypeKind::NoBody,
-    )?;
+    refuse(!scope.file.with_body.contains(function), TypeKind::NoBody)?;
     refuse(arguments.len() != params.len(), TypeKind::Arity)?;
     let arguments = passed(alloc, &scope.layout, params.as_slice(), arguments)?;
     Ok(Called {

@@ -1,12 +1,20 @@
 //! Copies of typed expressions. Their depth is that of the expressions of the text.
 
+ghost use Rattle.std.specs.Prelude.{◌≡◌, IfOk, string_bytes};
+ghost use Rattle.c_values.specs.CodeTypes.{type_of};
+ghost use Rattle.c_types.specs.Simple as rules;
+ghost use Rattle.c_types.specs.Typed as C;
+ghost use Rattle.c_types.specs.View.{destination_of, expr_of, path_of, place_of};
+
 use crate::typed::{Destination, Expr, Path, Place};
 use crate::types::copy_of;
 use c_values::CType;
 use std::alloc::{AllocError, Global};
 
 /// What lies at what is assigned.
-pub(crate) fn value_at(alloc: Global, target: &Destination) -> Result<Expr, AllocError> {
+pub(crate) fn value_at(alloc: Global, target: &Destination) -> Result<Expr, AllocError>
+    ensures { IfOk result (λ e. expr_of e ≡ rules.value_at (destination_of target.now)) }
+{
     match target {
         Destination::ToLocal(name, ty) => Ok(Expr::Local(
             String::from_str(alloc, name.as_str())?,
@@ -21,7 +29,9 @@ pub(crate) fn value_at(alloc: Global, target: &Destination) -> Result<Expr, Allo
 
 // A copy of an expression.
 #[cycle(copies)]
-fn copy_of_expr(alloc: Global, e: &Expr) -> Result<Expr, AllocError> {
+fn copy_of_expr(alloc: Global, e: &Expr) -> Result<Expr, AllocError>
+    ensures { IfOk result (λ copy. expr_of copy ≡ expr_of e.now) }
+{
     match e {
         Expr::Constant(ty, n) => Ok(Expr::Constant(*ty, *n)),
         Expr::Local(name, ty) => copy_of_local(alloc, name, ty),
@@ -84,33 +94,38 @@ fn copy_of_expr(alloc: Global, e: &Expr) -> Result<Expr, AllocError> {
             boxed_place(alloc, place)?,
             copy_of(alloc, ty)?,
         )),
-        Expr::Decay(place, ty) => Ok(Expr::Decay(
-            boxed_place(alloc, place)?,
-            copy_of(alloc, ty)?,
-        )),
+        Expr::Decay(place, ty) => Ok(Expr::Decay(boxed_place(alloc, place)?, copy_of(alloc, ty)?)),
     }
 }
 
-fn copy_of_local(alloc: Global, name: &String, ty: &CType) -> Result<Expr, AllocError> {
+fn copy_of_local(alloc: Global, name: &String, ty: &CType) -> Result<Expr, AllocError>
+    ensures { IfOk result (λ copy. expr_of copy ≡ C.Local (string_bytes name.now) (type_of ty.now)) }
+{
     let name = name.clone()?;
     Ok(Expr::Local(name, copy_of(alloc, ty)?))
 }
 
 #[cycle(copies)]
-fn boxed(alloc: Global, e: &Expr) -> Result<Box<Expr>, AllocError> {
+fn boxed(alloc: Global, e: &Expr) -> Result<Box<Expr>, AllocError>
+    ensures { IfOk result (λ copy. expr_of copy.value ≡ expr_of e.now) }
+{
     let copy = copy_of_expr(alloc, e)?;
     Ok(Box::new(alloc, copy)?)
 }
 
 #[cycle(copies)]
-fn boxed_place(alloc: Global, place: &Place) -> Result<Box<Place>, AllocError> {
+fn boxed_place(alloc: Global, place: &Place) -> Result<Box<Place>, AllocError>
+    ensures { IfOk result (λ copy. place_of copy.value ≡ place_of place.now) }
+{
     let copy = copy_of_place(alloc, place)?;
     Ok(Box::new(alloc, copy)?)
 }
 
 // A copy of a place.
 #[cycle(copies)]
-fn copy_of_place(alloc: Global, place: &Place) -> Result<Place, AllocError> {
+fn copy_of_place(alloc: Global, place: &Place) -> Result<Place, AllocError>
+    ensures { IfOk result (λ copy. place_of copy ≡ place_of place.now) }
+{
     match place {
         Place::Through(root, pointer, path, ty) => {
             let root = copy_of(alloc, root)?;
@@ -127,14 +142,18 @@ fn copy_of_place(alloc: Global, place: &Place) -> Result<Place, AllocError> {
 }
 
 #[cycle(copies)]
-fn boxed_path(alloc: Global, path: &Path) -> Result<Box<Path>, AllocError> {
+fn boxed_path(alloc: Global, path: &Path) -> Result<Box<Path>, AllocError>
+    ensures { IfOk result (λ copy. path_of copy.value ≡ path_of path.now) }
+{
     let copy = copy_of_path(alloc, path)?;
     Ok(Box::new(alloc, copy)?)
 }
 
 // A copy of a path.
 #[cycle(copies)]
-fn copy_of_path(alloc: Global, path: &Path) -> Result<Path, AllocError> {
+fn copy_of_path(alloc: Global, path: &Path) -> Result<Path, AllocError>
+    ensures { IfOk result (λ copy. path_of copy ≡ path_of path.now) }
+{
     match path {
         Path::Here => Ok(Path::Here),
         Path::Member(k, further) => Ok(Path::Member(*k, boxed_path(alloc, further)?)),

@@ -88,9 +88,8 @@ fn agrees(entity: Option<&Entity>, written: &CType, params: &[Parameter]) -> boo
         Some(Entity::Function(other, types)) => {
             same_result(other, written) && same_types(types.as_slice(), params)
         }
-        Some(
-            Entity::Enumerator(_) | Entity::Global(_) | Entity::Local(_, _) | Entity::Hidden,
-        ) => false,
+        Some(Entity::Enumerator(_) | Entity::Global(_) | Entity::Local(_, _) | Entity::Hidden) =>
+            false,
     }
 }
 
@@ -120,7 +119,11 @@ fn is_result(ty: &CType) -> bool {
 
 /// A function's result: `void` is none.
 pub(crate) fn result_type(ty: CType) -> Option<CType> {
-    if matches!(&ty, CType::Void) { None } else { Some(ty) }
+    if matches!(&ty, CType::Void) {
+        None
+    } else {
+        Some(ty)
+    }
 }
 
 /// Declares a function.

@@ -1,8 +1,8 @@
 //! Declarations outside functions: globals, prototypes and typedefs.
 
+use crate::casts::has_cast;
 use crate::constants::constant_value;
 use crate::declarators::{Declared, has_incomplete_elements, is_incomplete, is_large};
-use crate::casts::has_cast;
 use crate::expressions::{base, declarator, first, value};
 use crate::fault::{TypeFault, TypeKind};
 use crate::file::GlobalSoFar;
@@ -196,7 +196,10 @@ fn add_global(
         is_defined,
         initial,
     };
-    let _ = scope.file.globals.insert(String::from_str(alloc, name)?, global)?;
+    let _ = scope
+        .file
+        .globals
+        .insert(String::from_str(alloc, name)?, global)?;
     let ty = copy_of(alloc, &head.ty)?;
     scope.declare(String::from_str(alloc, name)?, Entity::Global(ty))
 }

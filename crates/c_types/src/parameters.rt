@@ -136,10 +136,7 @@ fn adjusted(alloc: Global, ty: CType) -> Result<CType, AllocError> {
 }
 
 /// The parameters that have a name.
-pub(crate) fn variables(
-    alloc: Global,
-    params: &[Parameter],
-) -> Result<Vec<Variable>, AllocError> {
+pub(crate) fn variables(alloc: Global, params: &[Parameter]) -> Result<Vec<Variable>, AllocError> {
     let mut variables = Vec::new(alloc);
     for param in params {
         if let Some(name) = &param.name {

@@ -1,5 +1,9 @@
 //! Statements.
 
+ghost use Rattle.std.specs.Prelude.{◌≡◌, map, IfOk};
+ghost use Rattle.c_types.specs.Statements as rules;
+ghost use Rattle.c_types.specs.View.{statement_of, statements_of};
+
 use crate::calls::{Right, returned, right_side};
 use crate::expressions::value;
 use crate::fault::{TypeFault, TypeKind};
@@ -115,7 +119,9 @@ pub(crate) fn more_items(
 pub(crate) fn listed(
     alloc: Global,
     mut statements: Vec<Statement>,
-) -> Result<Statements, AllocError> {
+) -> Result<Statements, AllocError>
+    ensures { IfOk result (λ list. statements_of list ≡ rules.listed (map statement_of statements.items)) }
+{
     let mut list = Statements::None;
     while let Some(statement) = statements.pop() {
         let statement = Box::new(alloc, statement)?;
@@ -127,10 +133,7 @@ pub(crate) fn listed(
 
 // A `break` stands in a loop or a switch.
 fn breaks(around: Around<'_>) -> Result<Statement, Refusal> {
-    refuse(
-        !(around.in_loop || around.in_switch),
-        TypeKind::OutOfSubset,
-    )?;
+    refuse(!(around.in_loop || around.in_switch), TypeKind::OutOfSubset)?;
     Ok(Statement::Break)
 }
 
@@ -289,11 +292,7 @@ fn for_statement(
     Ok(repeated(alloc, start, test, step, body)?)
 }
 
-fn for_start(
-    alloc: Global,
-    start: &Start,
-    scope: &mut Scope,
-) -> Result<Statements, TypeFault> {
+fn for_start(alloc: Global, start: &Start, scope: &mut Scope) -> Result<Statements, TypeFault> {
     let mut statements = Vec::new(alloc);
     match start {
         Start::None => {}
@@ -303,11 +302,7 @@ fn for_start(
     Ok(listed(alloc, statements)?)
 }
 
-fn for_test(
-    alloc: Global,
-    test: &Option<CExp>,
-    scope: &mut Scope,
-) -> Result<Test, TypeFault> {
+fn for_test(alloc: Global, test: &Option<CExp>, scope: &mut Scope) -> Result<Test, TypeFault> {
     match test {
         None => Ok(Test::Always),
         Some(e) => Ok(Test::Tested(value(alloc, e, scope)?)),

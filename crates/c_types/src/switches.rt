@@ -1,8 +1,12 @@
 //! Switches.
 
-use crate::folding::number_at;
+ghost use Rattle.std.specs.Prelude.{◌≡◌};
+ghost use Rattle.c_grammar.specs.View.{items_of, label_of, stmt_of};
+ghost use Rattle.c_types.specs.Statements as rules;
+
 use crate::expressions::{integer_constant, value};
 use crate::fault::{TypeFault, TypeKind};
+use crate::folding::number_at;
 use crate::integers::promoted;
 use crate::operands::type_of;
 use crate::operators::to_integer;
@@ -192,14 +196,18 @@ fn add_label(
 }
 
 // The offset of a label.
-fn label_start(label: &Label) -> usize {
+fn label_start(label: &Label) -> usize
+    ensures { result ≡ rules.label_at (label_of label.now) }
+{
     match label {
         Label::Case(at, _) | Label::Default(at) => *at,
     }
 }
 
 // Whether a group's last statement is itself a jump.
-fn ends_by_jump(first: &Stmt, others: &Items) -> bool {
+fn ends_by_jump(first: &Stmt, others: &Items) -> bool
+    ensures { result ≡ rules.ends_by_jump (rules.is_jump (stmt_of first.now)) (items_of others.now) }
+{
     let mut ends = is_jump(first);
     let mut rest = others;
     loop {
@@ -217,6 +225,11 @@ fn ends_by_jump(first: &Stmt, others: &Items) -> bool {
     }
 }
 
-fn is_jump(stmt: &Stmt) -> bool {
-    matches!(stmt, Stmt::Break(_) | Stmt::Continue(_) | Stmt::Return(_, _))
+fn is_jump(stmt: &Stmt) -> bool
+    ensures { result ≡ rules.is_jump (stmt_of stmt.now) }
+{
+    matches!(
+        stmt,
+        Stmt::Break(_) | Stmt::Continue(_) | Stmt::Return(_, _)
+    )
 }

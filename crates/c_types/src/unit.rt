@@ -28,11 +28,7 @@ pub fn check_unit(alloc: Global, target: Target, unit: &Unit) -> Result<TypedUni
 }
 
 // In front of a text with these functions that have a body. A layout without structs needs memory alone.
-fn scope_of(
-    alloc: Global,
-    target: Target,
-    with_body: HashSet<String>,
-) -> Result<Scope, TypeFault> {
+fn scope_of(alloc: Global, target: Target, with_body: HashSet<String>) -> Result<Scope, TypeFault> {
     match Scope::of_file(alloc, target, with_body) {
         Ok(scope) => Ok(scope),
         Err(_) => Err(TypeFault::Memory),
