@@ -153,7 +153,7 @@ pub(crate) fn addressed(alloc: Global, operand: Operand) -> Result<Expr, Refusal
         }
         Operand::At(Place::Through(root, pointer, path, ty)) => {
             refuse(is_array(&ty), TypeKind::OutOfSubset)?;
-            let tail = tail(alloc, Box::into_inner(path))?;
+            let tail = tail_of(alloc, Box::into_inner(path))?;
             Ok(address(alloc, root, pointer, tail, ty)?)
         }
     }
@@ -167,10 +167,10 @@ enum Tail {
     Element(Path, u32, Box<Expr>),
 }
 
-fn tail(alloc: Global, path: Path) -> Result<Tail, AllocError> {
+fn tail_of(alloc: Global, path: Path) -> Result<Tail, AllocError> {
     match path {
         Path::Here => Ok(Tail::Nothing),
-        Path::Member(k, further) => match tail(alloc, Box::into_inner(further))? {
+        Path::Member(k, further) => match tail_of(alloc, Box::into_inner(further))? {
             Tail::Nothing => {
                 let here = Box::new(alloc, Path::Here)?;
                 Ok(Tail::Member(Path::Member(k, here)))
@@ -181,7 +181,7 @@ fn tail(alloc: Global, path: Path) -> Result<Tail, AllocError> {
                 Ok(Tail::Element(path, n, i))
             }
         },
-        Path::Element(length, index, further) => match tail(alloc, Box::into_inner(further))? {
+        Path::Element(length, index, further) => match tail_of(alloc, Box::into_inner(further))? {
             Tail::Nothing => Ok(Tail::Element(Path::Here, length, index)),
             Tail::Member(path) => {
                 let path = Box::new(alloc, path)?;

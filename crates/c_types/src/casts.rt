@@ -2,7 +2,7 @@
 
 use crate::operands::{Operand, type_of};
 use crate::typed::{Expr, Path, Place};
-use crate::types::{Form, form, is_same};
+use crate::types::{Form, form_of, is_same};
 use c_values::CType;
 
 /// Whether there is such a conversion in an operand.
@@ -58,7 +58,7 @@ fn path_has_cast(path: &Path) -> bool {
 
 // Whether a conversion to a type from another is one to a pointer to a type that isn't void.
 fn casts_to(to: &CType, from: Form<'_>) -> bool {
-    match form(to) {
+    match form_of(to) {
         Form::Pointer(inner) => !is_void(inner) && !is_pointer_to(from, inner),
         Form::Integer(_) | Form::Void | Form::Struct(_) | Form::Array(_, _) => false,
     }

@@ -10,7 +10,7 @@ use crate::operands::{Demand, Operand, operand_type, type_of, used, value_in};
 use crate::operators::{binary, cast, chosen, complemented, inverted, kept, negated};
 use crate::rulings::{Refusal, at_node, refuse};
 use crate::scope::{Entity, Scope};
-use crate::specifiers::{Base, Part, Specs, named, pointers, type_start, words_start};
+use crate::specifiers::{Base, Part, Specs, named_part, pointers, type_start, words_start};
 use crate::tags::Fields;
 use crate::typed::{Expr, Path, Place};
 use crate::types::{Form, copy_of, formed, is_integer, points_to_array};
@@ -56,22 +56,22 @@ pub(crate) fn place(alloc: Global, e: &CExp, scope: &mut Scope) -> Result<Operan
 
 /// A constant expression's value, with its type.
 #[derive(Debug, Drop)]
-pub(crate) struct Constant {
+pub(crate) struct Evaluated {
     pub(crate) ty: CType,
     pub(crate) value: Number,
 }
 
 /// A constant expression.
-pub(crate) fn constant(alloc: Global, e: &CExp, scope: &mut Scope) -> Result<Constant, TypeFault> {
+pub(crate) fn constant(alloc: Global, e: &CExp, scope: &mut Scope) -> Result<Evaluated, TypeFault> {
     let e_value = value(alloc, e, scope)?;
     let constant = at_node(first(e), constant_of(alloc, &scope.layout, &e_value))?;
     scope.note(has_cast(&e_value));
     Ok(constant)
 }
 
-fn constant_of(alloc: Global, l: &Layout, e: &Expr) -> Result<Constant, Refusal> {
+fn constant_of(alloc: Global, l: &Layout, e: &Expr) -> Result<Evaluated, Refusal> {
     match constant_value(l, e) {
-        Some(value) => Ok(Constant {
+        Some(value) => Ok(Evaluated {
             ty: formed(alloc, type_of(e))?,
             value,
         }),
@@ -127,7 +127,7 @@ pub(crate) fn base(alloc: Global, words: &Words, scope: &mut Scope) -> Result<Ba
 fn word(alloc: Global, word: &Word, scope: &mut Scope) -> Result<Part, TypeFault> {
     match word {
         Word::Reserved(_, keyword) => Ok(Part::Word(*keyword)),
-        Word::Named(at, name) => at_node(*at, named(alloc, scope.typedefs.get(name.as_str()))),
+        Word::Named(at, name) => at_node(*at, named_part(alloc, scope.typedefs.get(name.as_str()))),
         Word::StructTag(at, tag) => {
             let ty = at_node(*at, scope.struct_mentioned(alloc, tag.as_str()))?;
             scope.mention(alloc, Some(tag.as_str()))?;

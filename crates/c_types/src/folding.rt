@@ -4,7 +4,7 @@ use crate::typed::{Arithmetic, Bitwise, Direction, Equality, Relation, Sign};
 use c_values::views::word;
 use c_values::{
     CType, IntType, Layout, Number, NumberOp, PathStep, ShiftOp, UnaryOp, Word, WordOp,
-    address_width, int, is_object, is_of_type, is_signed, nat, number_op, part, size_of, width_of,
+    address_width, int, is_object, is_of_type, is_signed, nat, number_op, step_into, size_of, width_of,
     word_op, word_shift, word_unary,
 };
 
@@ -261,7 +261,7 @@ pub(crate) fn part_at<'a>(
     step: PathStep,
 ) -> Option<(u32, &'a CType)> {
     if is_object(l, ty) {
-        part(l, ty, step)
+        step_into(l, ty, step)
     } else {
         None
     }

@@ -3,7 +3,7 @@
 use crate::fault::TypeKind;
 use crate::rulings::Refusal;
 use crate::typed::{Destination, Expr, Path, Place};
-use crate::types::{Form, copy_of, form, is_array};
+use crate::types::{Form, copy_of, form_of, is_array};
 use c_values::{CType, IntType};
 use std::alloc::{AllocError, Global};
 
@@ -43,8 +43,8 @@ pub(crate) fn type_of(e: &Expr) -> Form<'_> {
         Expr::Local(_, ty)
         | Expr::Convert(ty, _)
         | Expr::ConvertNull(ty, _)
-        | Expr::Choose(ty, _, _, _) => form(ty),
-        Expr::Value(place) => form(place_type(&**place)),
+        | Expr::Choose(ty, _, _, _) => form_of(ty),
+        Expr::Value(place) => form_of(place_type(&**place)),
         Expr::Compare(_, _, _, _)
         | Expr::Equate(_, _, _, _)
         | Expr::Not(_)
@@ -61,8 +61,8 @@ pub(crate) fn type_of(e: &Expr) -> Form<'_> {
 pub(crate) fn operand_type(operand: &Operand) -> Form<'_> {
     match operand {
         Operand::Valued(e) => type_of(e),
-        Operand::Variable(_, ty) => form(ty),
-        Operand::At(place) => form(place_type(place)),
+        Operand::Variable(_, ty) => form_of(ty),
+        Operand::At(place) => form_of(place_type(place)),
     }
 }
 

@@ -54,7 +54,7 @@ struct Balanced {
 }
 
 // Two integers at their common type.
-fn balanced(alloc: Global, l: &Layout, a: Expr, b: Expr) -> Result<Balanced, Refusal> {
+fn balance(alloc: Global, l: &Layout, a: Expr, b: Expr) -> Result<Balanced, Refusal> {
     match (integer_of(&a), integer_of(&b)) {
         (Some(i), Some(j)) => {
             let ty = usual(l.target(), i, j);
@@ -79,17 +79,17 @@ fn integer_of(e: &Expr) -> Option<IntType> {
 }
 
 fn computed(alloc: Global, l: &Layout, op: Arithmetic, a: Expr, b: Expr) -> Result<Expr, Refusal> {
-    let both = balanced(alloc, l, a, b)?;
+    let both = balance(alloc, l, a, b)?;
     Ok(Expr::Compute(op, both.ty, both.left, both.right))
 }
 
 fn combined(alloc: Global, l: &Layout, op: Bitwise, a: Expr, b: Expr) -> Result<Expr, Refusal> {
-    let both = balanced(alloc, l, a, b)?;
+    let both = balance(alloc, l, a, b)?;
     Ok(Expr::Combine(op, both.ty, both.left, both.right))
 }
 
 fn compared(alloc: Global, l: &Layout, op: Relation, a: Expr, b: Expr) -> Result<Expr, Refusal> {
-    let both = balanced(alloc, l, a, b)?;
+    let both = balance(alloc, l, a, b)?;
     Ok(Expr::Compare(op, both.ty, both.left, both.right))
 }
 
@@ -181,9 +181,9 @@ struct Pair {
 
 // Integers at their common type, or two pointers.
 fn paired(alloc: Global, l: &Layout, a: Expr, b: Expr) -> Result<Pair, Refusal> {
-    match meeting(l, &a, &b) {
+    match meeting_of(l, &a, &b) {
         Meeting::Integers => {
-            let both = balanced(alloc, l, a, b)?;
+            let both = balance(alloc, l, a, b)?;
             Ok(Pair {
                 ty: CType::Int(both.ty),
                 left: both.left,
@@ -192,23 +192,23 @@ fn paired(alloc: Global, l: &Layout, a: Expr, b: Expr) -> Result<Pair, Refusal> 
         }
         Meeting::Same => {
             let ty = formed(alloc, type_of(&a))?;
-            Ok(pair(alloc, ty, a, b)?)
+            Ok(pair_of(alloc, ty, a, b)?)
         }
         Meeting::LeftNull => {
             let ty = formed(alloc, type_of(&b))?;
             let a = null(alloc, type_of(&b), a)?;
-            Ok(pair(alloc, ty, a, b)?)
+            Ok(pair_of(alloc, ty, a, b)?)
         }
         Meeting::RightNull => {
             let ty = formed(alloc, type_of(&a))?;
             let b = null(alloc, type_of(&a), b)?;
-            Ok(pair(alloc, ty, a, b)?)
+            Ok(pair_of(alloc, ty, a, b)?)
         }
         Meeting::AtVoid => {
             let ty = CType::Ptr(Box::new(alloc, CType::Void)?);
             let a = to_void_pointer(alloc, a)?;
             let b = to_void_pointer(alloc, b)?;
-            Ok(pair(alloc, ty, a, b)?)
+            Ok(pair_of(alloc, ty, a, b)?)
         }
         Meeting::Nowhere => Err(Refusal::Kind(TypeKind::Mismatch)),
     }
@@ -228,7 +228,7 @@ enum Meeting {
     Nowhere,
 }
 
-fn meeting(l: &Layout, a: &Expr, b: &Expr) -> Meeting {
+fn meeting_of(l: &Layout, a: &Expr, b: &Expr) -> Meeting {
     match type_of(a) {
         Form::Integer(_) => match type_of(b) {
             Form::Integer(_) => Meeting::Integers,
@@ -265,7 +265,7 @@ fn null(alloc: Global, to: Form<'_>, e: Expr) -> Result<Expr, AllocError> {
     Ok(Expr::ConvertNull(ty, Box::new(alloc, e)?))
 }
 
-fn pair(alloc: Global, ty: CType, left: Expr, right: Expr) -> Result<Pair, AllocError> {
+fn pair_of(alloc: Global, ty: CType, left: Expr, right: Expr) -> Result<Pair, AllocError> {
     Ok(Pair {
         ty,
         left: Box::new(alloc, left)?,
@@ -395,7 +395,7 @@ fn is_struct(name: &str, form: Form<'_>) -> bool {
 
 // An expression at a pointer type, as by assignment.
 fn to_pointer(alloc: Global, l: &Layout, inner: &CType, e: Expr) -> Result<Expr, Refusal> {
-    match arrival(l, inner, &e) {
+    match arrival_of(l, inner, &e) {
         Arrival::Same => Ok(e),
         Arrival::Null => Ok(null(alloc, Form::Pointer(inner), e)?),
         Arrival::Void => {
@@ -416,7 +416,7 @@ enum Arrival {
     None,
 }
 
-fn arrival(l: &Layout, inner: &CType, e: &Expr) -> Arrival {
+fn arrival_of(l: &Layout, inner: &CType, e: &Expr) -> Arrival {
     match type_of(e) {
         Form::Pointer(other) => {
             if is_same(inner, other) {

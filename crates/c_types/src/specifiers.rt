@@ -220,7 +220,7 @@ pub(crate) enum Signedness {
 
 // The type that integer words write.
 fn integer_type(n: Integers) -> Option<IntType> {
-    let signedness = signedness(n.signeds, n.unsigneds)?;
+    let signedness = signedness_of(n.signeds, n.unsigneds)?;
     match n.ints {
         Times::Never => sized(signedness, n.chars, n.shorts, n.longs),
         Times::Once if n.chars == Times::Never => sized(signedness, n.chars, n.shorts, n.longs),
@@ -228,7 +228,7 @@ fn integer_type(n: Integers) -> Option<IntType> {
     }
 }
 
-fn signedness(signeds: Times, unsigneds: Times) -> Option<Signedness> {
+fn signedness_of(signeds: Times, unsigneds: Times) -> Option<Signedness> {
     match (signeds, unsigneds) {
         (Times::Never, Times::Never) => Some(Signedness::Plain),
         (Times::Once, Times::Never) => Some(Signedness::Signed),
@@ -335,7 +335,7 @@ pub(crate) fn pointers(alloc: Global, stars: usize, ty: CType) -> Result<CType, 
 }
 
 /// A type that a typedef named.
-pub(crate) fn named(alloc: Global, ty: Option<&CType>) -> Result<Part, Refusal> {
+pub(crate) fn named_part(alloc: Global, ty: Option<&CType>) -> Result<Part, Refusal> {
     match ty {
         Some(ty) => Ok(Part::Type(copy_of(alloc, ty)?)),
         None => Err(Refusal::Kind(TypeKind::Unknown)),

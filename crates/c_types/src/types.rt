@@ -16,7 +16,7 @@ pub(crate) enum Form<'a> {
 }
 
 /// The outermost form of a type.
-pub(crate) fn form(t: &CType) -> Form<'_> {
+pub(crate) fn form_of(t: &CType) -> Form<'_> {
     match t {
         CType::Int(integer) => Form::Integer(*integer),
         CType::Void => Form::Void,
