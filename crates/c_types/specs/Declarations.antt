@@ -6,6 +6,7 @@ use Rattle.c_lex.specs.declared.token.Keyword.TheVariants as K
 use Rattle.c_values.specs.Name.{Name, with_name, is_among}
 use Rattle.c_values.specs.Types.{IntType, Char, SChar, UChar, Short, UShort, Int, UInt, Long, ULong, LLong, ULLong, CType, Integer, Void, Ptr, Struct, Array}
 use Rattle.c_values.specs.Number.{is_of_type}
+use Rattle.c_values.specs.Growth.{with_struct, can_follow, struct_named}
 use Rattle.c_values.specs.Layout.{Layout, Member, StructDef, is_object}
 use Rattle.c_types.specs.declared.fault.TypeKind.TheVariants.{Unknown, Twice, Mismatch, Incomplete, OutOfSubset, Large}
 use Rattle.c_types.specs.Scope.{Scope, Tag, StructTag, EnumTag, is_declared_here}
@@ -191,9 +192,6 @@ joined l ms d =
     (refuse (is_large l d.type) Large
     (Ruled (ms ++ (record { name = d.name; type = d.type } ∷ []))))))
 
-abbrev pub struct_names : Layout → List Name
-struct_names l = map (λ d. d.name) l.structs
-
 abbrev pub is_enum_tag : Option Tag → Bool
 is_enum_tag (Some EnumTag) = true
 is_enum_tag _ = false
@@ -205,13 +203,6 @@ struct_mentioned s x = refuse (is_enum_tag (s.tags x)) Twice (Ruled (Struct x))
 -- an enum's tag is declared
 abbrev pub enum_mentioned : Scope → Name → Ruling CType
 enum_mentioned s x = refuse (not (is_enum_tag (s.tags x))) Unknown (Ruled (Integer Int))
-
--- the layout with one struct more
-abbrev pub with_struct : Layout → StructDef → Layout
-with_struct l d = record l { structs = l.structs ++ (d ∷ []) }
-
-abbrev pub is_complete_member : Layout → Member → Bool
-is_complete_member l m = is_object l m.type
 
 -- a tag without a name has the number of its struct
 abbrev pub tag_name : ℕ → Option Name → Name
@@ -226,11 +217,13 @@ abbrev pub mention : Option Name → Scope → Scope
 mention None s = s
 mention (Some x) s = if is_some (s.tags x) then s else with_tag StructTag x s
 
--- a struct's body: its tag has no other one and is no enum's, and it isn't too large
+-- a struct's body: its tag has no other one and is no enum's, its members are complete, as each is where it is declared, and
+-- it isn't too large
 abbrev pub completed : Scope → StructDef → Ruling StructDef
 completed s d =
-    refuse (is_enum_tag (s.tags d.name) || is_among d.name (struct_names s.layout)) Twice
-    (refuse (not (is_object (with_struct s.layout d) (Struct d.name))) Large (Ruled d))
+    refuse (is_enum_tag (s.tags d.name) || is_some (struct_named s.layout.structs d.name)) Twice
+    (refuse (not (can_follow s.layout d)) Incomplete
+    (refuse (not (is_object (with_struct s.layout d) (Struct d.name))) Large (Ruled d)))
 
 abbrev pub complete : Option Name → StructDef → Scope → Scope
 complete x d s = record s { layout = with_struct s.layout d; unnamed = if is_none x then s.unnamed + 1 else s.unnamed }

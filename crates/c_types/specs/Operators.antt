@@ -2,7 +2,8 @@
 use Rattle.std.specs.Prelude.{Bool, true, false, not, ◌&&◌, ◌||◌, pos, if◌then◌else◌}
 use Rattle.std.specs.Ordering.{int_eq}
 use Rattle.std.specs.Option.{option_map_or}
-use Rattle.c_values.specs.Types.{Target, IntType, CType, Integer, Void, Ptr, same_type}
+use Rattle.c_values.specs.Name.{same_name}
+use Rattle.c_values.specs.Types.{Target, IntType, CType, Integer, Void, Ptr, Struct, same_type}
 use Rattle.c_values.specs.Layout.{Layout, is_object, is_scalar}
 use Rattle.c_grammar.specs.declared.operator.BinaryOperator.{BinaryOperator}
 use Rattle.c_grammar.specs.declared.operator.BinaryOperator.TheVariants as B
@@ -154,7 +155,8 @@ converts l (Ptr t) e (Ptr u) =
     else (if is_null l e then Ruled (C.ConvertNull (Ptr t) e)
     else (if same_type t Void || same_type u Void then Ruled (C.Convert (Ptr t) e) else Refused Mismatch))
 converts l (Ptr t) e (Integer j) = refuse (not (is_null l e)) Mismatch (Ruled (C.ConvertNull (Ptr t) e))
-converts l t e u = refuse (not (same_type t u)) Mismatch (Ruled e)
+converts l (Struct x) e (Struct y) = refuse (not (same_name x y)) Mismatch (Ruled e)
+converts l _ e _ = Refused Mismatch
 
 abbrev pub converted : Layout → CType → C.Expr → Ruling C.Expr
 converted l t e = converts l t e (C.type_of e)

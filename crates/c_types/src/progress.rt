@@ -91,6 +91,7 @@ fn count_of(names: &[String], name: &str) -> usize
 }
 
 // The name of a variable that so many others of its name stand before. No name of a text has a `$`.
+#[tactic(auto, using(crate::proofs::Naming::numbered_again))]
 fn numbered(alloc: Global, name: &str, others: usize) -> Result<String, AllocError>
     requires { others < 2 ^ 63 }
     ensures { IfOk result (λ own. string_bytes own ≡ progress.numbered name.now others) }

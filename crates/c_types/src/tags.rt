@@ -85,13 +85,21 @@ impl Scope {
         members: Vec<(String, CType)>,
     ) -> Result<CType, Refusal> {
         let name = self.struct_name(alloc, tag)?;
+        let ty = CType::Struct(name.clone()?);
+        self.define(alloc, StructDef { name, members })?;
+        Ok(ty)
+    }
+
+    // A struct with its body, behind the others.
+    fn define(&mut self, alloc: Global, definition: StructDef) -> Result<(), Refusal> {
+        let name = definition.name.as_str();
         refuse(
-            self.is_enum(name.as_str()) || self.layout.definition(name.as_str()).is_some(),
+            self.is_enum(name) || self.layout.definition(name).is_some(),
             TypeKind::Twice,
         )?;
-        let same = name.clone()?;
-        match self.layout.define(alloc, StructDef { name, members }) {
-            Ok(()) => Ok(CType::Struct(same)),
+        refuse(!self.layout.can_follow(&definition), TypeKind::Incomplete)?;
+        match self.layout.define(alloc, definition) {
+            Ok(()) => Ok(()),
             Err(LayoutFault::Large(_)) => Err(Refusal::Kind(TypeKind::Large)),
             Err(LayoutFault::Memory) => Err(Refusal::Memory),
         }

@@ -20,7 +20,7 @@ mod words;
 
 pub use layouts::{Layout, LayoutFault, StructDef, align_of, is_object, size_of};
 pub use numbers::{Number, NumberOp, number_op};
-pub use offsets::{offset_of, part};
+pub use offsets::{offset_of, step_into};
 pub use types::{CType, IntType, Target, address_width, is_signed, width_of};
 pub use values::{GlobalVar, PathStep, Value};
 pub use views::{fits, int, is_of_type, nat};
