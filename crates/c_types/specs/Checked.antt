@@ -1,6 +1,6 @@
 -- How a check goes through a tree: the parts of a node from left to right, then the node itself. The first bad node decides,
 -- by the offset of its first token and by what is wrong with it. What is declared on the way counts for what follows.
-use Rattle.std.specs.Prelude.{ℕ, nat_lt, Bool, true, false, if◌then◌else◌}
+use Rattle.std.specs.Prelude.{ℕ, min, Bool, true, false}
 use Rattle.c_types.specs.declared.fault.TypeKind.{TypeKind}
 use Rattle.c_types.specs.Scope.{Scope, opened, closed}
 
@@ -43,7 +43,7 @@ abbrev pub ◌>=>◌ : {A B : Type 0} → Ruling A → (A → Ruling B) → Ruli
 
 -- an offset, or the last one of 32 bits past that
 abbrev pub saturated : ℕ → ℕ
-saturated at = if nat_lt at 4294967295 then at else 4294967295
+saturated at = min at 4294967295
 
 abbrev pub ruled : {A : Type 0} → ℕ → Scope → Ruling A → Checked (A × Scope)
 ruled at s (Ruled a) = Good (a, s)

@@ -99,7 +99,10 @@ fn numbered(alloc: Global, name: &str, others: usize) -> Result<String, AllocErr
     if others == 0 {
         String::from_str(alloc, name)
     } else {
-        let number = others + 1;
-        format!(in alloc; "{name}${number}")
+        let mut own = String::from_str(alloc, name)?;
+        own.push_str("$")?;
+        let number = (others + 1).to_string(alloc)?;
+        own.push_str(number.as_str())?;
+        Ok(own)
     }
 }

@@ -116,6 +116,7 @@ pub(crate) fn more_items(
 }
 
 /// The statements as a list.
+#[tactic(auto, using(crate::proofs::Lists::onto_behind))]
 pub(crate) fn listed(
     alloc: Global,
     mut statements: Vec<Statement>,
