@@ -1,8 +1,8 @@
 -- How a check goes through a tree: the parts of a node from left to right, then the node itself. The first bad node decides,
 -- by the offset of its first token and by what is wrong with it. What is declared on the way counts for what follows.
-use Rattle.std.specs.Prelude.{ℕ, Bool, true, false}
+use Rattle.std.specs.Prelude.{ℕ, min, Bool, true, false}
 use Rattle.c_types.specs.declared.fault.TypeKind.{TypeKind}
-use Rattle.c_types.specs.Scope.{Scope}
+use Rattle.c_types.specs.Scope.{Scope, opened, closed}
 
 pub data Checked (A : Type 0) : Type 0 where
   Good : A → Checked A
@@ -41,9 +41,13 @@ abbrev pub ◌>=>◌ : {A B : Type 0} → Ruling A → (A → Ruling B) → Ruli
 (Ruled a) >=> f = f a
 (Refused kind) >=> f = Refused kind
 
+-- an offset, or the last one of 32 bits past that
+abbrev pub saturated : ℕ → ℕ
+saturated at = min at 4294967295
+
 abbrev pub ruled : {A : Type 0} → ℕ → Scope → Ruling A → Checked (A × Scope)
 ruled at s (Ruled a) = Good (a, s)
-ruled at s (Refused kind) = Bad at kind
+ruled at s (Refused kind) = Bad (saturated at) kind
 
 -- the node itself, by its offset and its rule in the scope behind its parts
 abbrev pub rule : {A : Type 0} → ℕ → (Scope → Ruling A) → Judgement A
@@ -56,3 +60,7 @@ changed f a s = Good (a, f s)
 -- the same before the parts
 abbrev pub after : {A : Type 0} → (Scope → Scope) → Judgement A → Judgement A
 after f j s = j (f s)
+
+-- the same in a block of its own
+abbrev pub in_block : {A : Type 0} → Judgement A → Judgement A
+in_block j = after opened j >>= λ a. changed closed a

@@ -1,5 +1,7 @@
 pub mod Typed
 pub mod Cast
+pub mod Progress
+pub mod File
 pub mod Scope
 pub mod Checked
 pub mod Integers
@@ -9,3 +11,14 @@ pub mod Operators
 pub mod Declarations
 pub mod Expressions
 pub mod View
+pub mod CodeProgress
+pub mod CodeScope
+pub mod Answers
+pub mod Calls
+pub mod Simple
+pub mod Locals
+pub mod Statements
+pub mod Functions
+pub mod Globals
+pub mod Unit
+pub mod Layers

@@ -4,8 +4,8 @@ use crate::typed::{Arithmetic, Bitwise, Direction, Equality, Relation, Sign};
 use c_values::views::word;
 use c_values::{
     CType, IntType, Layout, Number, NumberOp, PathStep, ShiftOp, UnaryOp, Word, WordOp,
-    address_width, int, is_object, is_of_type, is_signed, nat, number_op, step_into, size_of, width_of,
-    word_op, word_shift, word_unary,
+    address_width, int, is_object, is_of_type, is_signed, nat, number_op, size_of, step_into,
+    width_of, word_op, word_shift, word_unary,
 };
 
 // The bits of a number at a type.

@@ -1,8 +1,10 @@
 //! What is declared at a place of the text.
 
+use crate::file::File;
+use crate::progress::Progress;
 use c_values::{CType, Layout, LayoutFault, Number, Target};
 use std::alloc::{AllocError, Global};
-use std::collections::HashMap;
+use std::collections::{HashMap, HashSet};
 
 /// What a tag belongs to.
 #[derive(Clone, Copy, Debug, PartialEq, Eq)]
@@ -37,13 +39,20 @@ pub(crate) struct Scope {
     pub(crate) typedefs: HashMap<String, CType>,
     /// The names of each block, the file's first, the innermost last.
     pub(crate) blocks: Vec<HashMap<String, Entity>>,
+    pub(crate) file: File,
+    /// Of the function that the text is in.
+    pub(crate) progress: Progress,
     /// Whether a conversion to a pointer to a type that isn't void stood where only a value is left.
     pub(crate) folds_cast: bool,
 }
 
 impl Scope {
-    /// Before the first external.
-    pub(crate) fn of_file(alloc: Global, target: Target) -> Result<Scope, LayoutFault> {
+    /// In front of a text with these functions that have a body.
+    pub(crate) fn of_file(
+        alloc: Global,
+        target: Target,
+        with_body: HashSet<String>,
+    ) -> Result<Scope, LayoutFault> {
         let layout = Layout::build(target, Vec::new(alloc))?;
         let mut blocks = Vec::new(alloc);
         blocks.push(HashMap::new(alloc))?;
@@ -53,6 +62,8 @@ impl Scope {
             unnamed: 0,
             typedefs: HashMap::new(alloc),
             blocks,
+            file: File::at_beginning(alloc, with_body),
+            progress: Progress::at_start(alloc, Vec::new(alloc)),
             folds_cast: false,
         })
     }
@@ -82,4 +93,28 @@ impl Scope {
         }
         Ok(())
     }
+
+    /// Begins a block.
+    pub(crate) fn open_block(&mut self, alloc: Global) -> Result<(), AllocError> {
+        self.blocks.push(HashMap::new(alloc))?;
+        Ok(())
+    }
+
+    /// Ends the innermost block.
+    pub(crate) fn close_block(&mut self) {
+        let _ = self.blocks.pop();
+    }
+
+    /// What the innermost block has declared isn't to be named any more, but still has its name.
+    pub(crate) fn hide_locals(&mut self) {
+        if let Some(names) = self.blocks.last_mut() {
+            names.retain(hide);
+        }
+    }
+}
+
+// Hides a local, and keeps its name.
+fn hide(_: &String, entity: &mut Entity) -> bool {
+    *entity = Entity::Hidden;
+    true
 }

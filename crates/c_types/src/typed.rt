@@ -1,6 +1,7 @@
 //! Typed units. Conversions, promotions, the decay of arrays and the operation of a compound assignment are explicit;
 //! locals have names of their own; calls, switches and do-whiles have numbers from 1 on, in the order of the text.
 
+use crate::operands::place_type;
 use c_values::{CType, GlobalVar, IntType, Layout, Number};
 
 /// An operation on integers that can go out of its type, or has no result.
@@ -128,6 +129,16 @@ pub enum Destination {
     ToPlace(Place),
 }
 
+impl Destination {
+    /// The type that lies there.
+    pub(crate) fn ty(&self) -> &CType {
+        match self {
+            Destination::ToLocal(_, ty) => ty,
+            Destination::ToPlace(place) => place_type(place),
+        }
+    }
+}
+
 /// What becomes of a called function's result.
 #[derive(Debug, Drop)]
 pub enum Use {
@@ -163,17 +174,17 @@ pub enum Statement {
     /// The right side has the target's type.
     Assign(Destination, Expr),
     /// A call: its number, the function, the arguments at the parameters' types, and what becomes of the result.
-    Call(u32, String, Vec<Expr>, Use),
+    Call(u64, String, Vec<Expr>, Use),
     /// An `if`; an absent `else` is empty.
     If(Expr, Box<Statement>, Box<Statement>),
     /// `while (e) s`
     While(Expr, Box<Statement>),
     /// The number of a `do s while (e);`, its body and its test.
-    DoWhile(u32, Box<Statement>, Expr),
+    DoWhile(u64, Box<Statement>, Expr),
     /// A `for`: what is done first, the test, the step, and the body.
     For(Box<Statements>, Test, Box<Statement>, Box<Statement>),
     /// A switch: its number, the type of its promoted operand, and that operand.
-    Switch(u32, IntType, Expr, Box<Groups>),
+    Switch(u64, IntType, Expr, Box<Groups>),
     /// `break;`
     Break,
     /// `continue;`

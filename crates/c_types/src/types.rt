@@ -1,5 +1,9 @@
 //! Types: their outermost form, copies and comparisons. A text can nest types deeply, so each of these is a loop.
 
+ghost use Rattle.std.specs.Prelude.{◌≡◌, IfOk};
+ghost use Rattle.c_values.specs.CodeTypes.{type_of};
+ghost use Rattle.c_types.specs.Layers.{around};
+
 use c_values::{CType, IntType};
 use std::alloc::{AllocError, Global};
 
@@ -51,7 +55,10 @@ enum Layer {
 }
 
 /// A copy.
-pub(crate) fn copy_of(alloc: Global, t: &CType) -> Result<CType, AllocError> {
+#[tactic(auto, using(crate::proofs::Layers::around_behind))]
+pub(crate) fn copy_of(alloc: Global, t: &CType) -> Result<CType, AllocError>
+    ensures { IfOk result (λ copy. type_of copy ≡ type_of t.now) }
+{
     let mut layers = Vec::new(alloc);
     let mut inner = t;
     loop {
@@ -64,27 +71,30 @@ pub(crate) fn copy_of(alloc: Global, t: &CType) -> Result<CType, AllocError> {
                 layers.push(Layer::Array(*length))?;
                 inner = &**next;
             }
-            CType::Int(_) | CType::Void | CType::Struct(_) => break,
+            CType::Int(integer) => return wrapped(alloc, layers, CType::Int(*integer)),
+            CType::Void => return wrapped(alloc, layers, CType::Void),
+            CType::Struct(name) => {
+                let name = String::from_str(alloc, name.as_str())?;
+                return wrapped(alloc, layers, CType::Struct(name));
+            }
         }
     }
-    let mut copy = copy_of_innermost(alloc, inner)?;
+}
+
+// A type with layers around it, the outermost first.
+#[tactic(auto, using(crate::proofs::Layers::around_behind))]
+fn wrapped(alloc: Global, mut layers: Vec<Layer>, innermost: CType) -> Result<CType, AllocError>
+    ensures { IfOk result (λ t. type_of t ≡ around layers.items (type_of innermost)) }
+{
+    let mut ty = innermost;
     while let Some(layer) = layers.pop() {
-        let within = Box::new(alloc, copy)?;
-        copy = match layer {
+        let within = Box::new(alloc, ty)?;
+        ty = match layer {
             Layer::Pointer => CType::Ptr(within),
             Layer::Array(length) => CType::Array(within, length),
         };
     }
-    Ok(copy)
-}
-
-// A copy of a type that is no pointer and no array.
-fn copy_of_innermost(alloc: Global, t: &CType) -> Result<CType, AllocError> {
-    match t {
-        CType::Int(integer) => Ok(CType::Int(*integer)),
-        CType::Struct(name) => Ok(CType::Struct(String::from_str(alloc, name.as_str())?)),
-        CType::Void | CType::Ptr(_) | CType::Array(_, _) => Ok(CType::Void),
-    }
+    Ok(ty)
 }
 
 /// Whether two types are the same.

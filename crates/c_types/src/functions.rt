@@ -1,0 +1,203 @@
+//! Functions: their declarations, and those with a body.
+
+use crate::calls::copy_of_result;
+use crate::declarators::Declared;
+use crate::expressions::{base, declarator};
+use crate::fault::{TypeFault, TypeKind};
+use crate::parameters::{Parameter, add_parameter, parameters, variables};
+use crate::progress::Progress;
+use crate::rulings::{Refusal, at_node, refuse};
+use crate::scope::{Entity, Scope};
+use crate::statements::{Around, items};
+use crate::typed::{Statements, TypedFn, Variable};
+use crate::types::{copy_of, form_of, is_same, is_scalar, points_to_array};
+use c_grammar::tree::{Declarator, Items, Param, Words};
+use c_values::CType;
+use std::alloc::{AllocError, Global};
+use std::mem;
+
+/// A function with its body: its parameters, its declarator, its block.
+pub(crate) fn function(
+    alloc: Global,
+    words: &Words,
+    head: &Declarator,
+    params: &[Param],
+    block: &Items,
+    scope: &mut Scope,
+) -> Result<TypedFn, TypeFault> {
+    scope.folds_cast = false;
+    let base = base(alloc, words, scope)?;
+    let head = declarator(alloc, head, scope, &base.ty)?;
+    let params = parameters_in_block(alloc, params, scope, true)?;
+    at_node(head.at, is_body(&head, params.as_slice(), &*scope))?;
+    let Declared { name, ty, .. } = head;
+    let result = result_type(ty);
+    add_function(alloc, name.as_str(), &result, params.as_slice(), scope)?;
+    add_body(alloc, name.as_str(), scope)?;
+    let body = body(alloc, block, scope, &result, params.as_slice())?;
+    Ok(TypedFn {
+        name,
+        result,
+        params: variables(alloc, params.as_slice())?,
+        locals: taken_locals(alloc, scope),
+        folds_cast: scope.folds_cast,
+        body,
+    })
+}
+
+/// Parameters in a block of their own.
+pub(crate) fn parameters_in_block(
+    alloc: Global,
+    params: &[Param],
+    scope: &mut Scope,
+    has_body: bool,
+) -> Result<Vec<Parameter>, TypeFault> {
+    scope.open_block(alloc)?;
+    let params = parameters(alloc, params, scope, has_body)?;
+    scope.close_block();
+    Ok(params)
+}
+
+// The rule of the declarator of a function with a body, of which there is one.
+fn is_body(head: &Declared, params: &[Parameter], scope: &Scope) -> Result<(), Refusal> {
+    refuse(
+        scope.file.with_body_so_far.contains(head.name.as_str()),
+        TypeKind::Twice,
+    )?;
+    is_function(head, params, scope)
+}
+
+/// The rule of the declarator of a function: its declarations agree, and its result is a scalar or none.
+pub(crate) fn is_function(
+    head: &Declared,
+    params: &[Parameter],
+    scope: &Scope,
+) -> Result<(), Refusal> {
+    let name = head.name.as_str();
+    refuse(
+        scope.typedefs.contains_key(name) || !agrees(scope.entity(name), &head.ty, params),
+        TypeKind::Twice,
+    )?;
+    refuse(!is_result(&head.ty), TypeKind::OutOfSubset)
+}
+
+// Whether a function of the type may be declared where its name stands for this.
+fn agrees(entity: Option<&Entity>, written: &CType, params: &[Parameter]) -> bool {
+    match entity {
+        None => true,
+        Some(Entity::Function(other, types)) => {
+            same_result(other, written) && same_types(types.as_slice(), params)
+        }
+        Some(Entity::Enumerator(_) | Entity::Global(_) | Entity::Local(_, _) | Entity::Hidden) =>
+            false,
+    }
+}
+
+fn same_result(declared: &Option<CType>, written: &CType) -> bool {
+    match declared {
+        None => matches!(written, CType::Void),
+        Some(ty) => !matches!(written, CType::Void) && is_same(ty, written),
+    }
+}
+
+fn same_types(types: &[CType], params: &[Parameter]) -> bool {
+    if types.len() != params.len() {
+        return false;
+    }
+    for (k, ty) in types.iter().enumerate() {
+        if !is_same(ty, &params[k].ty) {
+            return false;
+        }
+    }
+    true
+}
+
+// Whether a type is `void` or a scalar.
+fn is_result(ty: &CType) -> bool {
+    matches!(ty, CType::Void) || is_scalar(form_of(ty)) && !points_to_array(ty)
+}
+
+/// A function's result: `void` is none.
+pub(crate) fn result_type(ty: CType) -> Option<CType> {
+    if matches!(&ty, CType::Void) {
+        None
+    } else {
+        Some(ty)
+    }
+}
+
+/// Declares a function.
+pub(crate) fn add_function(
+    alloc: Global,
+    name: &str,
+    ty: &Option<CType>,
+    params: &[Parameter],
+    scope: &mut Scope,
+) -> Result<(), AllocError> {
+    let result = copy_of_result(alloc, ty)?;
+    let types = types_of(alloc, params)?;
+    scope.declare(
+        String::from_str(alloc, name)?,
+        Entity::Function(result, types),
+    )
+}
+
+fn types_of(alloc: Global, params: &[Parameter]) -> Result<Vec<CType>, AllocError> {
+    let mut types = Vec::new(alloc);
+    for param in params {
+        types.push(copy_of(alloc, &param.ty)?)?;
+    }
+    Ok(types)
+}
+
+// Notes that the function has its body.
+fn add_body(alloc: Global, name: &str, scope: &mut Scope) -> Result<(), AllocError> {
+    let name = String::from_str(alloc, name)?;
+    scope.file.with_body_so_far.insert(name)?;
+    Ok(())
+}
+
+// The block of a function.
+fn body(
+    alloc: Global,
+    block: &Items,
+    scope: &mut Scope,
+    ty: &Option<CType>,
+    params: &[Parameter],
+) -> Result<Statements, TypeFault> {
+    scope.open_block(alloc)?;
+    enter(alloc, params, scope)?;
+    let around = Around {
+        result: ty,
+        in_loop: false,
+        in_switch: false,
+    };
+    let statements = items(alloc, block, scope, around)?;
+    scope.close_block();
+    Ok(statements)
+}
+
+// The body begins: nothing has a number or is declared but the parameters.
+fn enter(alloc: Global, params: &[Parameter], scope: &mut Scope) -> Result<(), AllocError> {
+    let names = names_of(alloc, params)?;
+    scope.progress = Progress::at_start(alloc, names);
+    for param in params {
+        add_parameter(alloc, param, scope)?;
+    }
+    Ok(())
+}
+
+fn names_of(alloc: Global, params: &[Parameter]) -> Result<Vec<String>, AllocError> {
+    let mut names = Vec::new(alloc);
+    for param in params {
+        if let Some(name) = &param.name {
+            names.push(name.clone()?)?;
+        }
+    }
+    Ok(names)
+}
+
+// The locals of the body that ends.
+fn taken_locals(alloc: Global, scope: &mut Scope) -> Vec<Variable> {
+    mem::replace(&mut scope.progress.locals, Vec::new(alloc))
+}

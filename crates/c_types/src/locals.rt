@@ -1,0 +1,96 @@
+//! Locals: each is a scalar, has a name of its own, and begins with a value or with any.
+
+use crate::calls::{assigned, right_side};
+use crate::declarators::{Declared, is_incomplete};
+use crate::expressions::{base, declarator};
+use crate::fault::{TypeFault, TypeKind};
+use crate::rulings::{Refusal, at_node, refuse};
+use crate::scope::{Entity, Scope};
+use crate::specifiers::words_start;
+use crate::typed::{Destination, Statement};
+use crate::types::{copy_of, form_of, is_scalar, points_to_array};
+use c_grammar::tree::{Init, Local, Rhs};
+use std::alloc::Global;
+
+/// Adds the statements of a declaration of locals.
+pub(crate) fn local(
+    alloc: Global,
+    local: &Local,
+    scope: &mut Scope,
+    statements: &mut Vec<Statement>,
+) -> Result<(), TypeFault> {
+    let base = base(alloc, &local.words, scope)?;
+    for init in &local.inits {
+        let head = declarator(alloc, &init.declarator, scope, &base.ty)?;
+        statements.push(declared(alloc, head, &init.value, scope)?)?;
+    }
+    at_node(
+        words_start(&local.words),
+        refuse(base.is_static || base.is_extern, TypeKind::OutOfSubset),
+    )
+}
+
+// A local with its value. Its name isn't used in that.
+fn declared(
+    alloc: Global,
+    head: Declared,
+    value: &Option<Rhs>,
+    scope: &mut Scope,
+) -> Result<Statement, TypeFault> {
+    let own = at_node(head.at, local_name(alloc, &head, &*scope))?;
+    add_local(alloc, &head, own.as_str(), scope)?;
+    let statement = initial(alloc, &head, own.as_str(), value, scope)?;
+    name_local(head, own, scope)?;
+    Ok(statement)
+}
+
+// The rule of a local: a scalar under a name that is new in its block. It gives the local's own name.
+fn local_name(alloc: Global, head: &Declared, scope: &Scope) -> Result<String, Refusal> {
+    let name = head.name.as_str();
+    refuse(scope.is_declared_here(name), TypeKind::Twice)?;
+    refuse(is_incomplete(&scope.layout, &head.ty), TypeKind::Incomplete)?;
+    refuse(
+        !is_scalar(form_of(&head.ty)) || points_to_array(&head.ty),
+        TypeKind::OutOfSubset,
+    )?;
+    Ok(scope.progress.own_name(alloc, name)?)
+}
+
+// Declares a local that isn't to be used yet.
+fn add_local(
+    alloc: Global,
+    head: &Declared,
+    own: &str,
+    scope: &mut Scope,
+) -> Result<(), TypeFault> {
+    let name = head.name.as_str();
+    scope.progress.add_local(alloc, own, name, &head.ty)?;
+    scope.declare(String::from_str(alloc, name)?, Entity::Hidden)?;
+    Ok(())
+}
+
+// A local that is to be used from here on.
+fn name_local(head: Declared, own: String, scope: &mut Scope) -> Result<(), TypeFault> {
+    scope.declare(head.name, Entity::Local(own, head.ty))?;
+    Ok(())
+}
+
+// The value that a local begins with, or any.
+fn initial(
+    alloc: Global,
+    head: &Declared,
+    own: &str,
+    value: &Option<Rhs>,
+    scope: &mut Scope,
+) -> Result<Statement, TypeFault> {
+    let name = String::from_str(alloc, own)?;
+    let ty = copy_of(alloc, &head.ty)?;
+    match value {
+        None => Ok(Statement::Declare(name, ty)),
+        Some(source) => {
+            let source = right_side(alloc, source, scope)?;
+            let target = Destination::ToLocal(name, ty);
+            at_node(head.at, assigned(alloc, &scope.layout, target, source))
+        }
+    }
+}

@@ -1,0 +1,149 @@
+//! Parameters: scalars; an array among them is a pointer.
+
+use crate::declarators::{is_incomplete, is_large, length_at};
+use crate::expressions::{base, integer_constant};
+use crate::fault::{TypeFault, TypeKind};
+use crate::rulings::{Refusal, at_node, refuse};
+use crate::scope::{Entity, Scope};
+use crate::specifiers::{pointers, words_start};
+use crate::typed::Variable;
+use crate::types::{Form, copy_of, form_of, formed, is_scalar, points_to_array};
+use c_grammar::tree::{Bracket, Param};
+use c_values::CType;
+use std::alloc::{AllocError, Global};
+
+/// A parameter, maybe without a name.
+#[derive(Debug, Drop)]
+pub(crate) struct Parameter {
+    pub(crate) name: Option<String>,
+    pub(crate) ty: CType,
+}
+
+/// The parameters of a function, which are named where it has a body. They are declared in the innermost block.
+pub(crate) fn parameters(
+    alloc: Global,
+    params: &[Param],
+    scope: &mut Scope,
+    has_body: bool,
+) -> Result<Vec<Parameter>, TypeFault> {
+    let mut typed = Vec::new(alloc);
+    for param in params {
+        let parameter = typed_parameter(alloc, param, scope, has_body)?;
+        add_parameter(alloc, &parameter, scope)?;
+        typed.push(parameter)?;
+    }
+    Ok(typed)
+}
+
+/// Declares a parameter that has a name.
+pub(crate) fn add_parameter(
+    alloc: Global,
+    parameter: &Parameter,
+    scope: &mut Scope,
+) -> Result<(), AllocError> {
+    if let Some(name) = &parameter.name {
+        let own = name.clone()?;
+        let ty = copy_of(alloc, &parameter.ty)?;
+        scope.declare(name.clone()?, Entity::Local(own, ty))?;
+    }
+    Ok(())
+}
+
+fn typed_parameter(
+    alloc: Global,
+    param: &Param,
+    scope: &mut Scope,
+    has_body: bool,
+) -> Result<Parameter, TypeFault> {
+    let base = base(alloc, &param.words, scope)?;
+    let ty = pointers(alloc, param.stars.len(), base.ty)?;
+    let ty = bracketed(alloc, &param.bracket, scope, ty)?;
+    at_node(
+        parameter_start(param),
+        parameter_of(alloc, &param.name, ty, &*scope, has_body),
+    )
+}
+
+// The type that a parameter is written with. An array without a length is written as one of one element.
+fn bracketed(
+    alloc: Global,
+    bracket: &Bracket,
+    scope: &mut Scope,
+    ty: CType,
+) -> Result<CType, TypeFault> {
+    match bracket {
+        Bracket::None => Ok(ty),
+        Bracket::Open => Ok(CType::Array(Box::new(alloc, ty)?, 1)),
+        Bracket::Length(e) => {
+            let length = length_at(integer_constant(alloc, e, scope)?);
+            Ok(CType::Array(Box::new(alloc, ty)?, length))
+        }
+    }
+}
+
+// The offset of a parameter: its first star, or its name; one with neither begins with its words.
+fn parameter_start(param: &Param) -> usize {
+    match param.stars.first() {
+        Some(star) => *star,
+        None => match &param.name {
+            Some((at, _)) => *at,
+            None => words_start(&param.words),
+        },
+    }
+}
+
+// The rule of a parameter: a scalar under a new name.
+fn parameter_of(
+    alloc: Global,
+    name: &Option<(usize, String)>,
+    written: CType,
+    scope: &Scope,
+    has_body: bool,
+) -> Result<Parameter, Refusal> {
+    let name = name_of(name)?;
+    refuse(is_declared(scope, &name), TypeKind::Twice)?;
+    refuse(is_incomplete(&scope.layout, &written), TypeKind::Incomplete)?;
+    let is_large = is_large(&scope.layout, &written);
+    let ty = adjusted(alloc, written)?;
+    refuse(
+        points_to_array(&ty) || !is_scalar(form_of(&ty)) || has_body && name.is_none(),
+        TypeKind::OutOfSubset,
+    )?;
+    refuse(is_large, TypeKind::Large)?;
+    Ok(Parameter { name, ty })
+}
+
+fn name_of(name: &Option<(usize, String)>) -> Result<Option<String>, AllocError> {
+    match name {
+        None => Ok(None),
+        Some((_, name)) => Ok(Some(name.clone()?)),
+    }
+}
+
+fn is_declared(scope: &Scope, name: &Option<String>) -> bool {
+    match name {
+        None => false,
+        Some(name) => scope.is_declared_here(name.as_str()),
+    }
+}
+
+// An array as a parameter is a pointer.
+fn adjusted(alloc: Global, ty: CType) -> Result<CType, AllocError> {
+    match form_of(&ty) {
+        Form::Array(element, _) => formed(alloc, Form::Pointer(element)),
+        Form::Integer(_) | Form::Void | Form::Pointer(_) | Form::Struct(_) => Ok(ty),
+    }
+}
+
+/// The parameters that have a name.
+pub(crate) fn variables(alloc: Global, params: &[Parameter]) -> Result<Vec<Variable>, AllocError> {
+    let mut variables = Vec::new(alloc);
+    for param in params {
+        if let Some(name) = &param.name {
+            let name = name.clone()?;
+            let ty = copy_of(alloc, &param.ty)?;
+            variables.push(Variable { name, ty })?;
+        }
+    }
+    Ok(variables)
+}
