@@ -1,14 +1,14 @@
 -- The value of a constant expression (C99 6.6): every operand is a constant, taken or not, and no step is undefined. A
 -- pointer that is made of constants is one; what is read through it isn't.
-use Rattle.std.specs.Prelude.{Bool, true, false, not, ◌&&◌, ◌||◌, List, [], ◌∷◌, Option, Some, None, option_and_then, ℤ, pos, neg_ℤ, ◌+ℤ◌, ◌*ℤ◌, int_lt, int_le, if◌then◌else◌}
-use Rattle.std.specs.Int.{int_div_euclid}
+use Rattle.std.specs.Prelude.{ℕ, Bool, true, false, not, ◌&&◌, Option, Some, None, option_and_then, ℤ, pos, neg_ℤ, int_lt, int_le, if◌then◌else◌}
 use Rattle.std.specs.Option.{option_map}
 use Rattle.std.specs.Ordering.{int_eq}
 use Rattle.c_values.specs.Types.{IntType, CType, Integer, width_of, is_signed, address_width}
-use Rattle.c_values.specs.Number.{NumberOp, Add, Sub, Mul, Div, Mod, number_op, is_of_type}
-use Rattle.c_values.specs.Word.{Word, unsigned, signed, word, word_op, word_unary, Wand, Wor, Wxor, Wnot, is_shift, power_of_two}
-use Rattle.c_values.specs.Layout.{Layout, size_of}
-use Rattle.c_values.specs.Path.{Step, Field, Index, offset_of}
+use Rattle.c_values.specs.Number.{Add, Sub, Mul, Div, Mod, number_op, is_of_type}
+use Rattle.c_values.specs.Word.{Word, WordOp, unsigned, signed, word, word_op, word_unary, word_shift, Wadd, Wsub, Wmul, Wand, Wor, Wxor, Wudiv, Wumod, Wneg, Wnot, Wshl, Wushr, Wsshr, is_shift, power_of_two}
+use Rattle.c_values.specs.Layout.{Layout, Shape, Incomplete, size_of, shape_of, is_object}
+use Rattle.c_values.specs.Path.{Step, Field, Index}
+use Rattle.c_values.specs.StepInto.{step_into}
 use Rattle.c_types.specs.Typed as C
 
 abbrev mutual
@@ -45,50 +45,86 @@ abbrev mutual
   is_constant_path (C.Member k path) = is_constant_path path
   is_constant_path (C.Element n e path) = is_constant e && is_constant_path path
 
--- the number modulo 2 to the type's width, at the type; a pointer is unsigned
-abbrev pub integer_at : Layout → IntType → ℤ → ℤ
-integer_at l i n = let w = word (width_of l.target i) n in if is_signed i then signed w else unsigned w
-
-abbrev pub number_at : Layout → CType → ℤ → ℤ
-number_at l (Integer i) n = integer_at l i n
-number_at l _ n = unsigned (word (address_width l.target) n)
-
--- the exact result, none where it is signed and isn't of the type
-abbrev pub fitted : Layout → IntType → ℤ → Option ℤ
-fitted l i n = if is_signed i && not (is_of_type l.target i n) then None else Some (integer_at l i n)
-
--- by zero there is none
-abbrev pub divided : Layout → IntType → NumberOp → ℤ → ℤ → Option ℤ
-divided l i op a b =
-    if int_eq b (pos 0) || not (is_of_type l.target i (number_op Div a b)) then None else Some (number_op op a b)
-
-abbrev pub computed : Layout → IntType → C.Arithmetic → ℤ → ℤ → Option ℤ
-computed l i C.Add a b = fitted l i (number_op Add a b)
-computed l i C.Subtract a b = fitted l i (number_op Sub a b)
-computed l i C.Multiply a b = fitted l i (number_op Mul a b)
-computed l i C.Divide a b = divided l i Div a b
-computed l i C.Remainder a b = divided l i Mod a b
-
--- the bits of a number at the type
+-- the bits of a number at a type, and of an address
 abbrev pub bits_at : Layout → IntType → ℤ → Word
 bits_at l i n = word (width_of l.target i) n
 
+abbrev pub address_bits : Layout → ℤ → Word
+address_bits l n = word (address_width l.target) n
+
+-- the number that a word is at a type
 abbrev pub at_type : IntType → Word → ℤ
 at_type i w = if is_signed i then signed w else unsigned w
 
-abbrev pub combined : Layout → IntType → C.Bitwise → ℤ → ℤ → ℤ
-combined l i C.BitAnd a b = at_type i (word_op Wand (bits_at l i a) (bits_at l i b))
-combined l i C.BitOr a b = at_type i (word_op Wor (bits_at l i a) (bits_at l i b))
-combined l i C.BitXor a b = at_type i (word_op Wxor (bits_at l i a) (bits_at l i b))
+-- a number converted to a scalar type; a pointer is unsigned
+abbrev pub number_at : Layout → CType → ℤ → ℤ
+number_at l (Integer i) n = at_type i (bits_at l i n)
+number_at l _ n = unsigned (address_bits l n)
 
--- The count is from 0 to the width, less one. A signed value that is shifted left isn't negative, and its result fits. A
--- negative value is shifted right arithmetically.
-abbrev pub shifted : Layout → IntType → C.Direction → ℤ → ℤ → Option ℤ
-shifted l i C.Left a n =
-    if not (is_shift (width_of l.target i) n) || (is_signed i && int_lt a (pos 0)) then None
-    else fitted l i (a *ℤ power_of_two n)
-shifted l i C.Right a n =
-    if is_shift (width_of l.target i) n then Some (int_div_euclid a (power_of_two n)) else None
+-- a result that is of the type
+abbrev pub exact : Layout → IntType → ℤ → Option ℤ
+exact l i n = if is_of_type l.target i n then Some n else None
+
+-- a result modulo 2 to the width
+abbrev pub wrapped : Layout → IntType → WordOp → ℤ → ℤ → ℤ
+wrapped l i op a b = at_type i (word_op op (bits_at l i a) (bits_at l i b))
+
+abbrev pub negated : Layout → IntType → ℤ → Option ℤ
+negated l i a = if is_signed i then exact l i (neg_ℤ a) else Some (at_type i (word_unary Wneg (bits_at l i a)))
+
+abbrev pub complement : Layout → IntType → ℤ → ℤ
+complement l i a = at_type i (word_unary Wnot (bits_at l i a))
+
+abbrev pub is_true : ℤ → Bool
+is_true n = not (int_eq n (pos 0))
+
+-- by zero there is none
+abbrev pub divided : ℤ → Option ℤ → Option ℤ
+divided b r = if is_true b then r else None
+
+-- signed results are of the type; of a remainder the quotient is
+abbrev pub computed_signed : Layout → C.Arithmetic → IntType → ℤ → ℤ → Option ℤ
+computed_signed l C.Add i a b = exact l i (number_op Add a b)
+computed_signed l C.Subtract i a b = exact l i (number_op Sub a b)
+computed_signed l C.Multiply i a b = exact l i (number_op Mul a b)
+computed_signed l C.Divide i a b = divided b (exact l i (number_op Div a b))
+computed_signed l C.Remainder i a b =
+    divided b (option_map (λ q. number_op Mod a b) (exact l i (number_op Div a b)))
+
+abbrev pub computed_unsigned : Layout → C.Arithmetic → IntType → ℤ → ℤ → Option ℤ
+computed_unsigned l C.Add i a b = Some (wrapped l i Wadd a b)
+computed_unsigned l C.Subtract i a b = Some (wrapped l i Wsub a b)
+computed_unsigned l C.Multiply i a b = Some (wrapped l i Wmul a b)
+computed_unsigned l C.Divide i a b = divided b (Some (wrapped l i Wudiv a b))
+computed_unsigned l C.Remainder i a b = divided b (Some (wrapped l i Wumod a b))
+
+abbrev pub computed : Layout → C.Arithmetic → IntType → ℤ → ℤ → Option ℤ
+computed l op i a b = if is_signed i then computed_signed l op i a b else computed_unsigned l op i a b
+
+abbrev pub combined : Layout → C.Bitwise → IntType → ℤ → ℤ → ℤ
+combined l C.BitAnd i a b = wrapped l i Wand a b
+combined l C.BitOr i a b = wrapped l i Wor a b
+combined l C.BitXor i a b = wrapped l i Wxor a b
+
+-- a signed value that is shifted left isn't negative, and its result fits
+abbrev pub shifted_left : Layout → IntType → ℤ → ℤ → Option ℤ
+shifted_left l i a n =
+    if is_signed i then (if int_lt a (pos 0) then None else exact l i (number_op Mul a (power_of_two n)))
+    else Some (at_type i (word_shift Wshl (bits_at l i a) n))
+
+-- a negative value is shifted right arithmetically
+abbrev pub shifted_right : Layout → IntType → ℤ → ℤ → ℤ
+shifted_right l i a n =
+    if is_signed i then at_type i (word_shift Wsshr (bits_at l i a) n)
+    else at_type i (word_shift Wushr (bits_at l i a) n)
+
+abbrev pub shifts : Layout → C.Direction → IntType → ℤ → ℤ → Option ℤ
+shifts l C.Left i a n = shifted_left l i a n
+shifts l C.Right i a n = Some (shifted_right l i a n)
+
+-- the count is from 0 to the width, less one
+abbrev pub shifted : Layout → C.Direction → IntType → ℤ → ℤ → Option ℤ
+shifted l d i a n = if is_shift (width_of l.target i) n then shifts l d i a n else None
 
 abbrev pub compares : C.Relation → ℤ → ℤ → Bool
 compares C.Less a b = int_lt a b
@@ -102,18 +138,28 @@ equates C.NotEqual a b = not (int_eq a b)
 
 -- 1 or 0
 abbrev pub truth : Bool → ℤ
-truth b = if b then pos 1 else pos 0
+truth b = pos (if b then 1 else 0)
 
-abbrev pub is_true : ℤ → Bool
-is_true n = not (int_eq n (pos 0))
+-- the bytes of an object; 0 of anything else
+abbrev pub stride : Layout → CType → ℕ
+stride l t = if is_object l t then size_of l t else 0
 
-abbrev pub signed_by : C.Sign → ℤ → ℤ
-signed_by C.Plus n = n
-signed_by C.Minus n = neg_ℤ n
+abbrev pub sign_op : C.Sign → WordOp
+sign_op C.Plus = Wadd
+sign_op C.Minus = Wsub
 
--- an address that moves by a number of bytes
-abbrev pub moved : Layout → ℤ → ℤ → ℤ
-moved l p n = unsigned (word (address_width l.target) (p +ℤ n))
+-- an address that moves by so many objects
+abbrev pub moved : Layout → C.Sign → CType → ℤ → ℤ → ℤ
+moved l s t p n =
+    unsigned (word_op (sign_op s) (address_bits l p) (word_op Wmul (address_bits l (pos (stride l t))) (address_bits l n)))
+
+-- and by bytes
+abbrev pub moved_by : Layout → ℤ → ℤ → ℤ
+moved_by l p n = unsigned (word_op Wadd (address_bits l p) (address_bits l n))
+
+-- the shape of an object; of anything else none that is stepped into
+abbrev pub object_shape : Layout → CType → Shape
+object_shape l t = if is_object l t then shape_of l t else Incomplete
 
 abbrev mutual
   -- as a number; none where a step is undefined, or an operand that is taken is no constant
@@ -123,32 +169,32 @@ abbrev mutual
   folded l (C.Value p) = None
   folded l (C.Convert t a) = option_map (number_at l t) (folded l a)
   folded l (C.ConvertNull t a) = option_map (number_at l t) (folded l a)
-  folded l (C.Negate i a) = option_and_then (λ n. fitted l i (neg_ℤ n)) (folded l a)
-  folded l (C.Complement i a) = option_map (λ n. at_type i (word_unary Wnot (bits_at l i n))) (folded l a)
-  folded l (C.Compute op i a b) = option_and_then (λ m. option_and_then (λ n. computed l i op m n) (folded l b)) (folded l a)
-  folded l (C.Combine op i a b) = option_and_then (λ m. option_map (λ n. combined l i op m n) (folded l b)) (folded l a)
-  folded l (C.Shift d i a b) = option_and_then (λ m. option_and_then (λ n. shifted l i d m n) (folded l b)) (folded l a)
+  folded l (C.Negate i a) = option_and_then (λ n. negated l i n) (folded l a)
+  folded l (C.Complement i a) = option_map (complement l i) (folded l a)
+  folded l (C.Compute op i a b) = option_and_then (λ m. option_and_then (λ n. computed l op i m n) (folded l b)) (folded l a)
+  folded l (C.Combine op i a b) = option_and_then (λ m. option_map (λ n. combined l op i m n) (folded l b)) (folded l a)
+  folded l (C.Shift d i a b) = option_and_then (λ m. option_and_then (λ n. shifted l d i m n) (folded l b)) (folded l a)
   folded l (C.Compare r i a b) = option_and_then (λ m. option_map (λ n. truth (compares r m n)) (folded l b)) (folded l a)
   folded l (C.Equate q t a b) = option_and_then (λ m. option_map (λ n. truth (equates q m n)) (folded l b)) (folded l a)
   folded l (C.Not a) = option_map (λ n. truth (not (is_true n))) (folded l a)
   folded l (C.And a b) = option_and_then (λ m. if is_true m then option_map (λ n. truth (is_true n)) (folded l b) else Some (pos 0)) (folded l a)
   folded l (C.Or a b) = option_and_then (λ m. if is_true m then Some (pos 1) else option_map (λ n. truth (is_true n)) (folded l b)) (folded l a)
   folded l (C.Choose t c a b) = option_and_then (λ m. if is_true m then folded l a else folded l b) (folded l c)
-  folded l (C.Move s t p a) = option_and_then (λ m. option_map (λ n. moved l m (pos (size_of l t) *ℤ signed_by s n)) (folded l a)) (folded l p)
-  folded l (C.MoveBy t a p) = option_and_then (λ n. option_map (λ m. moved l m (pos (size_of l t) *ℤ n)) (folded l p)) (folded l a)
+  folded l (C.Move s t p a) = option_and_then (λ m. option_map (λ n. moved l s t m n) (folded l a)) (folded l p)
+  folded l (C.MoveBy t a p) = option_and_then (λ n. option_map (λ m. moved l C.Plus t m n) (folded l p)) (folded l a)
   folded l (C.Address p t) = address l p
   folded l (C.Decay p t) = address l p
 
-  -- each index is of an element that is there
   pub address : Layout → C.Place → Option ℤ
-  address l (C.Through t p path u) =
-      option_and_then (λ m. option_and_then (λ ps. option_map (moved l m) (offset_of l t ps)) (steps l path)) (folded l p)
+  address l (C.Through t p path u) = option_and_then (λ m. reached l path (object_shape l t) m) (folded l p)
   address l (C.InGlobal x path u) = None
 
-  pub steps : Layout → C.Path → Option (List Step)
-  steps l C.Here = Some []
-  steps l (C.Member k path) = option_map (λ ps. Field k ∷ ps) (steps l path)
-  steps l (C.Element n e path) = option_and_then (λ i. option_map (λ ps. Index i ∷ ps) (steps l path)) (folded l e)
+  -- where a path leads from an address at which there is such a shape; each index is of an element that is there
+  pub reached : Layout → C.Path → Shape → ℤ → Option ℤ
+  reached l C.Here s m = Some m
+  reached l (C.Member k path) s m = option_and_then (λ q. reached l path q.shape (moved_by l m q.offset)) (step_into s (Field k))
+  reached l (C.Element n e path) s m =
+      option_and_then (λ i. option_and_then (λ q. reached l path q.shape (moved_by l m q.offset)) (step_into s (Index i))) (folded l e)
 
 -- the value of a constant expression
 abbrev pub constant_value : Layout → C.Expr → Option ℤ

@@ -1,8 +1,11 @@
 -- Declarations of types, members, enumerators and tags: the rules (C99 6.7.2, 6.7.5).
-use Rattle.std.specs.Prelude.{ℕ, zero, suc, ◌+◌, ◌==◌, nat_le, Bool, true, false, not, ◌&&◌, ◌||◌, List, [], ◌∷◌, ◌++◌, map, Option, Some, None, is_some, is_none, ℤ, pos, negsuc, if◌then◌else◌}
+use Rattle.std.specs.Prelude.{ℕ, zero, suc, ◌+◌, ◌==◌, nat_le, Bool, true, false, not, ◌&&◌, ◌||◌, List, [], ◌∷◌, ◌++◌, map, Option, Some, None, option_and_then, is_some, is_none, ℤ, pos, negsuc, if◌then◌else◌}
 use Rattle.std.specs.Fmt.{decimal}
 use Rattle.c_lex.specs.declared.token.Keyword.{Keyword}
 use Rattle.c_lex.specs.declared.token.Keyword.TheVariants as K
+use Rattle.c_types.specs.declared.specifiers.Times.{Times}
+use Rattle.c_types.specs.declared.specifiers.Times.TheVariants as N
+use Rattle.c_types.specs.declared.specifiers.Integers.{Integers}
 use Rattle.c_values.specs.Name.{Name, with_name, is_among}
 use Rattle.c_values.specs.Types.{IntType, Char, SChar, UChar, Short, UShort, Int, UInt, Long, ULong, LLong, ULLong, CType, Integer, Void, Ptr, Struct, Array}
 use Rattle.c_values.specs.Number.{is_of_type}
@@ -13,28 +16,16 @@ use Rattle.c_types.specs.Scope.{Scope, Tag, StructTag, EnumTag, is_declared_here
 use Rattle.c_types.specs.Checked.{Ruling, Ruled, Refused, refuse, ◌>=>◌}
 use Rattle.c_types.specs.Operand.{is_array}
 
--- how often each integer word stands
-pub record Integers : Type 0 where
-  pub chars : ℕ
-  pub shorts : ℕ
-  pub ints : ℕ
-  pub longs : ℕ
-  pub signeds : ℕ
-  pub unsigneds : ℕ
-
-abbrev pub no_integers : Integers
-no_integers = record { chars = 0; shorts = 0; ints = 0; longs = 0; signeds = 0; unsigneds = 0 }
-
 -- no `signed` or `unsigned`, or one of these
 pub data Signedness : Type 0 where
   Plain : Signedness
   Signed : Signedness
   Unsigned : Signedness
 
-abbrev pub signedness : ℕ → ℕ → Option Signedness
-signedness zero zero = Some Plain
-signedness (suc zero) zero = Some Signed
-signedness zero (suc zero) = Some Unsigned
+abbrev pub signedness : Times → Times → Option Signedness
+signedness N.Never N.Never = Some Plain
+signedness N.Once N.Never = Some Signed
+signedness N.Never N.Once = Some Unsigned
 signedness _ _ = None
 
 abbrev pub char_type : Signedness → IntType
@@ -58,60 +49,86 @@ abbrev pub long_long_type : Signedness → IntType
 long_long_type Unsigned = ULLong
 long_long_type _ = LLong
 
--- by the numbers of `char`, `short` and `long`, where `int` stands at most once
-abbrev pub sized : Signedness → ℕ → ℕ → ℕ → Option IntType
-sized s zero zero zero = Some (int_type s)
-sized s (suc zero) zero zero = Some (char_type s)
-sized s zero (suc zero) zero = Some (short_type s)
-sized s zero zero (suc zero) = Some (long_type s)
-sized s zero zero (suc (suc zero)) = Some (long_long_type s)
+-- by how often `char`, `short` and `long` stand
+abbrev pub sized : Signedness → Times → Times → Times → Option IntType
+sized s N.Never N.Never N.Never = Some (int_type s)
+sized s N.Once N.Never N.Never = Some (char_type s)
+sized s N.Never N.Once N.Never = Some (short_type s)
+sized s N.Never N.Never N.Once = Some (long_type s)
+sized s N.Never N.Never N.Twice = Some (long_long_type s)
 sized s _ _ _ = None
 
-abbrev pub sized_where : Option Signedness → Integers → Option IntType
-sized_where None n = None
-sized_where (Some s) n =
-    if nat_le n.ints 1 && (n.ints == 0 || n.chars == 0) then sized s n.chars n.shorts n.longs else None
+-- `int` stands at most once, and not beside `char`
+abbrev pub fits_int : Times → Times → Bool
+fits_int N.Never chars = true
+fits_int N.Once N.Never = true
+fits_int _ _ = false
 
 -- the type that integer words write (C99 6.7.2p2)
 abbrev pub integer_type : Integers → Option IntType
-integer_type n = sized_where (signedness n.signeds n.unsigneds) n
+integer_type n =
+    option_and_then (λ s. if fits_int n.ints n.chars then sized s n.chars n.shorts n.longs else None)
+    (signedness n.signeds n.unsigneds)
 
 -- what one word says: a keyword, or a type
 pub data Part : Type 0 where
   Word : Keyword → Part
   Type' : CType → Part
 
--- what the words of a type and its storage say
+-- the types that aren't made of integer words
+pub data Named : Type 0 where
+  NoType : Named
+  OneType : CType → Named
+  MoreTypes : Named
+
+-- what the words of a type and its storage say: how often each integer word stands, and whether any does
 pub record Specs : Type 0 where
   pub integers : Integers
-  -- how many integer words there are
-  pub words : ℕ
-  -- a type that isn't made of integer words
-  pub named : List CType
+  pub has_integers : Bool
+  pub named : Named
   pub is_static : Bool
   pub is_extern : Bool
 
 abbrev pub no_specs : Specs
-no_specs = record { integers = no_integers; words = 0; named = []; is_static = false; is_extern = false }
+no_specs =
+    record {
+      integers = record { chars = N.Never; shorts = N.Never; ints = N.Never; longs = N.Never; signeds = N.Never; unsigneds = N.Never };
+      has_integers = false;
+      named = NoType;
+      is_static = false;
+      is_extern = false;
+    }
+
+abbrev pub again : Times → Times
+again N.Never = N.Once
+again N.Once = N.Twice
+again _ = N.More
 
 abbrev pub with_integers : Specs → Integers → Specs
-with_integers b n = record b { integers = n; words = b.words + 1 }
+with_integers b n = record b { integers = n; has_integers = true }
+
+abbrev pub with_named : Named → CType → Named
+with_named NoType t = OneType t
+with_named _ t = MoreTypes
+
+abbrev pub with_type : Specs → CType → Specs
+with_type b t = record b { named = with_named b.named t }
 
 abbrev pub with_keyword : Specs → Keyword → Specs
-with_keyword b K.Char = with_integers b (record b.integers { chars = b.integers.chars + 1 })
-with_keyword b K.Short = with_integers b (record b.integers { shorts = b.integers.shorts + 1 })
-with_keyword b K.Int = with_integers b (record b.integers { ints = b.integers.ints + 1 })
-with_keyword b K.Long = with_integers b (record b.integers { longs = b.integers.longs + 1 })
-with_keyword b K.Signed = with_integers b (record b.integers { signeds = b.integers.signeds + 1 })
-with_keyword b K.Unsigned = with_integers b (record b.integers { unsigneds = b.integers.unsigneds + 1 })
-with_keyword b K.Void = record b { named = Void ∷ b.named }
+with_keyword b K.Char = with_integers b (record b.integers { chars = again b.integers.chars })
+with_keyword b K.Short = with_integers b (record b.integers { shorts = again b.integers.shorts })
+with_keyword b K.Int = with_integers b (record b.integers { ints = again b.integers.ints })
+with_keyword b K.Long = with_integers b (record b.integers { longs = again b.integers.longs })
+with_keyword b K.Signed = with_integers b (record b.integers { signeds = again b.integers.signeds })
+with_keyword b K.Unsigned = with_integers b (record b.integers { unsigneds = again b.integers.unsigneds })
+with_keyword b K.Void = with_type b Void
 with_keyword b K.Static = record b { is_static = true }
 with_keyword b K.Extern = record b { is_extern = true }
 with_keyword b _ = b
 
 abbrev pub with_part : Specs → Part → Specs
 with_part b (Word k) = with_keyword b k
-with_part b (Type' t) = record b { named = t ∷ b.named }
+with_part b (Type' t) = with_type b t
 
 -- a type, and whether `static` or `extern` stands beside it
 pub record Base : Type 0 where
@@ -124,13 +141,13 @@ integer_base None = Refused OutOfSubset
 integer_base (Some i) = Ruled (Integer i)
 
 -- one type, or integer words that write one
-abbrev pub base_type : ℕ → Integers → List CType → Ruling CType
-base_type zero n (t ∷ []) = Ruled t
-base_type (suc k) n [] = integer_base (integer_type n)
+abbrev pub base_type : Bool → Integers → Named → Ruling CType
+base_type false n (OneType t) = Ruled t
+base_type true n NoType = integer_base (integer_type n)
 base_type _ n _ = Refused OutOfSubset
 
 abbrev pub base : Specs → Ruling Base
-base b = base_type b.words b.integers b.named >=> λ t. Ruled (record { type = t; is_static = b.is_static; is_extern = b.is_extern })
+base b = base_type b.has_integers b.integers b.named >=> λ t. Ruled (record { type = t; is_static = b.is_static; is_extern = b.is_extern })
 
 -- stars around a type
 abbrev pub pointers : ℕ → CType → CType

@@ -1,6 +1,6 @@
 -- Which expressions, types and declarators are typed, and how (C99 6.5, 6.6, 6.7.2, 6.7.5, 6.7.6): a judgement for each kind of
 -- node.
-use Rattle.std.specs.Prelude.{ℕ, ◌+◌, Bool, true, false, not, ◌||◌, List, [], ◌∷◌, ◌++◌, length, Option, Some, None, ℤ, pos, ◌+ℤ◌, if◌then◌else◌}
+use Rattle.std.specs.Prelude.{ℕ, ◌+◌, Bool, true, false, not, ◌||◌, List, [], ◌∷◌, ◌++◌, length, Option, Some, None, option_and_then, ℤ, pos, ◌+ℤ◌, if◌then◌else◌}
 use Rattle.std.specs.Option.{option_map_or}
 use Rattle.c_lex.specs.declared.token.Keyword.TheVariants as K
 use Rattle.c_grammar.specs.Tree as tree
@@ -8,6 +8,7 @@ use Rattle.c_grammar.specs.declared.operator.UnaryOperator.{UnaryOperator}
 use Rattle.c_grammar.specs.declared.operator.UnaryOperator.TheVariants as U
 use Rattle.c_values.specs.Name.{Name, same_name}
 use Rattle.c_values.specs.Types.{IntType, Int, CType, Integer, Ptr, Struct, Array, size_type}
+use Rattle.c_values.specs.Growth.{struct_named}
 use Rattle.c_values.specs.Layout.{Layout, Member, StructDef, is_object, size_of}
 use Rattle.c_types.specs.declared.fault.TypeKind.TheVariants.{Unknown, Mismatch, NotLvalue, Incomplete, OutOfSubset}
 use Rattle.c_types.specs.Scope.{Scope, Entity, Enumerator, Global, Function, Local, Hidden, entity, declare}
@@ -100,9 +101,8 @@ abbrev pub member_at : ℕ → List Member → Name → Option (ℕ × CType)
 member_at k [] x = None
 member_at k (m ∷ ms) x = if same_name m.name x then Some (k, m.type) else member_at (k + 1) ms x
 
-abbrev pub member_of : List StructDef → Name → Name → Option (ℕ × CType)
-member_of [] s x = None
-member_of (d ∷ ds) s x = if same_name d.name s then member_at 0 d.members x else member_of ds s x
+abbrev pub member_of : Layout → Name → Name → Option (ℕ × CType)
+member_of l s x = option_and_then (λ d. member_at 0 d.members x) (struct_named l.structs s)
 
 abbrev pub member_place : C.Place → Option (ℕ × CType) → Ruling C.Place
 member_place p None = Refused Unknown
@@ -110,7 +110,7 @@ member_place p (Some m) = Ruled (place_then p (C.Member m.0 C.Here) m.1)
 
 -- a member of a struct that lies at a place
 abbrev pub member_in : Layout → Name → C.Place → CType → Ruling C.Place
-member_in l x p (Struct s) = member_place p (member_of l.structs s x)
+member_in l x p (Struct s) = member_place p (member_of l s x)
 member_in l x p _ = Refused Mismatch
 
 abbrev pub member_of_operand : Layout → Name → Operand → Ruling C.Place
@@ -120,31 +120,32 @@ member_of_operand l x _ = Refused Mismatch
 -- what a path ends with: nothing, a member, or an element, behind the path before it
 pub data Tail : Type 0 where
   Nothing : Tail
-  LastMember : Tail
+  -- the whole path
+  LastMember : C.Path → Tail
   LastElement : C.Path → ℕ → C.Expr → Tail
 
 abbrev pub behind : (C.Path → C.Path) → Tail → Tail → Tail
 behind step own Nothing = own
-behind step own LastMember = LastMember
+behind step own (LastMember path) = LastMember (step path)
 behind step own (LastElement path n i) = LastElement (step path) n i
 
 abbrev pub tail : C.Path → Tail
 tail C.Here = Nothing
-tail (C.Member k path) = behind (C.Member k) LastMember (tail path)
+tail (C.Member k path) = behind (C.Member k) (LastMember (C.Member k C.Here)) (tail path)
 tail (C.Element n i path) = behind (C.Element n i) (LastElement C.Here n i) (tail path)
 
 -- the address of a place: `&*p` is `p`, and `&a[i]` is `a + i` (C99 6.5.3.2p3)
-abbrev pub address : CType → C.Expr → C.Path → CType → Tail → C.Expr
-address r p path t Nothing = p
-address r p path t LastMember = C.Address (C.Through r p path t) t
-address r p path t (LastElement before n i) = C.Move C.Plus t (C.Decay (C.Through r p before (Array t n)) t) i
+abbrev pub address : CType → C.Expr → CType → Tail → C.Expr
+address r p t Nothing = p
+address r p t (LastMember path) = C.Address (C.Through r p path t) t
+address r p t (LastElement before n i) = C.Move C.Plus t (C.Decay (C.Through r p before (Array t n)) t) i
 
 -- of a place through a pointer alone
 abbrev pub addressed : Operand → Ruling C.Expr
 addressed (Valued e) = Refused NotLvalue
 addressed (Variable x t) = Refused OutOfSubset
 addressed (At (C.InGlobal x path t)) = Refused OutOfSubset
-addressed (At (C.Through r p path t)) = refuse (is_array t) OutOfSubset (Ruled (address r p path t (tail path)))
+addressed (At (C.Through r p path t)) = refuse (is_array t) OutOfSubset (Ruled (address r p t (tail path)))
 
 abbrev pub valued : Ruling C.Expr → Ruling Operand
 valued r = r >=> λ e. Ruled (Valued e)
