@@ -16,6 +16,7 @@ pub mod CodeScope
 pub mod Answers
 pub mod CodeForm
 pub mod CodeCalls
+pub mod CodeStatements
 pub mod Calls
 pub mod Simple
 pub mod Locals
