@@ -1,3 +1,4 @@
 pub mod Layers
 pub mod Naming
 pub mod Lists
+pub mod Finding
