@@ -84,12 +84,20 @@ abbrev pub right : tree.Rhs → Judgement Right
 right (tree.Value e) = value e >>= λ a. pure (Computed a)
 right (tree.Result c) = call c >>= λ d. pure (Resulting d)
 
+-- a result to what it is assigned to
+abbrev pub assigned_result : C.Destination → Called → Ruling C.Statement
+assigned_result d c = result_for (C.target_type d) c.result >=> λ u. Ruled (calls_for c (C.Assigned u d))
+
+-- and to the caller
+abbrev pub returned_result : CType → Called → Ruling C.Statement
+returned_result t c = result_for t c.result >=> λ u. Ruled (calls_for c (C.Returned u t))
+
 -- a right side to what it is assigned to
 abbrev pub assigned : Layout → C.Destination → Right → Ruling C.Statement
 assigned l d (Computed e) = converted l (C.target_type d) e >=> λ a. Ruled (C.Assign d a)
-assigned l d (Resulting c) = result_for (C.target_type d) c.result >=> λ u. Ruled (calls_for c (C.Assigned u d))
+assigned l d (Resulting c) = assigned_result d c
 
 -- a right side to the caller
 abbrev pub returned : Layout → CType → Right → Ruling C.Statement
 returned l t (Computed e) = converted l t e >=> λ a. Ruled (C.Return a)
-returned l t (Resulting c) = result_for t c.result >=> λ u. Ruled (calls_for c (C.Returned u t))
+returned l t (Resulting c) = returned_result t c

@@ -14,6 +14,8 @@ pub mod View
 pub mod CodeProgress
 pub mod CodeScope
 pub mod Answers
+pub mod CodeForm
+pub mod CodeCalls
 pub mod Calls
 pub mod Simple
 pub mod Locals

@@ -1,5 +1,13 @@
 //! Calls, and what may stand on the right of an assignment, of an initialiser or of a return.
 
+ghost use Rattle.std.specs.Prelude.{◌≡◌, IfOk};
+ghost use Rattle.std.specs.Option.{option_map};
+ghost use Rattle.c_values.specs.CodeTypes.{type_of};
+ghost use Rattle.c_types.specs.Answers.{RulesAs};
+ghost use Rattle.c_types.specs.Calls as rules;
+ghost use Rattle.c_types.specs.CodeCalls.{called_of};
+ghost use Rattle.c_types.specs.View.{destination_of, statement_of, use_of};
+
 use crate::expressions::value;
 use crate::fault::{TypeFault, TypeKind};
 use crate::operators::converted;
@@ -52,12 +60,16 @@ pub(crate) fn call(alloc: Global, call: &Call, scope: &mut Scope) -> Result<Call
 }
 
 /// A call as a statement, with what becomes of its result.
-pub(crate) fn calls_for(called: Called, usage: Use) -> Statement {
+pub(crate) fn calls_for(called: Called, usage: Use) -> Statement
+    ensures { statement_of result ≡ rules.calls_for (called_of called) (use_of usage) }
+{
     Statement::Call(called.number, called.function, called.arguments, usage)
 }
 
 /// A call whose result isn't used.
-pub(crate) fn calls_alone(called: Called) -> Statement {
+pub(crate) fn calls_alone(called: Called) -> Statement
+    ensures { statement_of result ≡ rules.calls_for (called_of called) (rules.ignored (called_of called).result) }
+{
     let Called {
         number,
         function,
@@ -68,7 +80,9 @@ pub(crate) fn calls_alone(called: Called) -> Statement {
 }
 
 // What becomes of a result that isn't used.
-fn ignored(given: Option<CType>) -> Use {
+fn ignored(given: Option<CType>) -> Use
+    ensures { use_of result ≡ rules.ignored (option_map type_of given) }
+{
     match given {
         None => Use::NoResult,
         Some(ty) => Use::Ignored(ty),
@@ -92,7 +106,9 @@ pub(crate) fn assigned(
 }
 
 // The result of a call to what it is assigned to.
-fn result_assigned(target: Destination, called: Called) -> Result<Statement, Refusal> {
+fn result_assigned(target: Destination, called: Called) -> Result<Statement, Refusal>
+    ensures { RulesAs statement_of result (rules.assigned_result (destination_of target) (called_of called)) }
+{
     let Called {
         number,
         function,
@@ -117,7 +133,9 @@ pub(crate) fn returned(
 }
 
 // The result of a call to the caller.
-fn result_returned(alloc: Global, ty: &CType, called: Called) -> Result<Statement, Refusal> {
+fn result_returned(alloc: Global, ty: &CType, called: Called) -> Result<Statement, Refusal>
+    ensures { RulesAs statement_of result (rules.returned_result (type_of ty.now) (called_of called)) }
+{
     let Called {
         number,
         function,
@@ -130,7 +148,9 @@ fn result_returned(alloc: Global, ty: &CType, called: Called) -> Result<Statemen
 }
 
 // The result of a call, where something of a type is wanted.
-fn result_for(wanted: &CType, given: Option<CType>) -> Result<CType, Refusal> {
+fn result_for(wanted: &CType, given: Option<CType>) -> Result<CType, Refusal>
+    ensures { RulesAs type_of result (rules.result_for (type_of wanted.now) (option_map type_of given)) }
+{
     match given {
         None => Err(Refusal::Kind(TypeKind::Mismatch)),
         Some(ty) => {
@@ -141,7 +161,9 @@ fn result_for(wanted: &CType, given: Option<CType>) -> Result<CType, Refusal> {
 }
 
 // Whether a value of the second type goes to the first as by assignment, also where it is no constant.
-fn goes_to(wanted: &CType, given: &CType) -> bool {
+fn goes_to(wanted: &CType, given: &CType) -> bool
+    ensures { result ≡ rules.goes_to (type_of wanted.now) (type_of given.now) }
+{
     match (form_of(wanted), form_of(given)) {
         (Form::Integer(_), Form::Integer(_)) => true,
         (Form::Pointer(t), Form::Pointer(u)) => {
@@ -211,7 +233,9 @@ fn passed(
 pub(crate) fn copy_of_result(
     alloc: Global,
     ty: &Option<CType>,
-) -> Result<Option<CType>, AllocError> {
+) -> Result<Option<CType>, AllocError>
+    ensures { IfOk result (λ copy. option_map type_of copy ≡ option_map type_of ty.now) }
+{
     match ty {
         None => Ok(None),
         Some(ty) => Ok(Some(copy_of(alloc, ty)?)),

@@ -1,5 +1,10 @@
 //! What an expression is before its value is taken: a value, a local, or a place in memory.
 
+ghost use Rattle.std.specs.Prelude.{◌≡◌};
+ghost use Rattle.c_values.specs.CodeTypes.{type_of};
+ghost use Rattle.c_types.specs.Typed as C;
+ghost use Rattle.c_types.specs.View.{place_of};
+
 use crate::fault::TypeKind;
 use crate::rulings::Refusal;
 use crate::typed::{Destination, Expr, Path, Place};
@@ -25,7 +30,9 @@ pub(crate) enum Demand {
 }
 
 /// The type that lies at a place.
-pub(crate) fn place_type(place: &Place) -> &CType {
+pub(crate) fn place_type(place: &Place) -> &CType
+    ensures { type_of result.now ≡ C.place_type (place_of place.now) }
+{
     match place {
         Place::Through(_, _, _, ty) | Place::InGlobal(_, _, ty) => ty,
     }

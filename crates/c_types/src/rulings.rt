@@ -1,7 +1,9 @@
 //! What a node's rule says against it, and the fault that this is at the node.
 
-ghost use Rattle.std.specs.Prelude.{◌≡◌};
-ghost use Rattle.c_types.specs.declared.rulings.Refusal.TheVariants.{Memory};
+ghost use Rattle.std.specs.Prelude.{◌≡◌, true, false, IsErrAnd, MatchResult};
+ghost use Rattle.c_types.specs.Answers.{fault_at};
+ghost use Rattle.c_types.specs.Checked as checked;
+ghost use Rattle.c_types.specs.declared.rulings.Refusal.TheVariants.{Kind, Memory};
 
 use crate::fault::{TypeFault, TypeKind};
 use std::alloc::{AllocError, AllocFailed};
@@ -32,7 +34,9 @@ impl<T: Drop> From<AllocFailed<T>> for Refusal {
 }
 
 /// Says no where the test holds.
-pub(crate) fn refuse(test: bool, kind: TypeKind) -> Result<(), Refusal> {
+pub(crate) fn refuse(test: bool, kind: TypeKind) -> Result<(), Refusal>
+    ensures { MatchResult result (λ _. test ≡ false) (λ e. (test ≡ true) × (e ≡ Kind kind)) }
+{
     if test {
         Err(Refusal::Kind(kind))
     } else {
@@ -41,7 +45,9 @@ pub(crate) fn refuse(test: bool, kind: TypeKind) -> Result<(), Refusal> {
 }
 
 /// The answer of a node's rule as that of the node, by the offset of its first token.
-pub(crate) fn at_node<T: Drop>(at: usize, answer: Result<T, Refusal>) -> Result<T, TypeFault> {
+pub(crate) fn at_node<T: Drop>(at: usize, answer: Result<T, Refusal>) -> Result<T, TypeFault>
+    ensures { MatchResult result (λ v. answer ≡ Ok v) (λ fault. IsErrAnd answer (λ e. fault ≡ fault_at at e)) }
+{
     match answer {
         Ok(value) => Ok(value),
         Err(Refusal::Kind(kind)) => Err(TypeFault::Bad {
@@ -53,7 +59,9 @@ pub(crate) fn at_node<T: Drop>(at: usize, answer: Result<T, Refusal>) -> Result<
 }
 
 // The offset, or the last `u32` past that.
-fn saturated(at: usize) -> u32 {
+fn saturated(at: usize) -> u32
+    ensures { result ≡ checked.saturated at }
+{
     if at < u32::MAX as usize {
         at as u32
     } else {

@@ -130,8 +130,15 @@ pub enum Destination {
 }
 
 impl Destination {
+    ghost use Rattle.std.specs.Prelude.{◌≡◌};
+    ghost use Rattle.c_values.specs.CodeTypes.{type_of};
+    ghost use Rattle.c_types.specs.Typed.{target_type};
+    ghost use Rattle.c_types.specs.View.{destination_of};
+
     /// The type that lies there.
-    pub(crate) fn ty(&self) -> &CType {
+    pub(crate) fn ty(&self) -> &CType
+        ensures { type_of result.now ≡ target_type (destination_of self.now) }
+    {
         match self {
             Destination::ToLocal(_, ty) => ty,
             Destination::ToPlace(place) => place_type(place),

@@ -1,8 +1,14 @@
 //! Types: their outermost form, copies and comparisons. A text can nest types deeply, so each of these is a loop.
 
-ghost use Rattle.std.specs.Prelude.{◌≡◌, IfOk};
+ghost use Rattle.std.specs.Prelude.{◌≡◌, false, IfOk};
+ghost use Rattle.c_values.specs.Layout as layouts;
+ghost use Rattle.c_values.specs.Types.{same_type};
+ghost use Rattle.c_types.specs.CodeForm.{form_type};
+ghost use Rattle.c_types.specs.Declarations as declarations;
+ghost use Rattle.c_types.specs.Operand as operand;
+ghost use Rattle.c_types.specs.Operators as operators;
 ghost use Rattle.c_values.specs.CodeTypes.{type_of};
-ghost use Rattle.c_types.specs.Layers.{around};
+ghost use Rattle.c_types.specs.Layers.{around, is_layered};
 
 use c_values::{CType, IntType};
 use std::alloc::{AllocError, Global};
@@ -20,7 +26,9 @@ pub(crate) enum Form<'a> {
 }
 
 /// The outermost form of a type.
-pub(crate) fn form_of(t: &CType) -> Form<'_> {
+pub(crate) fn form_of(t: &CType) -> Form<'_>
+    ensures { form_type result ≡ type_of t.now }
+{
     match t {
         CType::Int(integer) => Form::Integer(*integer),
         CType::Void => Form::Void,
@@ -31,7 +39,9 @@ pub(crate) fn form_of(t: &CType) -> Form<'_> {
 }
 
 /// A type of its own of this form.
-pub(crate) fn formed(alloc: Global, form: Form<'_>) -> Result<CType, AllocError> {
+pub(crate) fn formed(alloc: Global, form: Form<'_>) -> Result<CType, AllocError>
+    ensures { IfOk result (λ t. type_of t ≡ form_type form.entry) }
+{
     match form {
         Form::Integer(integer) => Ok(CType::Int(integer)),
         Form::Void => Ok(CType::Void),
@@ -98,7 +108,9 @@ fn wrapped(alloc: Global, mut layers: Vec<Layer>, innermost: CType) -> Result<CT
 }
 
 /// Whether two types are the same.
-pub(crate) fn is_same(t: &CType, u: &CType) -> bool {
+pub(crate) fn is_same(t: &CType, u: &CType) -> bool
+    ensures { result ≡ same_type (type_of t.now) (type_of u.now) }
+{
     let mut left = t;
     let mut right = u;
     loop {
@@ -126,7 +138,9 @@ pub(crate) fn is_same(t: &CType, u: &CType) -> bool {
 }
 
 // Whether a type that is no pointer and no array is the same as another one.
-fn is_same_innermost(t: &CType, u: &CType) -> bool {
+fn is_same_innermost(t: &CType, u: &CType) -> bool
+    ensures { is_layered (type_of t.now) ≡ false → result ≡ same_type (type_of t.now) (type_of u.now) }
+{
     match t {
         CType::Int(i) => match u {
             CType::Int(j) => *i == *j,
@@ -142,7 +156,9 @@ fn is_same_innermost(t: &CType, u: &CType) -> bool {
 }
 
 /// What the elements of an array are in the end.
-pub(crate) fn element_of(t: &CType) -> &CType {
+pub(crate) fn element_of(t: &CType) -> &CType
+    ensures { type_of result.now ≡ declarations.element (type_of t.now) }
+{
     let mut element = t;
     while let CType::Array(inner, _) = element {
         element = &**inner;
@@ -151,12 +167,16 @@ pub(crate) fn element_of(t: &CType) -> &CType {
 }
 
 /// Whether it is an array.
-pub(crate) fn is_array(t: &CType) -> bool {
+pub(crate) fn is_array(t: &CType) -> bool
+    ensures { result ≡ operand.is_array (type_of t.now) }
+{
     matches!(t, CType::Array(_, _))
 }
 
 /// Whether there is a pointer to an array in it.
-pub(crate) fn points_to_array(t: &CType) -> bool {
+pub(crate) fn points_to_array(t: &CType) -> bool
+    ensures { result ≡ declarations.points_to_array (type_of t.now) }
+{
     let mut outer = t;
     loop {
         match outer {
@@ -173,11 +193,15 @@ pub(crate) fn points_to_array(t: &CType) -> bool {
 }
 
 /// Whether it is a scalar.
-pub(crate) fn is_scalar(t: Form<'_>) -> bool {
+pub(crate) fn is_scalar(t: Form<'_>) -> bool
+    ensures { result ≡ layouts.is_scalar (form_type t.entry) }
+{
     matches!(t, Form::Integer(_) | Form::Pointer(_))
 }
 
 /// Whether it is an integer.
-pub(crate) fn is_integer(t: Form<'_>) -> bool {
+pub(crate) fn is_integer(t: Form<'_>) -> bool
+    ensures { result ≡ operators.is_integer (form_type t.entry) }
+{
     matches!(t, Form::Integer(_))
 }
