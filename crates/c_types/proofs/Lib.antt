@@ -2,3 +2,4 @@ pub mod Layers
 pub mod Naming
 pub mod Lists
 pub mod Blocks
+pub mod Finding

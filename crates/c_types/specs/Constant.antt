@@ -82,14 +82,14 @@ is_true n = not (int_eq n (pos 0))
 abbrev pub divided : ℤ → Option ℤ → Option ℤ
 divided b r = if is_true b then r else None
 
--- signed results are of the type; of a remainder the quotient is
+-- signed results are of the type; of a remainder the quotient is too
 abbrev pub computed_signed : Layout → C.Arithmetic → IntType → ℤ → ℤ → Option ℤ
 computed_signed l C.Add i a b = exact l i (number_op Add a b)
 computed_signed l C.Subtract i a b = exact l i (number_op Sub a b)
 computed_signed l C.Multiply i a b = exact l i (number_op Mul a b)
 computed_signed l C.Divide i a b = divided b (exact l i (number_op Div a b))
 computed_signed l C.Remainder i a b =
-    divided b (option_map (λ q. number_op Mod a b) (exact l i (number_op Div a b)))
+    divided b (option_and_then (λ q. exact l i (number_op Mod a b)) (exact l i (number_op Div a b)))
 
 abbrev pub computed_unsigned : Layout → C.Arithmetic → IntType → ℤ → ℤ → Option ℤ
 computed_unsigned l C.Add i a b = Some (wrapped l i Wadd a b)

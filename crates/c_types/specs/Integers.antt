@@ -35,11 +35,15 @@ mixed t i u =
     if nat_le (rank i) (rank u) then u
     else (if nat_lt (width_of t u) (width_of t i) then i else unsigned_of i)
 
+-- the one of higher rank
+abbrev pub higher : IntType → IntType → IntType
+higher i j = if nat_lt (rank i) (rank j) then j else i
+
 -- two promoted types, by whether each is signed
 abbrev pub common : Target → Bool → Bool → IntType → IntType → IntType
 common t true false i j = mixed t i j
 common t false true i j = mixed t j i
-common t _ _ i j = if nat_lt (rank i) (rank j) then j else i
+common t _ _ i j = higher i j
 
 -- the usual arithmetic conversions
 abbrev pub usual : Target → IntType → IntType → IntType

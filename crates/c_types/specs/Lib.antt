@@ -17,6 +17,7 @@ pub mod Answers
 pub mod CodeForm
 pub mod CodeCalls
 pub mod CodeStatements
+pub mod CodeDeclared
 pub mod Calls
 pub mod Simple
 pub mod Locals

@@ -1,5 +1,12 @@
 //! Conversions to a pointer to a type that isn't void, from another type, null pointer constants apart.
 
+ghost use Rattle.std.specs.Prelude.{◌≡◌};
+ghost use Rattle.c_values.specs.CodeTypes.{type_of};
+ghost use Rattle.c_values.specs.Types as types;
+ghost use Rattle.c_types.specs.Cast as casts;
+ghost use Rattle.c_types.specs.CodeForm.{form_type};
+ghost use Rattle.c_types.specs.View.{expr_of, place_of, path_of};
+
 use crate::operands::{Operand, type_of};
 use crate::typed::{Expr, Path, Place};
 use crate::types::{Form, form_of, is_same};
@@ -16,7 +23,9 @@ pub(crate) fn operand_has_cast(operand: &Operand) -> bool {
 
 /// Whether there is such a conversion in an expression.
 #[cycle(casts)]
-pub(crate) fn has_cast(e: &Expr) -> bool {
+pub(crate) fn has_cast(e: &Expr) -> bool
+    ensures { result ≡ casts.has_cast (expr_of e.now) }
+{
     match e {
         Expr::Constant(_, _) | Expr::Local(_, _) => false,
         Expr::Value(place) | Expr::Address(place, _) | Expr::Decay(place, _) => {
@@ -40,7 +49,9 @@ pub(crate) fn has_cast(e: &Expr) -> bool {
 }
 
 #[cycle(casts)]
-fn place_has_cast(place: &Place) -> bool {
+fn place_has_cast(place: &Place) -> bool
+    ensures { result ≡ casts.place_has_cast (place_of place.now) }
+{
     match place {
         Place::Through(_, pointer, path, _) => has_cast(&**pointer) || path_has_cast(&**path),
         Place::InGlobal(_, path, _) => path_has_cast(&**path),
@@ -48,7 +59,9 @@ fn place_has_cast(place: &Place) -> bool {
 }
 
 #[cycle(casts)]
-fn path_has_cast(path: &Path) -> bool {
+fn path_has_cast(path: &Path) -> bool
+    ensures { result ≡ casts.path_has_cast (path_of path.now) }
+{
     match path {
         Path::Here => false,
         Path::Member(_, further) => path_has_cast(&**further),
@@ -57,7 +70,9 @@ fn path_has_cast(path: &Path) -> bool {
 }
 
 // Whether a conversion to a type from another is one to a pointer to a type that isn't void.
-fn casts_to(to: &CType, from: Form<'_>) -> bool {
+fn casts_to(to: &CType, from: Form<'_>) -> bool
+    ensures { result ≡ casts.casts_to (type_of to.now) (form_type from) }
+{
     match form_of(to) {
         Form::Pointer(inner) => !is_void(inner) && !is_pointer_to(from, inner),
         Form::Integer(_) | Form::Void | Form::Struct(_) | Form::Array(_, _) => false,
@@ -69,7 +84,9 @@ fn is_void(t: &CType) -> bool {
 }
 
 // Whether a type is the pointer to another.
-fn is_pointer_to(t: Form<'_>, inner: &CType) -> bool {
+fn is_pointer_to(t: Form<'_>, inner: &CType) -> bool
+    ensures { result ≡ types.same_type (types.Ptr (type_of inner.now)) (form_type t) }
+{
     match t {
         Form::Pointer(other) => is_same(inner, other),
         Form::Integer(_) | Form::Void | Form::Struct(_) | Form::Array(_, _) => false,

@@ -1,36 +1,57 @@
 //! The value of a constant expression: every operand is a constant, taken or not, and no step is undefined.
 
+ghost use Rattle.std.specs.Prelude.{◌≡◌, false, pos};
+ghost use Rattle.std.specs.Option.{option_map, option_map_or};
+ghost use Rattle.c_values.specs.CodeValue.{step_of};
+ghost use Rattle.c_values.specs.Layout.{shape_of};
+ghost use Rattle.c_values.specs.StepInto.{step_into};
+ghost use Rattle.std.specs.Ordering.{int_eq};
+ghost use Rattle.c_values.specs.CodeTypes.{type_of};
+ghost use Rattle.c_types.specs.Constant as constants;
+ghost use Rattle.c_types.specs.Operators as operators;
+ghost use Rattle.c_types.specs.View.{expr_of, place_of, path_of};
+
 use crate::folding::{
     combined, compares, complement, computed, equates, index_in, is_true, moved, moved_by, negated,
-    number_at, part_at, shifted, truth,
+    number_at, shifted, truth,
 };
 use crate::operands::type_of;
 use crate::typed::{Expr, Path, Place, Sign};
 use crate::types::is_integer;
-use c_values::{CType, Layout, Number, PathStep};
+use c_values::{CType, Layout, Number, PathStep, is_object, step_into};
 
 /// The value of a constant expression.
-pub(crate) fn constant_value(l: &Layout, e: &Expr) -> Option<Number> {
+pub(crate) fn constant_value(l: &Layout, e: &Expr) -> Option<Number>
+    ensures { result ≡ constants.constant_value l.now (expr_of e.now) }
+{
     if is_constant(e) { folded(l, e) } else { None }
 }
 
 /// Whether it is a null pointer constant: an integer constant expression of the value 0, or that as a pointer to void.
-pub(crate) fn is_null(l: &Layout, e: &Expr) -> bool {
+pub(crate) fn is_null(l: &Layout, e: &Expr) -> bool
+    ensures { result ≡ operators.is_null l.now (expr_of e.now) }
+{
     is_zero(l, e) || is_void_zero(l, e)
 }
 
-fn is_zero(l: &Layout, e: &Expr) -> bool {
+fn is_zero(l: &Layout, e: &Expr) -> bool
+    ensures { result ≡ operators.is_zero l.now (expr_of e.now) }
+{
     is_integer(type_of(e)) && is_some_zero(constant_value(l, e))
 }
 
-fn is_some_zero(value: Option<Number>) -> bool {
+fn is_some_zero(value: Option<Number>) -> bool
+    ensures { result ≡ option_map_or (λ n. int_eq n (pos 0)) value false }
+{
     match value {
         Some(n) => n.magnitude() == 0,
         None => false,
     }
 }
 
-fn is_void_zero(l: &Layout, e: &Expr) -> bool {
+fn is_void_zero(l: &Layout, e: &Expr) -> bool
+    ensures { result ≡ operators.is_void_zero l.now (expr_of e.now) }
+{
     match e {
         Expr::ConvertNull(CType::Ptr(inner), a) => matches!(**inner, CType::Void)
             && is_zero(l, &**a),
@@ -40,7 +61,9 @@ fn is_void_zero(l: &Layout, e: &Expr) -> bool {
 
 // Whether each operand is a constant.
 #[cycle(constant)]
-fn is_constant(e: &Expr) -> bool {
+fn is_constant(e: &Expr) -> bool
+    ensures { result ≡ constants.is_constant (expr_of e.now) }
+{
     match e {
         Expr::Constant(_, _) => true,
         Expr::Local(_, _) | Expr::Value(_) => false,
@@ -64,7 +87,9 @@ fn is_constant(e: &Expr) -> bool {
 }
 
 #[cycle(constant)]
-fn is_constant_place(place: &Place) -> bool {
+fn is_constant_place(place: &Place) -> bool
+    ensures { result ≡ constants.is_constant_place (place_of place.now) }
+{
     match place {
         Place::Through(_, pointer, path, _) => is_constant(&**pointer) && is_constant_path(&**path),
         Place::InGlobal(_, _, _) => false,
@@ -72,7 +97,9 @@ fn is_constant_place(place: &Place) -> bool {
 }
 
 #[cycle(constant)]
-fn is_constant_path(path: &Path) -> bool {
+fn is_constant_path(path: &Path) -> bool
+    ensures { result ≡ constants.is_constant_path (path_of path.now) }
+{
     match path {
         Path::Here => true,
         Path::Member(_, further) => is_constant_path(&**further),
@@ -82,7 +109,9 @@ fn is_constant_path(path: &Path) -> bool {
 
 // The value as a number; none where a step is undefined, or an operand that is taken is no constant.
 #[cycle(folded)]
-fn folded(l: &Layout, e: &Expr) -> Option<Number> {
+fn folded(l: &Layout, e: &Expr) -> Option<Number>
+    ensures { result ≡ constants.folded l.now (expr_of e.now) }
+{
     match e {
         Expr::Constant(_, n) => Some(*n),
         Expr::Local(_, _) | Expr::Value(_) => None,
@@ -139,7 +168,9 @@ fn folded(l: &Layout, e: &Expr) -> Option<Number> {
 }
 
 #[cycle(folded)]
-fn address(l: &Layout, place: &Place) -> Option<Number> {
+fn address(l: &Layout, place: &Place) -> Option<Number>
+    ensures { result ≡ constants.address l.now (place_of place.now) }
+{
     match place {
         Place::Through(root, pointer, path, _) => {
             let from = folded(l, &**pointer)?;
@@ -151,7 +182,9 @@ fn address(l: &Layout, place: &Place) -> Option<Number> {
 
 // Where a path leads from an address of a type.
 #[cycle(folded)]
-fn reached(l: &Layout, path: &Path, ty: &CType, from: Number) -> Option<Number> {
+fn reached(l: &Layout, path: &Path, ty: &CType, from: Number) -> Option<Number>
+    ensures { result ≡ constants.reached l.now (path_of path.now) (constants.object_shape l.now (type_of ty.now)) from }
+{
     match path {
         Path::Here => Some(from),
         Path::Member(k, further) => {
@@ -163,5 +196,17 @@ fn reached(l: &Layout, path: &Path, ty: &CType, from: Number) -> Option<Number> 
             let (offset, part) = part_at(l, ty, PathStep::Index(k))?;
             reached(l, &**further, part, moved_by(l, from, offset))
         }
+    }
+}
+
+// The part of an object that one step leads to: its offset, and its type.
+fn part_at<'a>(l: &'a Layout, ty: &'a CType, step: PathStep) -> Option<(u32, &'a CType)>
+    ensures { option_map (λ r. record { offset = pos r.0; shape = shape_of l.now (type_of r.1.now) }) result
+        ≡ step_into (constants.object_shape l.now (type_of ty.now)) (step_of step) }
+{
+    if is_object(l, ty) {
+        step_into(l, ty, step)
+    } else {
+        None
     }
 }

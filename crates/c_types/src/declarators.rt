@@ -1,5 +1,9 @@
 //! Declarators: their types, and what can be wrong with these.
 
+ghost use Rattle.std.specs.Prelude.{◌≡◌};
+ghost use Rattle.c_values.specs.CodeTypes.{type_of};
+ghost use Rattle.c_types.specs.Declarations as rules;
+
 use crate::specifiers::pointers;
 use crate::types::{copy_of, element_of, is_array};
 use c_values::{CType, Layout, Number, is_object};
@@ -46,16 +50,22 @@ pub(crate) fn length_at(n: Number) -> u32 {
 }
 
 /// Whether it is `void` or a struct without a body, or an array of such.
-pub(crate) fn is_incomplete(l: &Layout, t: &CType) -> bool {
+pub(crate) fn is_incomplete(l: &Layout, t: &CType) -> bool
+    ensures { result ≡ rules.is_incomplete l.now (type_of t.now) }
+{
     !is_object(l, element_of(t))
 }
 
 /// Whether it is an array of what is incomplete.
-pub(crate) fn has_incomplete_elements(l: &Layout, t: &CType) -> bool {
+pub(crate) fn has_incomplete_elements(l: &Layout, t: &CType) -> bool
+    ensures { result ≡ rules.has_incomplete_elements l.now (type_of t.now) }
+{
     is_array(t) && is_incomplete(l, t)
 }
 
 /// Whether it is an array with a length outside 1 to 4,096, or of more than 65,536 bytes.
-pub(crate) fn is_large(l: &Layout, t: &CType) -> bool {
+pub(crate) fn is_large(l: &Layout, t: &CType) -> bool
+    ensures { result ≡ rules.is_large l.now (type_of t.now) }
+{
     is_array(t) && !is_object(l, t)
 }

@@ -1,5 +1,9 @@
 //! What is declared at a place of the text.
 
+ghost use Rattle.std.specs.Prelude.{◌≡◌, string_bytes, Some, OnOk};
+ghost use Rattle.c_values.specs.Name.{with_name};
+ghost use Rattle.c_types.specs.CodeScope.{entity_of, names_of};
+
 use crate::file::File;
 use crate::progress::Progress;
 use c_values::{CType, Layout, LayoutFault, Number, Target};
@@ -100,12 +104,12 @@ impl Scope {
     }
 
     /// Declares a name in the innermost block.
-    #[tactic(auto, using(crate::proofs::Blocks::blocks_behind, crate::proofs::Blocks::names_declared))]
+    #[tactic(auto, using(crate::proofs::Blocks::blocks_behind))]
     pub(crate) fn declare(&mut self, name: String, entity: Entity) -> Result<(), AllocError>
         ensures { OnOk result (scope_of self.new ≡ declare (string_bytes name) (entity_of entity) (scope_of self.old)) }
     {
         if let Some(mut names) = self.blocks.pop() {
-            let _ = names.insert(name, entity)?;
+            name_in(&mut names, name, entity)?;
             self.blocks.push(names)?;
         }
         Ok(())
@@ -134,6 +138,19 @@ impl Scope {
             names.retain(hide);
         }
     }
+}
+
+// Lets a name stand for something, in place of what it stood for.
+#[tactic(auto, using(crate::proofs::Blocks::names_declared))]
+fn name_in(
+    names: &mut HashMap<String, Entity>,
+    name: String,
+    entity: Entity,
+) -> Result<(), AllocError>
+    ensures { OnOk result (names_of names.new ≡ with_name (string_bytes name) (Some (entity_of entity)) (names_of names.old)) }
+{
+    let _ = names.insert(name, entity)?;
+    Ok(())
 }
 
 // Hides a local, and keeps its name.
