@@ -3,3 +3,4 @@ pub mod Naming
 pub mod Lists
 pub mod Blocks
 pub mod Finding
+pub mod NamedParameters

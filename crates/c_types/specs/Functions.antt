@@ -21,9 +21,8 @@ pub record Parameter : Type 0 where
   pub name : Option Name
   pub type : CType
 
--- what stands behind a parameter's words: where it begins, whether its function has a body, its name, and its type as written
+-- a parameter as it is written: whether its function has a body, its name, and its type
 pub record Written : Type 0 where
-  pub at : ℕ
   pub has_body : Bool
   pub name : Option Name
   pub type : CType
@@ -64,7 +63,7 @@ abbrev pub parameter : Bool → tree.Param → Judgement Parameter
 parameter has_body (tree.Parameter ws stars x b) =
     base ws >>= λ b'. bracketed (pointers (length stars) b'.type) b >>= λ t.
     rule (parameter_start ws stars x)
-    (parameter_rule (record { at = parameter_start ws stars x; has_body = has_body; name = option_map (λ n. n.1) x; type = t })) >>= λ p.
+    (parameter_rule (record { has_body = has_body; name = option_map (λ n. n.1) x; type = t })) >>= λ p.
     changed (add_parameter p) p
 
 abbrev pub parameters : Bool → List tree.Param → Judgement (List Parameter)

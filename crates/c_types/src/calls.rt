@@ -1,7 +1,8 @@
 //! Calls, and what may stand on the right of an assignment, of an initialiser or of a return.
 
-ghost use Rattle.std.specs.Prelude.{◌≡◌, IfOk};
-ghost use Rattle.std.specs.Option.{option_map};
+ghost use Rattle.std.specs.Prelude.{◌≡◌, map, IfOk};
+ghost use Rattle.std.specs.Option.{option_copied, option_map};
+ghost use Rattle.c_types.specs.CodeScope.{entity_of};
 ghost use Rattle.c_values.specs.CodeTypes.{type_of};
 ghost use Rattle.c_types.specs.Answers.{RulesAs};
 ghost use Rattle.c_types.specs.Calls as rules;
@@ -202,7 +203,10 @@ fn call_at(
 }
 
 // The result and the parameters of a function that a name stands for.
-fn callee(entity: Option<&Entity>) -> Result<(&Option<CType>, &Vec<CType>), Refusal> {
+fn callee(entity: Option<&Entity>) -> Result<(&Option<CType>, &Vec<CType>), Refusal>
+    ensures { RulesAs (λ f. record { result = option_map type_of f.0.now; params = map type_of f.1.now.items }) result
+        (rules.callee (option_map entity_of (option_copied entity.entry))) }
+{
     match entity {
         None => Err(Refusal::Kind(TypeKind::Unknown)),
         Some(Entity::Function(result, params)) => Ok((result, params)),

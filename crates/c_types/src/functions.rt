@@ -3,6 +3,7 @@
 ghost use Rattle.std.specs.Prelude.{◌≡◌, map, string_bytes, IfOk, OnOk};
 ghost use Rattle.std.specs.Option.{option_copied, option_map};
 ghost use Rattle.c_values.specs.CodeTypes.{type_of};
+ghost use Rattle.c_types.specs.Answers.{RulesAs};
 ghost use Rattle.c_types.specs.CodeDeclared.{declared_of, parameter_of};
 ghost use Rattle.c_types.specs.CodeScope.{entity_of, scope_of};
 ghost use Rattle.c_types.specs.Functions as rules;
@@ -66,7 +67,10 @@ pub(crate) fn parameters_in_block(
 }
 
 // The rule of the declarator of a function with a body, of which there is one.
-fn is_body(head: &Declared, params: &[Parameter], scope: &Scope) -> Result<(), Refusal> {
+fn is_body(head: &Declared, params: &[Parameter], scope: &Scope) -> Result<(), Refusal>
+    ensures { RulesAs (λ _. rules.result_type (type_of head.now.ty)) result
+        (rules.body_rule (declared_of head.now) (map parameter_of params.now) (scope_of scope.now)) }
+{
     refuse(
         scope.file.with_body_so_far.contains(head.name.as_str()),
         TypeKind::Twice,
@@ -79,7 +83,10 @@ pub(crate) fn is_function(
     head: &Declared,
     params: &[Parameter],
     scope: &Scope,
-) -> Result<(), Refusal> {
+) -> Result<(), Refusal>
+    ensures { RulesAs (λ _. rules.result_type (type_of head.now.ty)) result
+        (rules.function_rule (declared_of head.now) (map parameter_of params.now) (scope_of scope.now)) }
+{
     let name = head.name.as_str();
     refuse(
         scope.typedefs.contains_key(name) || !agrees(scope.entity(name), &head.ty, params),
@@ -114,15 +121,21 @@ fn same_result(declared: &Option<CType>, written: &CType) -> bool
 fn same_types(types: &[CType], params: &[Parameter]) -> bool
     ensures { result ≡ rules.same_types (map type_of types.now) (rules.types (map parameter_of params.now)) }
 {
-    if types.len() != params.len() {
-        return false;
-    }
-    for (k, ty) in types.iter().enumerate() {
-        if !is_same(ty, &params[k].ty) {
-            return false;
+    let mut types = types;
+    let mut params = params;
+    while let Some((ty, more_types)) = types.split_first() {
+        match params.split_first() {
+            Some((param, more_params)) => {
+                if !is_same(ty, &param.ty) {
+                    return false;
+                }
+                types = more_types;
+                params = more_params;
+            }
+            None => return false,
         }
     }
-    true
+    params.is_empty()
 }
 
 // Whether a type is `void` or a scalar.

@@ -3,7 +3,9 @@
 ghost use Rattle.std.specs.Prelude.{◌≡◌};
 ghost use Rattle.std.specs.Option.{option_copied, option_map};
 ghost use Rattle.c_values.specs.CodeTypes.{type_of};
-ghost use Rattle.c_types.specs.CodeScope.{entity_of};
+ghost use Rattle.c_types.specs.Answers.{RulesAs};
+ghost use Rattle.c_types.specs.CodeDeclared.{declared_of};
+ghost use Rattle.c_types.specs.CodeScope.{entity_of, scope_of};
 ghost use Rattle.c_types.specs.Globals as rules;
 
 use crate::casts::has_cast;
@@ -83,7 +85,9 @@ fn typedef(
 }
 
 // The rule of the declarator of a typedef. One of a function has no place in the subset.
-fn is_typedef(head: &Declared, of_function: bool, scope: &Scope) -> Result<(), Refusal> {
+fn is_typedef(head: &Declared, of_function: bool, scope: &Scope) -> Result<(), Refusal>
+    ensures { RulesAs (λ _. type_of head.now.ty) result (rules.typedef_rule of_function (declared_of head.now) (scope_of scope.now)) }
+{
     let name = head.name.as_str();
     refuse(
         scope.typedefs.contains_key(name) || scope.is_declared_here(name),

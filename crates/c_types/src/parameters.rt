@@ -1,6 +1,7 @@
 //! Parameters: scalars; an array among them is a pointer.
 
-ghost use Rattle.std.specs.Prelude.{◌≡◌, map, string_bytes, IfOk, OnOk};
+ghost use Rattle.std.specs.Prelude.{◌≡◌, ◌∷◌, ◌++◌, [], map, string_bytes, IfOk, OnOk};
+ghost use Rattle.c_types.specs.Answers.{RulesAs};
 ghost use Rattle.std.specs.Option.{option_map};
 ghost use Rattle.c_grammar.specs.View.{words_of};
 ghost use Rattle.c_values.specs.CodeTypes.{type_of};
@@ -110,7 +111,11 @@ fn parameter_of(
     written: CType,
     scope: &Scope,
     has_body: bool,
-) -> Result<Parameter, Refusal> {
+) -> Result<Parameter, Refusal>
+    ensures { RulesAs parameter_of result (rules.parameter_rule
+        (record { has_body = has_body; name = option_map (λ n. string_bytes n.1) name.now; type = type_of written })
+        (scope_of scope.now)) }
+{
     let name = name_of(name)?;
     refuse(is_declared(scope, &name), TypeKind::Twice)?;
     refuse(is_incomplete(&scope.layout, &written), TypeKind::Incomplete)?;
@@ -153,16 +158,32 @@ fn adjusted(alloc: Global, ty: CType) -> Result<CType, AllocError>
 }
 
 /// The parameters that have a name.
+#[tactic(auto, using(crate::proofs::NamedParameters::variables_behind))]
 pub(crate) fn variables(alloc: Global, params: &[Parameter]) -> Result<Vec<Variable>, AllocError>
     ensures { IfOk result (λ variables. map variable_of variables.items ≡ rules.variables (map parameter_of params.now)) }
 {
     let mut variables = Vec::new(alloc);
     for param in params {
-        if let Some(name) = &param.name {
+        add_variable(alloc, param, &mut variables)?;
+    }
+    Ok(variables)
+}
+
+// Adds a parameter that has a name.
+fn add_variable(
+    alloc: Global,
+    param: &Parameter,
+    variables: &mut Vec<Variable>,
+) -> Result<(), AllocError>
+    ensures { OnOk result (map variable_of variables.new.items ≡ map variable_of variables.old.items ++ rules.variables (parameter_of param.now ∷ [])) }
+{
+    match &param.name {
+        None => Ok(()),
+        Some(name) => {
             let name = name.clone()?;
             let ty = copy_of(alloc, &param.ty)?;
             variables.push(Variable { name, ty })?;
+            Ok(())
         }
     }
-    Ok(variables)
 }
