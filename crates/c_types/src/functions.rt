@@ -185,7 +185,10 @@ fn types_of(alloc: Global, params: &[Parameter]) -> Result<Vec<CType>, AllocErro
 }
 
 // Notes that the function has its body.
-fn add_body(alloc: Global, name: &str, scope: &mut Scope) -> Result<(), AllocError> {
+#[tactic(auto, using(crate::proofs::Blocks::body_noted))]
+fn add_body(alloc: Global, name: &str, scope: &mut Scope) -> Result<(), AllocError>
+    ensures { OnOk result (scope_of scope.new ≡ rules.add_body name.now (scope_of scope.old)) }
+{
     let name = String::from_str(alloc, name)?;
     scope.file.with_body_so_far.insert(name)?;
     Ok(())

@@ -1,7 +1,8 @@
 //! Statements.
 
 ghost use Rattle.std.specs.Prelude.{◌≡◌, map, IfOk};
-ghost use Rattle.c_types.specs.Answers.{RulesAs};
+ghost use Rattle.c_types.specs.Answers.{Answers, RulesAs};
+ghost use Rattle.c_types.specs.CodeScope.{scope_of};
 ghost use Rattle.c_types.specs.CodeStatements.{around_of};
 ghost use Rattle.c_types.specs.Statements as rules;
 ghost use Rattle.c_types.specs.Typed as C;
@@ -266,7 +267,9 @@ fn do_statement(
 }
 
 // The number of a do-while, before those inside.
-fn do_while_number(scope: &mut Scope) -> Result<u64, TypeFault> {
+fn do_while_number(scope: &mut Scope) -> Result<u64, TypeFault>
+    ensures { Answers (λ n. n) (scope_of scope.new) result (rules.do_while_number (scope_of scope.old)) }
+{
     let number = at_node(0, following(scope.progress.do_whiles))?;
     scope.progress.do_whiles = number;
     Ok(number)

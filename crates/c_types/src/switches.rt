@@ -3,7 +3,9 @@
 ghost use Rattle.std.specs.Prelude.{◌≡◌, IfOk};
 ghost use Rattle.c_values.specs.CodeTypes.{int_type_of};
 ghost use Rattle.c_grammar.specs.View.{items_of, label_of, stmt_of};
+ghost use Rattle.c_types.specs.Answers.{Answers};
 ghost use Rattle.c_types.specs.CodeForm.{form_type};
+ghost use Rattle.c_types.specs.CodeScope.{scope_of};
 ghost use Rattle.c_types.specs.CodeStatements.{around_of, in_front};
 ghost use Rattle.c_types.specs.Statements as rules;
 ghost use Rattle.c_types.specs.Typed as C;
@@ -56,14 +58,18 @@ fn inside_switch(around: Around<'_>) -> Around<'_>
 }
 
 // The number of a switch, before those inside.
-fn switch_number(scope: &mut Scope) -> Result<u64, TypeFault> {
+fn switch_number(scope: &mut Scope) -> Result<u64, TypeFault>
+    ensures { Answers (λ n. n) (scope_of scope.new) result (rules.switch_number (scope_of scope.old)) }
+{
     let number = at_node(0, following(scope.progress.switches))?;
     scope.progress.switches = number;
     Ok(number)
 }
 
 // The type of a switch's operand, promoted. Where that is no integer, its labels are ints.
-fn switch_type(operand: Form<'_>) -> IntType {
+fn switch_type(operand: Form<'_>) -> IntType
+    ensures { int_type_of result ≡ rules.switch_type (form_type operand.entry) }
+{
     match operand {
         Form::Integer(ty) => promoted(ty),
         Form::Void | Form::Pointer(_) | Form::Struct(_) | Form::Array(_, _) => IntType::Int,
