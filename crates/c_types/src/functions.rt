@@ -1,6 +1,8 @@
 //! Functions: their declarations, and those with a body.
 
-ghost use Rattle.std.specs.Prelude.{◌≡◌, map, string_bytes, IfOk, OnOk};
+ghost use Rattle.std.specs.Prelude.{◌≡◌, true, map, string_bytes, IfOk, OnOk};
+ghost use Rattle.std.specs.HashSet.{contains_text};
+ghost use Rattle.c_values.specs.Name.{with_name};
 ghost use Rattle.std.specs.Option.{option_copied, option_map};
 ghost use Rattle.c_values.specs.CodeTypes.{type_of};
 ghost use Rattle.c_types.specs.Answers.{RulesAs};
@@ -22,6 +24,7 @@ use crate::types::{copy_of, form_of, is_same, is_scalar, points_to_array};
 use c_grammar::tree::{Declarator, Items, Param, Words};
 use c_values::CType;
 use std::alloc::{AllocError, Global};
+use std::collections::HashSet;
 use std::mem;
 
 /// A function with its body: its parameters, its declarator, its block.
@@ -185,12 +188,18 @@ fn types_of(alloc: Global, params: &[Parameter]) -> Result<Vec<CType>, AllocErro
 }
 
 // Notes that the function has its body.
-#[tactic(auto, using(crate::proofs::Blocks::body_noted))]
 fn add_body(alloc: Global, name: &str, scope: &mut Scope) -> Result<(), AllocError>
     ensures { OnOk result (scope_of scope.new ≡ rules.add_body name.now (scope_of scope.old)) }
 {
     let name = String::from_str(alloc, name)?;
-    scope.file.with_body_so_far.insert(name)?;
+    note(name, &mut scope.file.with_body_so_far)
+}
+
+// Adds a name to others.
+fn note(name: String, names: &mut HashSet<String>) -> Result<(), AllocError>
+    ensures { OnOk result ((λ q. contains_text names.new q) ≡ with_name (string_bytes name) true (λ q. contains_text names.old q)) }
+{
+    names.insert(name)?;
     Ok(())
 }
 
@@ -218,6 +227,18 @@ fn body(
 fn enter(alloc: Global, params: &[Parameter], scope: &mut Scope) -> Result<(), AllocError> {
     let names = names_of(alloc, params)?;
     scope.progress = Progress::at_start(alloc, names);
+    declare_parameters(alloc, params, scope)
+}
+
+// Declares the parameters that have a name.
+#[tactic(auto, using(crate::proofs::NamedParameters::declared_behind))]
+fn declare_parameters(
+    alloc: Global,
+    params: &[Parameter],
+    scope: &mut Scope,
+) -> Result<(), AllocError>
+    ensures { OnOk result (scope_of scope.new ≡ rules.add_parameters (map parameter_of params.now) (scope_of scope.old)) }
+{
     for param in params {
         add_parameter(alloc, param, scope)?;
     }
