@@ -44,7 +44,7 @@ pub(crate) fn function(
     let Declared { name, ty, .. } = head;
     let result = result_type(ty);
     add_function(alloc, name.as_str(), &result, params.as_slice(), scope)?;
-    add_body(alloc, name.as_str(), scope)?;
+    add_body(name.clone()?, scope)?;
     let body = body(alloc, block, scope, &result, params.as_slice())?;
     Ok(TypedFn {
         name,
@@ -188,11 +188,11 @@ fn types_of(alloc: Global, params: &[Parameter]) -> Result<Vec<CType>, AllocErro
 }
 
 // Notes that the function has its body.
-fn add_body(alloc: Global, name: &str, scope: &mut Scope) -> Result<(), AllocError>
-    ensures { OnOk result (scope_of scope.new ≡ rules.add_body name.now (scope_of scope.old)) }
+fn add_body(name: String, scope: &mut Scope) -> Result<(), AllocError>
+    ensures { OnOk result (scope_of scope.new ≡ rules.add_body (string_bytes name) (scope_of scope.old)) }
 {
-    let name = String::from_str(alloc, name)?;
-    note(name, &mut scope.file.with_body_so_far)
+    note(name, &mut scope.file.with_body_so_far)?;
+    Ok(())
 }
 
 // Adds a name to others.
