@@ -94,6 +94,11 @@ impl Scope {
         Ok(())
     }
 
+    /// Of what only a value is left, a conversion is noted.
+    pub(crate) fn note(&mut self, has_cast: bool) {
+        self.folds_cast = self.folds_cast || has_cast;
+    }
+
     /// Begins a block.
     pub(crate) fn open_block(&mut self, alloc: Global) -> Result<(), AllocError> {
         self.blocks.push(HashMap::new(alloc))?;
