@@ -1,4 +1,6 @@
 pub mod Layers
 pub mod Naming
 pub mod Lists
+pub mod Blocks
 pub mod Finding
+pub mod Lengths

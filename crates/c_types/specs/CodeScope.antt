@@ -1,7 +1,9 @@
 -- What the code's scope stands for: its tables as functions, its blocks from the innermost on.
 use Rattle.std.specs.Prelude.{List, map, reverse, Option, string_bytes, String}
 use Rattle.std.specs.Option.{option_map}
-use Rattle.std.specs.HashMap.{get_by_text}
+use Rattle.std.specs.HashMap.{HashMap, get_by_text}
+use Rattle.std.specs.declared.hash.FoldHasher.{FoldHasher}
+use Rattle.std.specs.declared.hash.BuildHasherDefault.{BuildHasherDefault}
 use Rattle.std.specs.HashSet.{contains_text}
 use Rattle.std.specs.declared.alloc.Global.{Global as Heap}
 use Rattle.c_values.specs.CodeTypes.{type_of}
@@ -12,7 +14,7 @@ use Rattle.c_types.specs.declared.scope.Tag as T
 use Rattle.c_types.specs.declared.scope.Tag.TheVariants as W
 use Rattle.c_types.specs.declared.file.File as D
 use Rattle.c_types.specs.declared.file.GlobalSoFar as G
-use Rattle.c_types.specs.Scope.{Scope, Entity, Enumerator, Global, Function, Local, Hidden, Tag, StructTag, EnumTag}
+use Rattle.c_types.specs.Scope.{Scope, Names, Entity, Enumerator, Global, Function, Local, Hidden, Tag, StructTag, EnumTag}
 use Rattle.c_types.specs.File.{File, GlobalSoFar}
 use Rattle.c_types.specs.CodeProgress.{progress_of}
 
@@ -37,13 +39,21 @@ file_of f = record {
   globals = map global_of f.globals.entries;
 }
 
+-- the names of a block
+abbrev pub names_of : HashMap (String Heap) E.Entity (BuildHasherDefault FoldHasher) → Names
+names_of m x = option_map entity_of (get_by_text m x)
+
+-- the blocks, from the innermost on
+abbrev pub blocks_of : List (HashMap (String Heap) E.Entity (BuildHasherDefault FoldHasher)) → List Names
+blocks_of bs = reverse (map names_of bs)
+
 abbrev pub scope_of : S.Scope → Scope
 scope_of s = record {
   layout = s.layout;
   tags = λ x. option_map tag_of (get_by_text s.tags x);
   unnamed = s.unnamed;
   typedefs = λ x. option_map type_of (get_by_text s.typedefs x);
-  blocks = reverse (map (λ names x. option_map entity_of (get_by_text names x)) s.blocks.items);
+  blocks = blocks_of s.blocks.items;
   file = file_of s.file;
   progress = progress_of s.progress;
   folds_cast = s.folds_cast;

@@ -19,6 +19,8 @@ pub mod CodeOperand
 pub mod CodeWords
 pub mod CodeConstant
 pub mod CodeCalls
+pub mod CodeStatements
+pub mod CodeDeclared
 pub mod Calls
 pub mod Simple
 pub mod Locals

@@ -12,7 +12,7 @@ use Rattle.c_types.specs.Scope.{Scope, hide_locals}
 use Rattle.c_types.specs.Integers.{promoted}
 use Rattle.c_types.specs.Operators.{to_integer}
 use Rattle.c_types.specs.Expressions.{value, integer_constant}
-use Rattle.c_types.specs.Constant.{integer_at}
+use Rattle.c_types.specs.Constant.{number_at}
 use Rattle.c_types.specs.Progress.{next_do_while, next_switch}
 use Rattle.c_types.specs.Calls.{Right, right, returned}
 use Rattle.c_types.specs.Simple.{simple}
@@ -78,7 +78,7 @@ abbrev pub default_label : Labels → Ruling Labels
 default_label seen = refuse seen.has_default Twice (Ruled (record { values = []; has_default = true }))
 
 abbrev pub label : IntType → Labels → tree.Label → Judgement Labels
-label i seen (tree.Case at e) = integer_constant e >>= λ n. rule at (λ s. case_label seen (integer_at s.layout i n))
+label i seen (tree.Case at e) = integer_constant e >>= λ n. rule at (λ s. case_label seen (number_at s.layout (Integer i) n))
 label i seen (tree.Default at) = rule at (λ s. default_label seen)
 
 abbrev pub labels : IntType → Labels → List tree.Label → Judgement Labels

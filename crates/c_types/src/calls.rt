@@ -230,10 +230,7 @@ fn passed(
 }
 
 /// A copy of the type of a result.
-pub(crate) fn copy_of_result(
-    alloc: Global,
-    ty: &Option<CType>,
-) -> Result<Option<CType>, AllocError>
+pub(crate) fn copy_of_result(alloc: Global, ty: &Option<CType>) -> Result<Option<CType>, AllocError>
     ensures { IfOk result (λ copy. option_map type_of copy ≡ option_map type_of ty.now) }
 {
     match ty {

@@ -29,6 +29,7 @@ pub(crate) fn declarator_start(stars: &[usize], at: usize) -> usize
 }
 
 /// A declarator's type: the stars around the base type, and the arrays around that, whose lengths stand from the outermost.
+#[tactic(auto, using(crate::proofs::Lengths::arrays_last))]
 pub(crate) fn declared_type(
     alloc: Global,
     base: &CType,
@@ -39,8 +40,10 @@ pub(crate) fn declared_type(
 {
     let base = copy_of(alloc, base)?;
     let mut ty = pointers(alloc, stars, base)?;
-    for length in lengths.iter().rev() {
+    let mut outer = lengths;
+    while let Some((length, rest)) = outer.split_last() {
         ty = CType::Array(Box::new(alloc, ty)?, *length);
+        outer = rest;
     }
     Ok(ty)
 }

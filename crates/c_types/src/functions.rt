@@ -1,5 +1,12 @@
 //! Functions: their declarations, and those with a body.
 
+ghost use Rattle.std.specs.Prelude.{◌≡◌, map, string_bytes, IfOk, OnOk};
+ghost use Rattle.std.specs.Option.{option_copied, option_map};
+ghost use Rattle.c_values.specs.CodeTypes.{type_of};
+ghost use Rattle.c_types.specs.CodeDeclared.{declared_of, parameter_of};
+ghost use Rattle.c_types.specs.CodeScope.{entity_of, scope_of};
+ghost use Rattle.c_types.specs.Functions as rules;
+
 use crate::calls::copy_of_result;
 use crate::declarators::Declared;
 use crate::expressions::{base, declarator};
@@ -82,7 +89,9 @@ pub(crate) fn is_function(
 }
 
 // Whether a function of the type may be declared where its name stands for this.
-fn agrees(entity: Option<&Entity>, written: &CType, params: &[Parameter]) -> bool {
+fn agrees(entity: Option<&Entity>, written: &CType, params: &[Parameter]) -> bool
+    ensures { result ≡ rules.agrees (option_map entity_of (option_copied entity.entry)) (rules.result_type (type_of written.now)) (rules.types (map parameter_of params.now)) }
+{
     match entity {
         None => true,
         Some(Entity::Function(other, types)) => {
@@ -93,14 +102,18 @@ fn agrees(entity: Option<&Entity>, written: &CType, params: &[Parameter]) -> boo
     }
 }
 
-fn same_result(declared: &Option<CType>, written: &CType) -> bool {
+fn same_result(declared: &Option<CType>, written: &CType) -> bool
+    ensures { result ≡ rules.same_result (option_map type_of declared.now) (rules.result_type (type_of written.now)) }
+{
     match declared {
         None => matches!(written, CType::Void),
         Some(ty) => !matches!(written, CType::Void) && is_same(ty, written),
     }
 }
 
-fn same_types(types: &[CType], params: &[Parameter]) -> bool {
+fn same_types(types: &[CType], params: &[Parameter]) -> bool
+    ensures { result ≡ rules.same_types (map type_of types.now) (rules.types (map parameter_of params.now)) }
+{
     if types.len() != params.len() {
         return false;
     }
@@ -113,12 +126,16 @@ fn same_types(types: &[CType], params: &[Parameter]) -> bool {
 }
 
 // Whether a type is `void` or a scalar.
-fn is_result(ty: &CType) -> bool {
+fn is_result(ty: &CType) -> bool
+    ensures { result ≡ rules.is_result (type_of ty.now) }
+{
     matches!(ty, CType::Void) || is_scalar(form_of(ty)) && !points_to_array(ty)
 }
 
 /// A function's result: `void` is none.
-pub(crate) fn result_type(ty: CType) -> Option<CType> {
+pub(crate) fn result_type(ty: CType) -> Option<CType>
+    ensures { option_map type_of result ≡ rules.result_type (type_of ty) }
+{
     if matches!(&ty, CType::Void) {
         None
     } else {
@@ -133,7 +150,9 @@ pub(crate) fn add_function(
     ty: &Option<CType>,
     params: &[Parameter],
     scope: &mut Scope,
-) -> Result<(), AllocError> {
+) -> Result<(), AllocError>
+    ensures { OnOk result (scope_of scope.new ≡ rules.add_function name.now (option_map type_of ty.now) (rules.types (map parameter_of params.now)) (scope_of scope.old)) }
+{
     let result = copy_of_result(alloc, ty)?;
     let types = types_of(alloc, params)?;
     scope.declare(
@@ -142,7 +161,9 @@ pub(crate) fn add_function(
     )
 }
 
-fn types_of(alloc: Global, params: &[Parameter]) -> Result<Vec<CType>, AllocError> {
+fn types_of(alloc: Global, params: &[Parameter]) -> Result<Vec<CType>, AllocError>
+    ensures { IfOk result (λ ts. map type_of ts.items ≡ rules.types (map parameter_of params.now)) }
+{
     let mut types = Vec::new(alloc);
     for param in params {
         types.push(copy_of(alloc, &param.ty)?)?;

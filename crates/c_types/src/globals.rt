@@ -1,5 +1,11 @@
 //! Declarations outside functions: globals, prototypes and typedefs.
 
+ghost use Rattle.std.specs.Prelude.{◌≡◌};
+ghost use Rattle.std.specs.Option.{option_copied, option_map};
+ghost use Rattle.c_values.specs.CodeTypes.{type_of};
+ghost use Rattle.c_types.specs.CodeScope.{entity_of};
+ghost use Rattle.c_types.specs.Globals as rules;
+
 use crate::casts::has_cast;
 use crate::constants::constant_value;
 use crate::declarators::{Declared, has_incomplete_elements, is_incomplete, is_large};
@@ -156,7 +162,9 @@ fn is_global(head: &Declared, is_extern: bool, scope: &Scope) -> Result<(), Refu
 }
 
 // Whether a global of the type may be declared where its name stands for this.
-fn has_type(ty: &CType, entity: Option<&Entity>) -> bool {
+fn has_type(ty: &CType, entity: Option<&Entity>) -> bool
+    ensures { result ≡ rules.has_type (type_of ty.now) (option_map entity_of (option_copied entity.entry)) }
+{
     match entity {
         None => true,
         Some(Entity::Global(other)) => is_same(other, ty),

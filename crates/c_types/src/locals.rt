@@ -1,5 +1,11 @@
 //! Locals: each is a scalar, has a name of its own, and begins with a value or with any.
 
+ghost use Rattle.std.specs.Prelude.{◌≡◌, string_bytes, OnOk};
+ghost use Rattle.c_types.specs.Answers.{RulesAs};
+ghost use Rattle.c_types.specs.CodeDeclared.{declared_of};
+ghost use Rattle.c_types.specs.CodeScope.{scope_of};
+ghost use Rattle.c_types.specs.Locals as rules;
+
 use crate::calls::{assigned, right_side};
 use crate::declarators::{Declared, is_incomplete};
 use crate::expressions::{base, declarator};
@@ -10,7 +16,7 @@ use crate::specifiers::words_start;
 use crate::typed::{Destination, Statement};
 use crate::types::{copy_of, form_of, is_scalar, points_to_array};
 use c_grammar::tree::{Init, Local, Rhs};
-use std::alloc::Global;
+use std::alloc::{AllocError, Global};
 
 /// Adds the statements of a declaration of locals.
 pub(crate) fn local(
@@ -45,7 +51,9 @@ fn declared(
 }
 
 // The rule of a local: a scalar under a name that is new in its block. It gives the local's own name.
-fn local_name(alloc: Global, head: &Declared, scope: &Scope) -> Result<String, Refusal> {
+fn local_name(alloc: Global, head: &Declared, scope: &Scope) -> Result<String, Refusal>
+    ensures { RulesAs string_bytes result (rules.local_name (declared_of head.now) (scope_of scope.now)) }
+{
     let name = head.name.as_str();
     refuse(scope.is_declared_here(name), TypeKind::Twice)?;
     refuse(is_incomplete(&scope.layout, &head.ty), TypeKind::Incomplete)?;
@@ -62,7 +70,9 @@ fn add_local(
     head: &Declared,
     own: &str,
     scope: &mut Scope,
-) -> Result<(), TypeFault> {
+) -> Result<(), AllocError>
+    ensures { OnOk result (scope_of scope.new ≡ rules.add_local own.now (declared_of head.now) (scope_of scope.old)) }
+{
     let name = head.name.as_str();
     scope.progress.add_local(alloc, own, name, &head.ty)?;
     scope.declare(String::from_str(alloc, name)?, Entity::Hidden)?;
@@ -70,9 +80,10 @@ fn add_local(
 }
 
 // A local that is to be used from here on.
-fn name_local(head: Declared, own: String, scope: &mut Scope) -> Result<(), TypeFault> {
-    scope.declare(head.name, Entity::Local(own, head.ty))?;
-    Ok(())
+fn name_local(head: Declared, own: String, scope: &mut Scope) -> Result<(), AllocError>
+    ensures { OnOk result (scope_of scope.new ≡ rules.name_local (string_bytes own) (declared_of head) (scope_of scope.old)) }
+{
+    scope.declare(head.name, Entity::Local(own, head.ty))
 }
 
 // The value that a local begins with, or any.

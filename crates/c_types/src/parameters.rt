@@ -1,5 +1,14 @@
 //! Parameters: scalars; an array among them is a pointer.
 
+ghost use Rattle.std.specs.Prelude.{◌≡◌, map, string_bytes, IfOk, OnOk};
+ghost use Rattle.std.specs.Option.{option_map};
+ghost use Rattle.c_grammar.specs.View.{words_of};
+ghost use Rattle.c_values.specs.CodeTypes.{type_of};
+ghost use Rattle.c_types.specs.CodeDeclared.{parameter_of};
+ghost use Rattle.c_types.specs.CodeScope.{scope_of};
+ghost use Rattle.c_types.specs.Functions as rules;
+ghost use Rattle.c_types.specs.View.{variable_of};
+
 use crate::declarators::{is_incomplete, is_large, length_at};
 use crate::expressions::{base, integer_constant};
 use crate::fault::{TypeFault, TypeKind};
@@ -40,7 +49,9 @@ pub(crate) fn add_parameter(
     alloc: Global,
     parameter: &Parameter,
     scope: &mut Scope,
-) -> Result<(), AllocError> {
+) -> Result<(), AllocError>
+    ensures { OnOk result (scope_of scope.new ≡ rules.add_parameter (parameter_of parameter.now) (scope_of scope.old)) }
+{
     if let Some(name) = &parameter.name {
         let own = name.clone()?;
         let ty = copy_of(alloc, &parameter.ty)?;
@@ -113,14 +124,18 @@ fn parameter_of(
     Ok(Parameter { name, ty })
 }
 
-fn name_of(name: &Option<(usize, String)>) -> Result<Option<String>, AllocError> {
+fn name_of(name: &Option<(usize, String)>) -> Result<Option<String>, AllocError>
+    ensures { IfOk result (λ x. option_map string_bytes x ≡ option_map (λ n. string_bytes n.1) name.now) }
+{
     match name {
         None => Ok(None),
         Some((_, name)) => Ok(Some(name.clone()?)),
     }
 }
 
-fn is_declared(scope: &Scope, name: &Option<String>) -> bool {
+fn is_declared(scope: &Scope, name: &Option<String>) -> bool
+    ensures { result ≡ rules.is_declared (scope_of scope.now) (option_map string_bytes name.now) }
+{
     match name {
         None => false,
         Some(name) => scope.is_declared_here(name.as_str()),
@@ -128,7 +143,9 @@ fn is_declared(scope: &Scope, name: &Option<String>) -> bool {
 }
 
 // An array as a parameter is a pointer.
-fn adjusted(alloc: Global, ty: CType) -> Result<CType, AllocError> {
+fn adjusted(alloc: Global, ty: CType) -> Result<CType, AllocError>
+    ensures { IfOk result (λ t. type_of t ≡ rules.adjusted (type_of ty)) }
+{
     match form_of(&ty) {
         Form::Array(element, _) => formed(alloc, Form::Pointer(element)),
         Form::Integer(_) | Form::Void | Form::Pointer(_) | Form::Struct(_) => Ok(ty),
@@ -136,7 +153,9 @@ fn adjusted(alloc: Global, ty: CType) -> Result<CType, AllocError> {
 }
 
 /// The parameters that have a name.
-pub(crate) fn variables(alloc: Global, params: &[Parameter]) -> Result<Vec<Variable>, AllocError> {
+pub(crate) fn variables(alloc: Global, params: &[Parameter]) -> Result<Vec<Variable>, AllocError>
+    ensures { IfOk result (λ variables. map variable_of variables.items ≡ rules.variables (map parameter_of params.now)) }
+{
     let mut variables = Vec::new(alloc);
     for param in params {
         if let Some(name) = &param.name {

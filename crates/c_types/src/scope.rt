@@ -1,5 +1,9 @@
 //! What is declared at a place of the text.
 
+ghost use Rattle.std.specs.Prelude.{◌≡◌, string_bytes, Some, OnOk};
+ghost use Rattle.c_values.specs.Name.{with_name};
+ghost use Rattle.c_types.specs.CodeScope.{entity_of, names_of};
+
 use crate::file::File;
 use crate::progress::Progress;
 use c_values::{CType, Layout, LayoutFault, Number, Target};
@@ -47,6 +51,11 @@ pub(crate) struct Scope {
 }
 
 impl Scope {
+    ghost use Rattle.std.specs.Prelude.{◌≡◌, string_bytes, OnOk};
+    ghost use Rattle.std.specs.Option.{option_copied, option_map};
+    ghost use Rattle.c_types.specs.Scope.{closed, declare, entity, is_declared_here, opened};
+    ghost use Rattle.c_types.specs.CodeScope.{entity_of, scope_of};
+
     /// In front of a text with these functions that have a body.
     pub(crate) fn of_file(
         alloc: Global,
@@ -69,27 +78,39 @@ impl Scope {
     }
 
     /// What a name stands for: the innermost.
-    pub(crate) fn entity(&self, name: &str) -> Option<&Entity> {
-        for names in self.blocks.iter().rev() {
+    #[tactic(auto, using(crate::proofs::Blocks::blocks_behind))]
+    pub(crate) fn entity(&self, name: &str) -> Option<&Entity>
+        ensures { option_map entity_of (option_copied result) ≡ entity (scope_of self.now).blocks name.now }
+    {
+        let mut blocks = self.blocks.as_slice();
+        while let Some((names, outer)) = blocks.split_last() {
             if let Some(entity) = names.get(name) {
                 return Some(entity);
             }
+            blocks = outer;
         }
         None
     }
 
     /// Whether the innermost block has the name.
-    pub(crate) fn is_declared_here(&self, name: &str) -> bool {
-        match self.blocks.last() {
-            Some(names) => names.contains_key(name),
+    #[tactic(auto, using(crate::proofs::Blocks::blocks_behind))]
+    pub(crate) fn is_declared_here(&self, name: &str) -> bool
+        ensures { result ≡ is_declared_here (scope_of self.now).blocks name.now }
+    {
+        match self.blocks.as_slice().split_last() {
+            Some((names, _)) => names.contains_key(name),
             None => false,
         }
     }
 
     /// Declares a name in the innermost block.
-    pub(crate) fn declare(&mut self, name: String, entity: Entity) -> Result<(), AllocError> {
-        if let Some(names) = self.blocks.last_mut() {
-            let _ = names.insert(name, entity)?;
+    #[tactic(auto, using(crate::proofs::Blocks::blocks_behind))]
+    pub(crate) fn declare(&mut self, name: String, entity: Entity) -> Result<(), AllocError>
+        ensures { OnOk result (scope_of self.new ≡ declare (string_bytes name) (entity_of entity) (scope_of self.old)) }
+    {
+        if let Some(mut names) = self.blocks.pop() {
+            name_in(&mut names, name, entity)?;
+            self.blocks.push(names)?;
         }
         Ok(())
     }
@@ -100,13 +121,19 @@ impl Scope {
     }
 
     /// Begins a block.
-    pub(crate) fn open_block(&mut self, alloc: Global) -> Result<(), AllocError> {
+    #[tactic(auto, using(crate::proofs::Blocks::blocks_behind))]
+    pub(crate) fn open_block(&mut self, alloc: Global) -> Result<(), AllocError>
+        ensures { OnOk result (scope_of self.new ≡ opened (scope_of self.old)) }
+    {
         self.blocks.push(HashMap::new(alloc))?;
         Ok(())
     }
 
     /// Ends the innermost block.
-    pub(crate) fn close_block(&mut self) {
+    #[tactic(auto, using(crate::proofs::Blocks::blocks_behind))]
+    pub(crate) fn close_block(&mut self)
+        ensures { scope_of self.new ≡ closed (scope_of self.old) }
+    {
         let _ = self.blocks.pop();
     }
 
@@ -116,6 +143,19 @@ impl Scope {
             names.retain(hide);
         }
     }
+}
+
+// Lets a name stand for something, in place of what it stood for.
+#[tactic(auto, using(crate::proofs::Blocks::names_declared))]
+fn name_in(
+    names: &mut HashMap<String, Entity>,
+    name: String,
+    entity: Entity,
+) -> Result<(), AllocError>
+    ensures { OnOk result (names_of names.new ≡ with_name (string_bytes name) (Some (entity_of entity)) (names_of names.old)) }
+{
+    let _ = names.insert(name, entity)?;
+    Ok(())
 }
 
 // Hides a local, and keeps its name.

@@ -1,8 +1,11 @@
 //! Statements.
 
 ghost use Rattle.std.specs.Prelude.{◌≡◌, map, IfOk};
+ghost use Rattle.c_types.specs.Answers.{RulesAs};
+ghost use Rattle.c_types.specs.CodeStatements.{around_of};
 ghost use Rattle.c_types.specs.Statements as rules;
-ghost use Rattle.c_types.specs.View.{statement_of, statements_of};
+ghost use Rattle.c_types.specs.Typed as C;
+ghost use Rattle.c_types.specs.View.{expr_of, statement_of, statements_of, test_of};
 
 use crate::calls::{Right, returned, right_side};
 use crate::expressions::value;
@@ -28,7 +31,9 @@ pub(crate) struct Around<'a> {
     pub(crate) in_switch: bool,
 }
 
-fn inside_loop(around: Around<'_>) -> Around<'_> {
+fn inside_loop(around: Around<'_>) -> Around<'_>
+    ensures { around_of result ≡ rules.inside_loop (around_of around.entry) }
+{
     Around {
         result: around.result,
         in_loop: true,
@@ -133,13 +138,17 @@ pub(crate) fn listed(
 }
 
 // A `break` stands in a loop or a switch.
-fn breaks(around: Around<'_>) -> Result<Statement, Refusal> {
+fn breaks(around: Around<'_>) -> Result<Statement, Refusal>
+    ensures { RulesAs statement_of result (rules.breaks (around_of around.entry)) }
+{
     refuse(!(around.in_loop || around.in_switch), TypeKind::OutOfSubset)?;
     Ok(Statement::Break)
 }
 
 // A `continue` stands in a loop.
-fn continues(around: Around<'_>) -> Result<Statement, Refusal> {
+fn continues(around: Around<'_>) -> Result<Statement, Refusal>
+    ensures { RulesAs statement_of result (rules.continues (around_of around.entry)) }
+{
     refuse(!around.in_loop, TypeKind::OutOfSubset)?;
     Ok(Statement::Continue)
 }
@@ -217,12 +226,9 @@ fn if_else_statement(
     Ok(choice(alloc, test, yes, no)?)
 }
 
-fn choice(
-    alloc: Global,
-    test: Expr,
-    yes: Statement,
-    no: Statement,
-) -> Result<Statement, AllocError> {
+fn choice(alloc: Global, test: Expr, yes: Statement, no: Statement) -> Result<Statement, AllocError>
+    ensures { IfOk result (λ s. statement_of s ≡ C.If (expr_of test) (statement_of yes) (statement_of no)) }
+{
     let yes = Box::new(alloc, yes)?;
     let no = Box::new(alloc, no)?;
     Ok(Statement::If(test, yes, no))
@@ -334,7 +340,9 @@ fn repeated(
     test: Test,
     step: Statement,
     body: Statement,
-) -> Result<Statement, AllocError> {
+) -> Result<Statement, AllocError>
+    ensures { IfOk result (λ s. statement_of s ≡ C.For (statements_of start) (test_of test) (statement_of step) (statement_of body)) }
+{
     let start = Box::new(alloc, start)?;
     let step = Box::new(alloc, step)?;
     let body = Box::new(alloc, body)?;

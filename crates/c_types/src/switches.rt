@@ -1,8 +1,13 @@
 //! Switches.
 
-ghost use Rattle.std.specs.Prelude.{◌≡◌};
+ghost use Rattle.std.specs.Prelude.{◌≡◌, IfOk};
+ghost use Rattle.c_values.specs.CodeTypes.{int_type_of};
 ghost use Rattle.c_grammar.specs.View.{items_of, label_of, stmt_of};
+ghost use Rattle.c_types.specs.CodeForm.{form_type};
+ghost use Rattle.c_types.specs.CodeStatements.{around_of, in_front};
 ghost use Rattle.c_types.specs.Statements as rules;
+ghost use Rattle.c_types.specs.Typed as C;
+ghost use Rattle.c_types.specs.View.{groups_of};
 
 use crate::expressions::{integer_constant, value};
 use crate::fault::{TypeFault, TypeKind};
@@ -40,7 +45,9 @@ pub(crate) fn switch(
     at_node(at, switched(alloc, number, operand, groups))
 }
 
-fn inside_switch(around: Around<'_>) -> Around<'_> {
+fn inside_switch(around: Around<'_>) -> Around<'_>
+    ensures { around_of result ≡ rules.inside_switch (around_of around.entry) }
+{
     Around {
         result: around.result,
         in_loop: around.in_loop,
@@ -154,7 +161,10 @@ fn group_statements(
 }
 
 // The groups as a list.
-fn grouped(alloc: Global, mut groups: Vec<Group>) -> Result<Groups, AllocError> {
+#[tactic(auto, using(crate::proofs::Lists::in_front_behind))]
+fn grouped(alloc: Global, mut groups: Vec<Group>) -> Result<Groups, AllocError>
+    ensures { IfOk result (λ list. groups_of list ≡ in_front groups.items C.no_groups) }
+{
     let mut list = Groups::None;
     while let Some(group) = groups.pop() {
         let Group {
