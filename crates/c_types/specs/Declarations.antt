@@ -12,7 +12,7 @@ use Rattle.c_values.specs.Number.{is_of_type}
 use Rattle.c_values.specs.Growth.{with_struct, can_follow, struct_named}
 use Rattle.c_values.specs.Layout.{Layout, Member, StructDef, is_object}
 use Rattle.c_types.specs.declared.fault.TypeKind.TheVariants.{Unknown, Twice, Mismatch, Incomplete, OutOfSubset, Large}
-use Rattle.c_types.specs.Scope.{Scope, Tag, StructTag, EnumTag, is_declared_here}
+use Rattle.c_types.specs.Scope.{Scope, Tag, StructTag, EnumTag, is_declared_here, declare}
 use Rattle.c_types.specs.Checked.{Ruling, Ruled, Refused, refuse, ◌>=>◌}
 use Rattle.c_types.specs.Operand.{is_array}
 

@@ -11,7 +11,7 @@ use Rattle.c_values.specs.Types.{IntType, Int, CType, Integer, Ptr, Struct, Arra
 use Rattle.c_values.specs.Growth.{struct_named}
 use Rattle.c_values.specs.Layout.{Layout, Member, StructDef, is_object, size_of}
 use Rattle.c_types.specs.declared.fault.TypeKind.TheVariants.{Unknown, Mismatch, NotLvalue, Incomplete, OutOfSubset}
-use Rattle.c_types.specs.Scope.{Scope, Entity, Enumerator, Global, Function, Local, Hidden, entity, declare}
+use Rattle.c_types.specs.Scope.{Scope, Entity, Enumerator, Global, Function, Local, Hidden, entity}
 use Rattle.c_types.specs.Checked.{Judgement, pure, rule, changed, after, declares, ◌>>=◌, Ruling, Ruled, Refused, refuse, ◌>=>◌}
 use Rattle.c_types.specs.Integers.{number_type}
 use Rattle.c_types.specs.Constant.{constant_value}

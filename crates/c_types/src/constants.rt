@@ -183,7 +183,7 @@ fn address(l: &Layout, place: &Place) -> Option<Number>
 // Where a path leads from an address of a type.
 #[cycle(folded)]
 fn reached(l: &Layout, path: &Path, ty: &CType, from: Number) -> Option<Number>
-    ensures { result ≡ constants.reached l.now (path_of path.now) (constants.object_shape l.now (type_of ty.now)) from }
+    ensures { result ≡ constants.reached l.now (path_of path.now) (shape_of l.now (type_of ty.now)) from }
 {
     match path {
         Path::Here => Some(from),
