@@ -12,7 +12,7 @@ use Rattle.c_values.specs.Number.{is_of_type}
 use Rattle.c_values.specs.Growth.{with_struct, can_follow, struct_named}
 use Rattle.c_values.specs.Layout.{Layout, Member, StructDef, is_object}
 use Rattle.c_types.specs.declared.fault.TypeKind.TheVariants.{Unknown, Twice, Mismatch, Incomplete, OutOfSubset, Large}
-use Rattle.c_types.specs.Scope.{Scope, Tag, StructTag, EnumTag, is_declared_here, declare}
+use Rattle.c_types.specs.Scope.{Scope, Tag, StructTag, EnumTag, Enumerator, is_declared_here, declare}
 use Rattle.c_types.specs.Checked.{Ruling, Ruled, Refused, refuse, ◌>=>◌}
 use Rattle.c_types.specs.Operand.{is_array}
 
@@ -231,14 +231,12 @@ mention (Some x) s = if is_some (s.tags x) then s else with_tag StructTag x s
 
 -- a struct's body: its tag has no other one and is no enum's, its members are complete, as each is where it is declared, and
 -- it isn't too large
-abbrev pub completed : Scope → StructDef → Ruling StructDef
-completed s d =
+abbrev pub defined : StructDef → Scope → Ruling Scope
+defined d s =
     refuse (is_enum_tag (s.tags d.name) || is_some (struct_named s.layout.structs d.name)) Twice
     (refuse (not (can_follow s.layout d)) Incomplete
-    (refuse (not (is_object (with_struct s.layout d) (Struct d.name))) Large (Ruled d)))
-
-abbrev pub defined : StructDef → Scope → Ruling Scope
-defined d s = completed s d >=> λ e. Ruled (record s { layout = with_struct s.layout e })
+    (refuse (not (is_object (with_struct s.layout d) (Struct d.name))) Large
+    (Ruled (record s { layout = with_struct s.layout d }))))
 
 -- a struct without a tag counts
 abbrev pub counted : Option Name → Scope → Scope

@@ -53,12 +53,7 @@ fn root(alloc: Global, ty: CType, pointer: Expr) -> Result<Place, AllocError>
 }
 
 /// `a[i]`: an element of an array place, or `*(a + i)`.
-pub(crate) fn indexed(
-    alloc: Global,
-    l: &Layout,
-    a: Operand,
-    index: Expr,
-) -> Result<Place, Refusal>
+pub(crate) fn indexed(alloc: Global, l: &Layout, a: Operand, index: Expr) -> Result<Place, Refusal>
     ensures { RulesAs place_of result (expressions.indexed l.now (operand_of a) (expr_of index)) }
 {
     match a {
@@ -66,12 +61,23 @@ pub(crate) fn indexed(
             Some((element, length)) => element_at(alloc, place, index, element, length),
             None => stepped(alloc, l, value_in(alloc, Operand::At(place))?, index),
         },
-        Operand::Valued(_) | Operand::Variable(_, _) => stepped(alloc, l, value_in(alloc, a)?, index),
+        Operand::Valued(_) | Operand::Variable(_, _) => stepped(
+            alloc,
+            l,
+            value_in(alloc, a)?,
+            index,
+        ),
     }
 }
 
 // An element of an array place.
-fn element_at(alloc: Global, place: Place, index: Expr, element: CType, length: u32) -> Result<Place, Refusal>
+fn element_at(
+    alloc: Global,
+    place: Place,
+    index: Expr,
+    element: CType,
+    length: u32,
+) -> Result<Place, Refusal>
     ensures { RulesAs place_of result (expressions.element_at (place_of place) (expr_of index) (type_of element) length) }
 {
     refuse(!is_integer(type_of(&index)), TypeKind::Mismatch)?;

@@ -159,7 +159,10 @@ fn word(alloc: Global, word: &Word, scope: &mut Scope) -> Result<Part, TypeFault
         Word::StructBody(at, tag, body) => {
             scope.mention(alloc, text_of(tag))?;
             let fields = members(alloc, &**body, scope)?;
-            let ty = at_node(*at, scope.struct_body(alloc, text_of(tag), fields.into_members()))?;
+            let ty = at_node(
+                *at,
+                scope.struct_body(alloc, text_of(tag), fields.into_members()),
+            )?;
             Ok(Part::Type(ty))
         }
         Word::EnumTag(at, tag) => {
@@ -251,11 +254,7 @@ pub(crate) fn declarator(
 }
 
 #[cycle(expression)]
-fn lengths(
-    alloc: Global,
-    dimensions: &Dimensions,
-    scope: &mut Scope,
-) -> Result<Vec<u32>, TypeFault>
+fn lengths(alloc: Global, dimensions: &Dimensions, scope: &mut Scope) -> Result<Vec<u32>, TypeFault>
     ensures { Answers (λ v. v.items) (scope_of scope.new) result (expressions.dimensions [] (view.dimensions_of dimensions.now) (scope_of scope.old)) }
 {
     let mut lengths = Vec::new(alloc);
@@ -302,7 +301,10 @@ fn enumerator(
         (expressions.enumerator next (view.enumerator_of enumerator.now) (scope_of scope.old)) }
 {
     match enumerator {
-        Enumerator::Implicit(at, name) => at_node(*at, scope.enumerator(alloc, name.as_str(), next)),
+        Enumerator::Implicit(at, name) => at_node(
+            *at,
+            scope.enumerator(alloc, name.as_str(), next),
+        ),
         Enumerator::Explicit(at, name, value) => {
             let n = integer_constant(alloc, &**value, scope)?;
             at_node(*at, scope.enumerator(alloc, name.as_str(), n))
@@ -335,12 +337,7 @@ fn starred(alloc: Global, stars: usize, ty: CType) -> Result<CType, Refusal>
 
 /// An operand.
 #[cycle(expression)]
-fn operand(
-    alloc: Global,
-    e: &CExp,
-    scope: &mut Scope,
-    demand: Demand,
-) -> Result<Operand, TypeFault>
+fn operand(alloc: Global, e: &CExp, scope: &mut Scope, demand: Demand) -> Result<Operand, TypeFault>
     ensures { Answers operand_of (scope_of scope.new) result (expressions.operand (demand_of demand) (view.exp_of e.now) (scope_of scope.old)) }
 {
     match e {
@@ -379,10 +376,7 @@ fn operand(
         }
         CExp::SizeofValue(at, inner) => {
             let inner = operand(alloc, &**inner, scope, Demand::Place)?;
-            let size = at_node(
-                *at,
-                size_of_operand(alloc, &scope.layout, &inner),
-            )?;
+            let size = at_node(*at, size_of_operand(alloc, &scope.layout, &inner))?;
             scope.note(operand_has_cast(&inner));
             Ok(size)
         }

@@ -15,9 +15,9 @@ ghost use Rattle.c_types.specs.View.{arithmetic_of, bitwise_of, direction_of, re
 use crate::typed::{Arithmetic, Bitwise, Direction, Equality, Relation, Sign};
 use c_values::views::word;
 use c_values::{
-    CType, IntType, Layout, Number, NumberOp, ShiftOp, UnaryOp, Word, WordOp,
-    address_width, int, is_object, is_of_type, is_signed, nat, number_op, size_of, step_into,
-    width_of, word_op, word_shift, word_unary,
+    CType, IntType, Layout, Number, NumberOp, ShiftOp, UnaryOp, Word, WordOp, address_width, int,
+    is_object, is_of_type, is_signed, nat, number_op, size_of, step_into, width_of, word_op,
+    word_shift, word_unary,
 };
 
 // The bits of a number at a type.
@@ -111,13 +111,7 @@ pub(crate) fn computed(
     }
 }
 
-fn computed_signed(
-    l: &Layout,
-    op: Arithmetic,
-    ty: IntType,
-    a: Number,
-    b: Number,
-) -> Option<Number>
+fn computed_signed(l: &Layout, op: Arithmetic, ty: IntType, a: Number, b: Number) -> Option<Number>
     ensures { result ≡ constants.computed_signed l.now (arithmetic_of op) (int_type_of ty) a b }
 {
     match op {
@@ -216,10 +210,7 @@ fn shifted_left(l: &Layout, ty: IntType, a: Number, count: u8) -> Option<Number>
 {
     let by = Number::new(false, u128::from(count));
     if !is_signed(ty) {
-        return Some(at_type(
-            ty,
-            word_shift(ShiftOp::Wshl, bits_at(l, ty, a), by),
-        ));
+        return Some(at_type(ty, word_shift(ShiftOp::Wshl, bits_at(l, ty, a), by)));
     }
     if a.negative() {
         return None;

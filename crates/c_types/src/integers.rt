@@ -109,10 +109,7 @@ pub(crate) fn number_type(
 fn first_holding(target: Target, types: &[IntType], value: u64) -> Option<IntType>
     ensures { result ≡ find (λ ty. is_of_type (target_of target) (int_type_of ty) (pos value)) types.now }
 {
-    types
-        .iter()
-        .copied()
-        .find(|ty| holds(target, *ty, value))
+    types.iter().copied().find(|ty| holds(target, *ty, value))
 }
 
 fn holds(target: Target, ty: IntType, value: u64) -> bool

@@ -65,12 +65,7 @@ fn local_name(alloc: Global, head: &Declared, scope: &Scope) -> Result<String, R
 }
 
 // Declares a local that isn't to be used yet.
-fn add_local(
-    alloc: Global,
-    head: &Declared,
-    own: &str,
-    scope: &mut Scope,
-) -> Result<(), AllocError>
+fn add_local(alloc: Global, head: &Declared, own: &str, scope: &mut Scope) -> Result<(), AllocError>
     ensures { OnOk result (scope_of scope.new ≡ rules.add_local own.now (declared_of head.now) (scope_of scope.old)) }
 {
     let name = head.name.as_str();

@@ -27,7 +27,12 @@ use c_grammar::{BinaryOperator, UnaryOperator};
 use c_values::{CType, IntType, Layout, Number, Target, is_object, size_of};
 use std::alloc::Global;
 
-pub(crate) fn variable(alloc: Global, scope: &Scope, demand: Demand, name: &str) -> Result<Operand, Refusal>
+pub(crate) fn variable(
+    alloc: Global,
+    scope: &Scope,
+    demand: Demand,
+    name: &str,
+) -> Result<Operand, Refusal>
     ensures { RulesAs operand_of result (expressions.variable (demand_of demand) name.now (entity (scope_of scope.now).blocks name.now)) }
 {
     match scope.entity(name) {
@@ -160,7 +165,11 @@ pub(crate) fn size_constant(l: &Layout, ty: &CType) -> Result<Operand, Refusal>
 }
 
 /// The bytes of an operand, a constant.
-pub(crate) fn size_of_operand(alloc: Global, l: &Layout, operand: &Operand) -> Result<Operand, Refusal>
+pub(crate) fn size_of_operand(
+    alloc: Global,
+    l: &Layout,
+    operand: &Operand,
+) -> Result<Operand, Refusal>
     ensures { RulesAs operand_of result (expressions.size_constant l.now (operands.operand_type (operand_of operand.now))) }
 {
     let ty = formed(alloc, operand_type(operand))?;
@@ -177,7 +186,12 @@ fn size_type(target: Target) -> IntType
     }
 }
 
-pub(crate) fn cast_operand(alloc: Global, l: &Layout, ty: CType, a: Operand) -> Result<Operand, Refusal>
+pub(crate) fn cast_operand(
+    alloc: Global,
+    l: &Layout,
+    ty: CType,
+    a: Operand,
+) -> Result<Operand, Refusal>
     ensures { RulesAs operand_of result (expressions.valued (operators.cast l.now (type_of ty) (operands.value_in (operand_of a)))) }
 {
     let a = value_in(alloc, a)?;

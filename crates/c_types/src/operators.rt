@@ -380,13 +380,7 @@ pub(crate) fn binary(
 }
 
 /// `c ? a : b`
-pub(crate) fn chosen(
-    alloc: Global,
-    l: &Layout,
-    c: Expr,
-    a: Expr,
-    b: Expr,
-) -> Result<Expr, Refusal>
+pub(crate) fn chosen(alloc: Global, l: &Layout, c: Expr, a: Expr, b: Expr) -> Result<Expr, Refusal>
     ensures { RulesAs expr_of result (operators.chosen l.now (expr_of c) (expr_of a) (expr_of b)) }
 {
     refuse(!is_scalar(type_of(&c)), TypeKind::Mismatch)?;

@@ -29,8 +29,8 @@ pub(crate) enum Times {
 impl Times {
     // Once more.
     fn again(self) -> Times
-    ensures { result ≡ declarations.again self }
-{
+        ensures { result ≡ declarations.again self }
+    {
         match self {
             Times::Never => Times::Once,
             Times::Once => Times::Twice,
@@ -87,8 +87,8 @@ pub(crate) struct Base {
 impl Specs {
     /// Before the first word.
     pub(crate) fn none() -> Specs
-    ensures { specs_of result ≡ declarations.no_specs }
-{
+        ensures { specs_of result ≡ declarations.no_specs }
+    {
         Specs {
             integers: Integers {
                 chars: Times::Never,
@@ -107,8 +107,8 @@ impl Specs {
 
     /// One word more.
     pub(crate) fn with_part(self, part: Part) -> Specs
-    ensures { specs_of result ≡ declarations.with_part (specs_of self) (part_of part) }
-{
+        ensures { specs_of result ≡ declarations.with_part (specs_of self) (part_of part) }
+    {
         match part {
             Part::Word(keyword) => self.with_keyword(keyword),
             Part::Type(ty) => self.with_type(ty),
@@ -116,8 +116,8 @@ impl Specs {
     }
 
     fn with_type(self, ty: CType) -> Specs
-    ensures { specs_of result ≡ declarations.with_type (specs_of self) (type_of ty) }
-{
+        ensures { specs_of result ≡ declarations.with_type (specs_of self) (type_of ty) }
+    {
         Specs {
             integers: self.integers,
             has_integers: self.has_integers,
@@ -189,8 +189,8 @@ impl Specs {
 
     /// The type that the words write.
     pub(crate) fn base(self) -> Result<Base, Refusal>
-    ensures { RulesAs base_of result (declarations.base (specs_of self)) }
-{
+        ensures { RulesAs base_of result (declarations.base (specs_of self)) }
+    {
         let ty = base_type(self.has_integers, self.integers, self.named)?;
         Ok(Base {
             ty,

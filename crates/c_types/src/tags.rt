@@ -11,9 +11,7 @@ ghost use Rattle.c_types.specs.Declarations as declarations;
 use crate::fault::TypeKind;
 use crate::rulings::{Refusal, refuse};
 use crate::scope::{Entity, Scope, Tag};
-use c_values::{
-    CType, IntType, LayoutFault, Number, NumberOp, StructDef, is_of_type, number_op,
-};
+use c_values::{CType, IntType, LayoutFault, Number, NumberOp, StructDef, is_of_type, number_op};
 use std::alloc::{AllocError, Global};
 
 impl Scope {

@@ -72,7 +72,10 @@ fn usual_conversions(rt: HostRuntime) {
         let expected = table(target);
         for first in TYPES {
             for second in TYPES {
-                assert_eq!(rt; usual(target, first, second), expected[class(first)][class(second)]);
+                assert_eq!(rt;
+                    usual(target, first, second),
+                    expected[class(first)][class(second)]
+                );
             }
         }
     }
