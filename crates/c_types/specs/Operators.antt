@@ -1,5 +1,5 @@
 -- The rules of operators: typed operands to a typed expression, or what is wrong (C99 6.5.3 to 6.5.16).
-use Rattle.std.specs.Prelude.{Bool, true, false, not, ◌&&◌, ◌||◌, pos, if◌then◌else◌}
+use Rattle.std.specs.Prelude.{Option, Some, None, Bool, true, false, not, ◌&&◌, ◌||◌, pos, if◌then◌else◌}
 use Rattle.std.specs.Ordering.{int_eq}
 use Rattle.std.specs.Option.{option_map_or}
 use Rattle.c_values.specs.Name.{Name, same_name}
@@ -55,17 +55,29 @@ is_void_zero l _ = false
 abbrev pub is_null : Layout → C.Expr → Bool
 is_null l e = is_zero l e || is_void_zero l e
 
+-- the type of an integer
+abbrev pub integer_in : CType → Option IntType
+integer_in (Integer i) = Some i
+integer_in _ = None
+
 -- an integer at its promoted type
-abbrev pub promotes : (IntType → C.Expr → C.Expr) → C.Expr → CType → Ruling C.Expr
-promotes node a (Integer i) = Ruled (node (promoted i) (to_integer (promoted i) a))
-promotes node a _ = Refused Mismatch
+abbrev pub promotes : C.Expr → Option IntType → Ruling (IntType × C.Expr)
+promotes a (Some i) = Ruled (promoted i, to_integer (promoted i) a)
+promotes a None = Refused Mismatch
+
+abbrev pub promotion : C.Expr → Ruling (IntType × C.Expr)
+promotion a = promotes a (integer_in (C.type_of a))
 
 abbrev pub promoting : (IntType → C.Expr → C.Expr) → C.Expr → Ruling C.Expr
-promoting node a = promotes node a (C.type_of a)
+promoting node a = promotion a >=> λ p. Ruled (node p.0 p.1)
 
 -- a scalar
-abbrev pub with_scalar : C.Expr → C.Expr → Ruling C.Expr
+abbrev pub with_scalar : {A : Type 0} → C.Expr → A → Ruling A
 with_scalar a node = refuse (not (is_scalar (C.type_of a))) Mismatch (Ruled node)
+
+-- two scalars
+abbrev pub scalars : C.Expr → C.Expr → Ruling (C.Expr × C.Expr)
+scalars a b = with_scalar a a >=> λ a'. with_scalar b (a', b)
 
 -- two integers at their common type
 pub record Balanced : Type 0 where
@@ -73,47 +85,55 @@ pub record Balanced : Type 0 where
   pub left : C.Expr
   pub right : C.Expr
 
-abbrev pub balances : Target → C.Expr → C.Expr → CType → CType → Ruling Balanced
-balances t a b (Integer i) (Integer j) =
+abbrev pub balances : Target → C.Expr → C.Expr → Option IntType → Option IntType → Ruling Balanced
+balances t a b (Some i) (Some j) =
     let k = usual t i j in Ruled (record { type = k; left = to_integer k a; right = to_integer k b })
 balances t a b _ _ = Refused Mismatch
 
 abbrev pub balance : Target → C.Expr → C.Expr → Ruling Balanced
-balance t a b = balances t a b (C.type_of a) (C.type_of b)
+balance t a b = balances t a b (integer_in (C.type_of a)) (integer_in (C.type_of b))
 
 abbrev pub balanced : Target → (IntType → C.Expr → C.Expr → C.Expr) → C.Expr → C.Expr → Ruling C.Expr
 balanced t node a b = balance t a b >=> λ r. Ruled (node r.type r.left r.right)
 
 -- each operand at its promoted type
-abbrev pub shifts : C.Direction → C.Expr → C.Expr → CType → CType → Ruling C.Expr
-shifts d a b (Integer i) (Integer j) =
+abbrev pub shifts : C.Direction → C.Expr → C.Expr → Option IntType → Option IntType → Ruling C.Expr
+shifts d a b (Some i) (Some j) =
     Ruled (C.Shift d (promoted i) (to_integer (promoted i) a) (to_integer (promoted j) b))
 shifts d a b _ _ = Refused Mismatch
+
+abbrev pub shifted : C.Direction → C.Expr → C.Expr → Ruling C.Expr
+shifted d a b = shifts d a b (integer_in (C.type_of a)) (integer_in (C.type_of b))
 
 -- a pointer to no object
 abbrev pub is_pointer_to_none : Layout → CType → Bool
 is_pointer_to_none l (Ptr t) = not (is_object l t)
 is_pointer_to_none l _ = false
 
+-- what a pointer type points to, where the other operand is an integer
+abbrev pub pointed_in : CType → CType → Option CType
+pointed_in (Ptr t) (Integer j) = Some t
+pointed_in _ _ = None
+
 -- `+` also takes a pointer on either side, with an integer (C99 6.5.6)
-abbrev pub adds : Layout → C.Expr → C.Expr → CType → CType → Ruling C.Expr
-adds l a b (Ptr t) (Integer j) = Ruled (C.Move C.Plus t a b)
-adds l a b (Integer i) (Ptr u) = Ruled (C.MoveBy u a b)
-adds l a b t u = balanced l.target (C.Compute C.Add) a b
+abbrev pub adds : Layout → C.Expr → C.Expr → Option CType → Option CType → Ruling C.Expr
+adds l a b (Some t) u = Ruled (C.Move C.Plus t a b)
+adds l a b None (Some u) = Ruled (C.MoveBy u a b)
+adds l a b None None = balanced l.target (C.Compute C.Add) a b
 
 abbrev pub added : Layout → C.Expr → C.Expr → Ruling C.Expr
 added l a b =
     refuse (is_pointer_to_none l (C.type_of a) || is_pointer_to_none l (C.type_of b)) Incomplete
-    (adds l a b (C.type_of a) (C.type_of b))
+    (adds l a b (pointed_in (C.type_of a) (C.type_of b)) (pointed_in (C.type_of b) (C.type_of a)))
 
 -- and `-` on the left
-abbrev pub subtracts : Layout → C.Expr → C.Expr → CType → CType → Ruling C.Expr
-subtracts l a b (Ptr t) (Integer j) = Ruled (C.Move C.Minus t a b)
-subtracts l a b t u = balanced l.target (C.Compute C.Subtract) a b
+abbrev pub subtracts : Layout → C.Expr → C.Expr → Option CType → Ruling C.Expr
+subtracts l a b (Some t) = Ruled (C.Move C.Minus t a b)
+subtracts l a b None = balanced l.target (C.Compute C.Subtract) a b
 
 abbrev pub subtracted : Layout → C.Expr → C.Expr → Ruling C.Expr
 subtracted l a b =
-    refuse (is_pointer_to_none l (C.type_of a)) Incomplete (subtracts l a b (C.type_of a) (C.type_of b))
+    refuse (is_pointer_to_none l (C.type_of a)) Incomplete (subtracts l a b (pointed_in (C.type_of a) (C.type_of b)))
 
 -- at which type two operands meet: pointers at that of both, a null pointer constant at that of the other, or, where one is a
 -- pointer to void, at that (C99 6.5.9, 6.5.15)
@@ -164,8 +184,8 @@ binary l B.Divide a b = balanced l.target (C.Compute C.Divide) a b
 binary l B.Remainder a b = balanced l.target (C.Compute C.Remainder) a b
 binary l B.Add a b = added l a b
 binary l B.Subtract a b = subtracted l a b
-binary l B.ShiftLeft a b = shifts C.Left a b (C.type_of a) (C.type_of b)
-binary l B.ShiftRight a b = shifts C.Right a b (C.type_of a) (C.type_of b)
+binary l B.ShiftLeft a b = shifted C.Left a b
+binary l B.ShiftRight a b = shifted C.Right a b
 binary l B.And a b = balanced l.target (C.Combine C.BitAnd) a b
 binary l B.ExclusiveOr a b = balanced l.target (C.Combine C.BitXor) a b
 binary l B.Or a b = balanced l.target (C.Combine C.BitOr) a b
@@ -175,8 +195,8 @@ binary l B.LessEqual a b = balanced l.target (C.Compare C.LessEqual) a b
 binary l B.GreaterEqual a b = balanced l.target (C.Compare C.GreaterEqual) a b
 binary l B.Equal a b = equated l C.Equal a b
 binary l B.NotEqual a b = equated l C.NotEqual a b
-binary l B.LogicalAnd a b = with_scalar a (C.And a b) >=> λ e. with_scalar b e
-binary l B.LogicalOr a b = with_scalar a (C.Or a b) >=> λ e. with_scalar b e
+binary l B.LogicalAnd a b = scalars a b >=> λ p. Ruled (C.And p.0 p.1)
+binary l B.LogicalOr a b = scalars a b >=> λ p. Ruled (C.Or p.0 p.1)
 
 abbrev pub chosen : Layout → C.Expr → C.Expr → C.Expr → Ruling C.Expr
 chosen l c a b =

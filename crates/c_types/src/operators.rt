@@ -1,6 +1,7 @@
 //! The rules of operators: typed operands to a typed expression, or what is wrong.
 
-ghost use Rattle.std.specs.Prelude.{◌≡◌, IfOk};
+ghost use Rattle.std.specs.Prelude.{◌≡◌, IfOk, None};
+ghost use Rattle.std.specs.Option.{option_map};
 ghost use Rattle.c_values.specs.CodeTypes.{int_type_of, type_of};
 ghost use Rattle.c_values.specs.Types.{Integer, Ptr};
 ghost use Rattle.c_types.specs.Answers.{RulesAs};
@@ -99,7 +100,9 @@ fn balance(alloc: Global, l: &Layout, a: Expr, b: Expr) -> Result<Balanced, Refu
 }
 
 // The type of an integer.
-fn integer_of(e: &Expr) -> Option<IntType> {
+fn integer_of(e: &Expr) -> Option<IntType>
+    ensures { option_map int_type_of result ≡ operators.integer_in (C.type_of (expr_of e.now)) }
+{
     match type_of(e) {
         Form::Integer(ty) => Some(ty),
         Form::Void | Form::Pointer(_) | Form::Struct(_) | Form::Array(_, _) => None,
@@ -129,7 +132,7 @@ fn compared(alloc: Global, l: &Layout, op: Relation, a: Expr, b: Expr) -> Result
 
 // Each operand at its promoted type.
 fn shifted(alloc: Global, direction: Direction, a: Expr, b: Expr) -> Result<Expr, Refusal>
-    ensures { RulesAs expr_of result (operators.shifts (view.direction_of direction) (expr_of a) (expr_of b) (C.type_of (expr_of a)) (C.type_of (expr_of b))) }
+    ensures { RulesAs expr_of result (operators.shifted (view.direction_of direction) (expr_of a) (expr_of b)) }
 {
     match (integer_of(&a), integer_of(&b)) {
         (Some(i), Some(j)) => {
@@ -164,19 +167,25 @@ fn added(alloc: Global, l: &Layout, a: Expr, b: Expr) -> Result<Expr, Refusal>
         is_pointer_to_none(l, type_of(&a)) || is_pointer_to_none(l, type_of(&b)),
         TypeKind::Incomplete,
     )?;
-    if is_integer(type_of(&b))
-        && let Some(inner) = pointed_to(alloc, &a)?
-    {
-        return Ok(moved(alloc, Sign::Plus, inner, a, b)?);
+    match pointed_to(alloc, &a, &b)? {
+        Some(inner) => Ok(moved(alloc, Sign::Plus, inner, a, b)?),
+        None => added_on_the_right(alloc, l, a, b),
     }
-    if is_integer(type_of(&a))
-        && let Some(inner) = pointed_to(alloc, &b)?
-    {
-        let a = Box::new(alloc, a)?;
-        let b = Box::new(alloc, b)?;
-        return Ok(Expr::MoveBy(inner, a, b));
+}
+
+// A pointer on the right, or two integers.
+fn added_on_the_right(alloc: Global, l: &Layout, a: Expr, b: Expr) -> Result<Expr, Refusal>
+    ensures { RulesAs expr_of result (operators.adds l.now (expr_of a) (expr_of b) None
+        (operators.pointed_in (C.type_of (expr_of b)) (C.type_of (expr_of a)))) }
+{
+    match pointed_to(alloc, &b, &a)? {
+        Some(inner) => {
+            let a = Box::new(alloc, a)?;
+            let b = Box::new(alloc, b)?;
+            Ok(Expr::MoveBy(inner, a, b))
+        }
+        None => computed(alloc, l, Arithmetic::Add, a, b),
     }
-    computed(alloc, l, Arithmetic::Add, a, b)
 }
 
 // `-` also takes a pointer on the left, with an integer.
@@ -184,12 +193,10 @@ fn subtracted(alloc: Global, l: &Layout, a: Expr, b: Expr) -> Result<Expr, Refus
     ensures { RulesAs expr_of result (operators.subtracted l.now (expr_of a) (expr_of b)) }
 {
     refuse(is_pointer_to_none(l, type_of(&a)), TypeKind::Incomplete)?;
-    if is_integer(type_of(&b))
-        && let Some(inner) = pointed_to(alloc, &a)?
-    {
-        return Ok(moved(alloc, Sign::Minus, inner, a, b)?);
+    match pointed_to(alloc, &a, &b)? {
+        Some(inner) => Ok(moved(alloc, Sign::Minus, inner, a, b)?),
+        None => computed(alloc, l, Arithmetic::Subtract, a, b),
     }
-    computed(alloc, l, Arithmetic::Subtract, a, b)
 }
 
 // A pointer to a type, moved by an integer.
@@ -207,10 +214,19 @@ fn moved(
     Ok(Expr::Move(sign, inner, pointer, by))
 }
 
-// The type that a pointer points to.
-fn pointed_to(alloc: Global, e: &Expr) -> Result<Option<CType>, AllocError> {
+// The type that a pointer points to, where the other operand is an integer.
+fn pointed_to(alloc: Global, e: &Expr, other: &Expr) -> Result<Option<CType>, AllocError>
+    ensures { IfOk result (λ found. option_map type_of found
+        ≡ operators.pointed_in (C.type_of (expr_of e.now)) (C.type_of (expr_of other.now))) }
+{
     match type_of(e) {
-        Form::Pointer(inner) => Ok(Some(copy_of(alloc, inner)?)),
+        Form::Pointer(inner) => {
+            if is_integer(type_of(other)) {
+                Ok(Some(copy_of(alloc, inner)?))
+            } else {
+                Ok(None)
+            }
+        }
         Form::Integer(_) | Form::Void | Form::Struct(_) | Form::Array(_, _) => Ok(None),
     }
 }
@@ -335,7 +351,9 @@ fn equated(alloc: Global, l: &Layout, op: Equality, a: Expr, b: Expr) -> Result<
 }
 
 // Two scalars.
-fn scalars(alloc: Global, a: Expr, b: Expr) -> Result<(Box<Expr>, Box<Expr>), Refusal> {
+fn scalars(alloc: Global, a: Expr, b: Expr) -> Result<(Box<Expr>, Box<Expr>), Refusal>
+    ensures { RulesAs (λ p. (expr_of p.0.value, expr_of p.1.value)) result (operators.scalars (expr_of a) (expr_of b)) }
+{
     refuse(!is_scalar(type_of(&a)), TypeKind::Mismatch)?;
     refuse(!is_scalar(type_of(&b)), TypeKind::Mismatch)?;
     Ok((Box::new(alloc, a)?, Box::new(alloc, b)?))
@@ -422,7 +440,9 @@ pub(crate) fn inverted(alloc: Global, a: Expr) -> Result<Expr, Refusal>
 }
 
 // An integer at its promoted type.
-fn promoting(alloc: Global, a: Expr) -> Result<(IntType, Box<Expr>), Refusal> {
+fn promoting(alloc: Global, a: Expr) -> Result<(IntType, Box<Expr>), Refusal>
+    ensures { RulesAs (λ p. (int_type_of p.0, expr_of p.1.value)) result (operators.promotion (expr_of a)) }
+{
     match integer_of(&a) {
         Some(i) => {
             let a = to_integer(alloc, promoted(i), a)?;
