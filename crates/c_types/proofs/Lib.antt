@@ -4,3 +4,4 @@ pub mod Lists
 pub mod Blocks
 pub mod Finding
 pub mod NamedParameters
+pub mod Lengths

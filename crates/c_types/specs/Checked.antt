@@ -53,7 +53,15 @@ ruled at s (Refused kind) = Bad (saturated at) kind
 abbrev pub rule : {A : Type 0} → ℕ → (Scope → Ruling A) → Judgement A
 rule at r s = ruled at s (r s)
 
--- a change of the scope, where a node declares something
+-- the same where the node declares something: with the scope behind it
+abbrev pub declaring : {A : Type 0} → ℕ → Ruling (A × Scope) → Checked (A × Scope)
+declaring at (Ruled p) = Good p
+declaring at (Refused kind) = Bad (saturated at) kind
+
+abbrev pub declares : {A : Type 0} → ℕ → (Scope → Ruling (A × Scope)) → Judgement A
+declares at r s = declaring at (r s)
+
+-- a change of the scope
 abbrev pub changed : {A : Type 0} → (Scope → Scope) → A → Judgement A
 changed f a s = Good (a, f s)
 

@@ -1,13 +1,13 @@
 -- The value of a constant expression (C99 6.6): every operand is a constant, taken or not, and no step is undefined. A
 -- pointer that is made of constants is one; what is read through it isn't.
-use Rattle.std.specs.Prelude.{ℕ, Bool, true, false, not, ◌&&◌, Option, Some, None, option_and_then, ℤ, pos, neg_ℤ, int_lt, int_le, if◌then◌else◌}
+use Rattle.std.specs.Prelude.{ℕ, ◌^◌, nat_le, Bool, true, false, not, ◌&&◌, Option, Some, None, option_and_then, ℤ, pos, neg_ℤ, int_lt, int_le, if◌then◌else◌}
 use Rattle.std.specs.Option.{option_map}
 use Rattle.std.specs.Ordering.{int_eq}
 use Rattle.c_values.specs.Types.{IntType, CType, Integer, width_of, is_signed, address_width}
 use Rattle.c_values.specs.Number.{Add, Sub, Mul, Div, Mod, number_op, is_of_type}
 use Rattle.c_values.specs.Word.{Word, WordOp, unsigned, signed, word, word_op, word_unary, word_shift, Wadd, Wsub, Wmul, Wand, Wor, Wxor, Wudiv, Wumod, Wneg, Wnot, Wshl, Wushr, Wsshr, is_shift, power_of_two}
-use Rattle.c_values.specs.Layout.{Layout, Shape, Incomplete, size_of, shape_of, is_object}
-use Rattle.c_values.specs.Path.{Step, Field, Index}
+use Rattle.c_values.specs.Layout.{Layout, Shape, Incomplete, size, size_of, shape_of, is_complete, is_object, largest_size}
+use Rattle.c_values.specs.Path.{Spot, Field, Index, is_index}
 use Rattle.c_values.specs.StepInto.{step_into}
 use Rattle.c_types.specs.Typed as C
 
@@ -157,9 +157,16 @@ moved l s t p n =
 abbrev pub moved_by : Layout → ℤ → ℤ → ℤ
 moved_by l p n = unsigned (word_op Wadd (address_bits l p) (address_bits l n))
 
--- the shape of an object; of anything else none that is stepped into
-abbrev pub object_shape : Layout → CType → Shape
-object_shape l t = if is_object l t then shape_of l t else Incomplete
+-- the shape of an object; of anything else one that has no parts
+abbrev pub object_in : Shape → Shape
+object_in s = if is_complete s && nat_le (size s) largest_size then s else Incomplete
+
+-- one step into an object; no array has more elements than there are numbers of 32 bits
+abbrev pub member_into : Shape → ℕ → Option Spot
+member_into s k = step_into (object_in s) (Field k)
+
+abbrev pub element_into : Shape → ℤ → Option Spot
+element_into s i = if is_index i (2 ^ 32) then step_into (object_in s) (Index i) else None
 
 abbrev mutual
   -- as a number; none where a step is undefined, or an operand that is taken is no constant
@@ -186,15 +193,15 @@ abbrev mutual
   folded l (C.Decay p t) = address l p
 
   pub address : Layout → C.Place → Option ℤ
-  address l (C.Through t p path u) = option_and_then (λ m. reached l path (object_shape l t) m) (folded l p)
+  address l (C.Through t p path u) = option_and_then (λ m. reached l path (shape_of l t) m) (folded l p)
   address l (C.InGlobal x path u) = None
 
   -- where a path leads from an address at which there is such a shape; each index is of an element that is there
   pub reached : Layout → C.Path → Shape → ℤ → Option ℤ
   reached l C.Here s m = Some m
-  reached l (C.Member k path) s m = option_and_then (λ q. reached l path q.shape (moved_by l m q.offset)) (step_into s (Field k))
+  reached l (C.Member k path) s m = option_and_then (λ q. reached l path q.shape (moved_by l m q.offset)) (member_into s k)
   reached l (C.Element n e path) s m =
-      option_and_then (λ i. option_and_then (λ q. reached l path q.shape (moved_by l m q.offset)) (step_into s (Index i))) (folded l e)
+      option_and_then (λ i. option_and_then (λ q. reached l path q.shape (moved_by l m q.offset)) (element_into s i)) (folded l e)
 
 -- the value of a constant expression
 abbrev pub constant_value : Layout → C.Expr → Option ℤ

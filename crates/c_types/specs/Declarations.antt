@@ -1,5 +1,5 @@
 -- Declarations of types, members, enumerators and tags: the rules (C99 6.7.2, 6.7.5).
-use Rattle.std.specs.Prelude.{ℕ, zero, suc, ◌+◌, ◌==◌, nat_le, Bool, true, false, not, ◌&&◌, ◌||◌, List, [], ◌∷◌, ◌++◌, map, Option, Some, None, option_and_then, is_some, is_none, ℤ, pos, negsuc, if◌then◌else◌}
+use Rattle.std.specs.Prelude.{ℕ, zero, suc, ◌+◌, ◌==◌, nat_le, Bool, true, false, not, ◌&&◌, ◌||◌, List, [], ◌∷◌, ◌++◌, map, Option, Some, None, option_and_then, is_some, is_none, ℤ, pos, negsuc, codes, ◌+ℤ◌, if◌then◌else◌}
 use Rattle.std.specs.Fmt.{decimal}
 use Rattle.c_lex.specs.declared.token.Keyword.{Keyword}
 use Rattle.c_lex.specs.declared.token.Keyword.TheVariants as K
@@ -12,7 +12,7 @@ use Rattle.c_values.specs.Number.{is_of_type}
 use Rattle.c_values.specs.Growth.{with_struct, can_follow, struct_named}
 use Rattle.c_values.specs.Layout.{Layout, Member, StructDef, is_object}
 use Rattle.c_types.specs.declared.fault.TypeKind.TheVariants.{Unknown, Twice, Mismatch, Incomplete, OutOfSubset, Large}
-use Rattle.c_types.specs.Scope.{Scope, Tag, StructTag, EnumTag, is_declared_here}
+use Rattle.c_types.specs.Scope.{Scope, Tag, StructTag, EnumTag, Enumerator, is_declared_here, declare}
 use Rattle.c_types.specs.Checked.{Ruling, Ruled, Refused, refuse, ◌>=>◌}
 use Rattle.c_types.specs.Operand.{is_array}
 
@@ -114,6 +114,9 @@ with_named _ t = MoreTypes
 abbrev pub with_type : Specs → CType → Specs
 with_type b t = record b { named = with_named b.named t }
 
+abbrev pub with_storage : Specs → Bool → Bool → Specs
+with_storage b is_static is_extern = record b { is_static = b.is_static || is_static; is_extern = b.is_extern || is_extern }
+
 abbrev pub with_keyword : Specs → Keyword → Specs
 with_keyword b K.Char = with_integers b (record b.integers { chars = again b.integers.chars })
 with_keyword b K.Short = with_integers b (record b.integers { shorts = again b.integers.shorts })
@@ -122,8 +125,8 @@ with_keyword b K.Long = with_integers b (record b.integers { longs = again b.int
 with_keyword b K.Signed = with_integers b (record b.integers { signeds = again b.integers.signeds })
 with_keyword b K.Unsigned = with_integers b (record b.integers { unsigneds = again b.integers.unsigneds })
 with_keyword b K.Void = with_type b Void
-with_keyword b K.Static = record b { is_static = true }
-with_keyword b K.Extern = record b { is_extern = true }
+with_keyword b K.Static = with_storage b true false
+with_keyword b K.Extern = with_storage b false true
 with_keyword b _ = b
 
 abbrev pub with_part : Specs → Part → Specs
@@ -213,18 +216,10 @@ abbrev pub is_enum_tag : Option Tag → Bool
 is_enum_tag (Some EnumTag) = true
 is_enum_tag _ = false
 
--- a struct's tag is no enum's
-abbrev pub struct_mentioned : Scope → Name → Ruling CType
-struct_mentioned s x = refuse (is_enum_tag (s.tags x)) Twice (Ruled (Struct x))
-
--- an enum's tag is declared
-abbrev pub enum_mentioned : Scope → Name → Ruling CType
-enum_mentioned s x = refuse (not (is_enum_tag (s.tags x))) Unknown (Ruled (Integer Int))
-
 -- a tag without a name has the number of its struct
 abbrev pub tag_name : ℕ → Option Name → Name
 tag_name k (Some x) = x
-tag_name k None = 36 ∷ decimal (k + 1)
+tag_name k None = codes "$" ++ decimal (k + 1)
 
 -- names a tag where none has the name
 abbrev pub with_tag : Tag → Name → Scope → Scope
@@ -236,29 +231,46 @@ mention (Some x) s = if is_some (s.tags x) then s else with_tag StructTag x s
 
 -- a struct's body: its tag has no other one and is no enum's, its members are complete, as each is where it is declared, and
 -- it isn't too large
-abbrev pub completed : Scope → StructDef → Ruling StructDef
-completed s d =
+abbrev pub defined : StructDef → Scope → Ruling Scope
+defined d s =
     refuse (is_enum_tag (s.tags d.name) || is_some (struct_named s.layout.structs d.name)) Twice
     (refuse (not (can_follow s.layout d)) Incomplete
-    (refuse (not (is_object (with_struct s.layout d) (Struct d.name))) Large (Ruled d)))
+    (refuse (not (is_object (with_struct s.layout d) (Struct d.name))) Large
+    (Ruled (record s { layout = with_struct s.layout d }))))
 
-abbrev pub complete : Option Name → StructDef → Scope → Scope
-complete x d s = record s { layout = with_struct s.layout d; unnamed = if is_none x then s.unnamed + 1 else s.unnamed }
+-- a struct without a tag counts
+abbrev pub counted : Option Name → Scope → Scope
+counted x s = record s { unnamed = if is_none x then s.unnamed + 1 else s.unnamed }
 
--- an enum's body: its tag is new
-abbrev pub is_tagged : Scope → Option Name → Bool
-is_tagged s None = false
-is_tagged s (Some x) = is_some (s.tags x)
+-- a struct by its tag, which is no enum's
+abbrev pub struct_tag : Name → Scope → Ruling (CType × Scope)
+struct_tag x s = refuse (is_enum_tag (s.tags x)) Twice (Ruled (Struct x, mention (Some x) s))
 
-abbrev pub enumerated : Scope → Option Name → Ruling CType
-enumerated s x = refuse (is_tagged s x) Twice (Ruled (Integer Int))
+-- a struct with its members
+abbrev pub struct_body : Option Name → List Member → Scope → Ruling (CType × Scope)
+struct_body x ms s =
+    let x' = tag_name s.unnamed x in
+    defined (record { name = x'; members = ms }) s >=> λ t. Ruled (Struct x', counted x t)
+
+-- an enum by its tag, which is declared
+abbrev pub enum_tag : Name → Scope → Ruling CType
+enum_tag x s = refuse (not (is_enum_tag (s.tags x))) Unknown (Ruled (Integer Int))
+
+abbrev pub is_tagged : Option Name → Scope → Bool
+is_tagged None s = false
+is_tagged (Some x) s = is_some (s.tags x)
 
 abbrev pub enumerate : Option Name → Scope → Scope
 enumerate None s = s
 enumerate (Some x) s = with_tag EnumTag x s
 
--- an enumerator: its name is new in its block, and its value is an int
-abbrev pub enumerator : Scope → Name → ℤ → Ruling ℤ
-enumerator s x n =
+-- an enum with its enumerators: its tag is new
+abbrev pub enum_body : Option Name → Scope → Ruling (CType × Scope)
+enum_body x s = refuse (is_tagged x s) Twice (Ruled (Integer Int, enumerate x s))
+
+-- an enumerator: its name is new in its block, and its value is an int; with the value of the next one
+abbrev pub enumerator : Name → ℤ → Scope → Ruling (ℤ × Scope)
+enumerator x n s =
     refuse (is_declared_here s.blocks x) Twice
-    (refuse (not (is_of_type s.layout.target Int n)) Mismatch (Ruled n))
+    (refuse (not (is_of_type s.layout.target Int n)) Mismatch
+    (Ruled (n +ℤ pos 1, declare x (Enumerator n) s)))

@@ -11,8 +11,8 @@ use Rattle.c_values.specs.Types.{IntType, Int, CType, Integer, Ptr, Struct, Arra
 use Rattle.c_values.specs.Growth.{struct_named}
 use Rattle.c_values.specs.Layout.{Layout, Member, StructDef, is_object, size_of}
 use Rattle.c_types.specs.declared.fault.TypeKind.TheVariants.{Unknown, Mismatch, NotLvalue, Incomplete, OutOfSubset}
-use Rattle.c_types.specs.Scope.{Scope, Entity, Enumerator, Global, Function, Local, Hidden, entity, declare}
-use Rattle.c_types.specs.Checked.{Judgement, pure, rule, changed, after, ◌>>=◌, Ruling, Ruled, Refused, refuse, ◌>=>◌}
+use Rattle.c_types.specs.Scope.{Scope, Entity, Enumerator, Global, Function, Local, Hidden, entity}
+use Rattle.c_types.specs.Checked.{Judgement, pure, rule, changed, after, declares, ◌>>=◌, Ruling, Ruled, Refused, refuse, ◌>=>◌}
 use Rattle.c_types.specs.Integers.{number_type}
 use Rattle.c_types.specs.Constant.{constant_value}
 use Rattle.c_types.specs.Operand.{Operand, Valued, Variable, At, Demand, ForValue, ForElement, ForPlace, value_in, operand_type, operand_has_cast, used, place_then, is_array}
@@ -78,43 +78,64 @@ abbrev pub number_at : ℕ → Option IntType → Ruling Operand
 number_at n None = Refused Mismatch
 number_at n (Some i) = Ruled (Valued (C.Constant i (pos n)))
 
--- a pointer to an object is followed
+-- the object that a pointer points to
+abbrev pub target : Layout → CType → Ruling CType
+target l (Ptr t) = refuse (not (is_object l t)) Incomplete (Ruled t)
+target l _ = Refused Mismatch
+
 abbrev pub followed : Layout → C.Expr → CType → Ruling C.Place
-followed l e (Ptr t) = refuse (not (is_object l t)) Incomplete (Ruled (C.Through t e C.Here t))
-followed l e _ = Refused Mismatch
+followed l e p = target l p >=> λ t. Ruled (C.Through t e C.Here t)
 
 -- `p[i]` is `*(p + i)`
 abbrev pub stepped : Layout → C.Expr → C.Expr → CType → Ruling C.Place
-stepped l e i (Ptr t) =
-    refuse (not (is_object l t)) Incomplete
-    (refuse (not (is_integer (C.type_of i))) Mismatch (Ruled (C.Through t (C.Move C.Plus t e i) C.Here t)))
-stepped l e i _ = Refused Mismatch
+stepped l e i p =
+    target l p >=> λ t.
+    refuse (not (is_integer (C.type_of i))) Mismatch (Ruled (C.Through t (C.Move C.Plus t e i) C.Here t))
 
--- an element of an array
-abbrev pub indexed : Layout → Operand → C.Expr → CType → Ruling C.Place
-indexed l (At p) i (Array t n) =
-    refuse (not (is_integer (C.type_of i))) Mismatch (Ruled (place_then p (C.Element n i C.Here) t))
-indexed l a i t = stepped l (value_in a) i t
+-- an element of an array place
+abbrev pub element_at : C.Place → C.Expr → CType → ℕ → Ruling C.Place
+element_at p i t n = refuse (not (is_integer (C.type_of i))) Mismatch (Ruled (place_then p (C.Element n i C.Here) t))
 
--- the number of a member among others, and its type
-abbrev pub member_at : ℕ → List Member → Name → Option (ℕ × CType)
-member_at k [] x = None
-member_at k (m ∷ ms) x = if same_name m.name x then Some (k, m.type) else member_at (k + 1) ms x
+abbrev pub array_of : CType → Option (CType × ℕ)
+array_of (Array t n) = Some (t, n)
+array_of _ = None
 
-abbrev pub member_of : Layout → Name → Name → Option (ℕ × CType)
-member_of l s x = option_and_then (λ d. member_at 0 d.members x) (struct_named l.structs s)
+abbrev pub indexed_at : Layout → C.Place → C.Expr → Option (CType × ℕ) → Ruling C.Place
+indexed_at l p i (Some a) = element_at p i a.0 a.1
+indexed_at l p i None = stepped l (C.Value p) i (C.place_type p)
 
-abbrev pub member_place : C.Place → Option (ℕ × CType) → Ruling C.Place
-member_place p None = Refused Unknown
-member_place p (Some m) = Ruled (place_then p (C.Member m.0 C.Here) m.1)
+-- `a[i]`: an element of an array place, or `*(a + i)`
+abbrev pub indexed : Layout → Operand → C.Expr → Ruling C.Place
+indexed l (At p) i = indexed_at l p i (array_of (C.place_type p))
+indexed l a i = stepped l (value_in a) i (C.type_of (value_in a))
+
+-- the number of the first member of a name, and its type
+abbrev pub member_from : ℕ → List Member → Name → Ruling (ℕ × CType)
+member_from k [] x = Refused Unknown
+member_from k (m ∷ ms) x = if same_name m.name x then Ruled (k, m.type) else member_from (k + 1) ms x
+
+abbrev pub member_among : List Member → Name → Ruling (ℕ × CType)
+member_among ms x = member_from 0 ms x
+
+abbrev pub member_in_struct : Option StructDef → Name → Ruling (ℕ × CType)
+member_in_struct None x = Refused Unknown
+member_in_struct (Some d) x = member_among d.members x
+
+abbrev pub member_of : Layout → Name → CType → Ruling (ℕ × CType)
+member_of l x (Struct s) = member_in_struct (struct_named l.structs s) x
+member_of l x _ = Refused Mismatch
 
 -- a member of a struct that lies at a place
-abbrev pub member_in : Layout → Name → C.Place → CType → Ruling C.Place
-member_in l x p (Struct s) = member_place p (member_of l s x)
-member_in l x p _ = Refused Mismatch
+abbrev pub member_in : Layout → Name → C.Place → Ruling C.Place
+member_in l x p =
+    member_of l x (C.place_type p) >=> λ m. Ruled (place_then p (C.Member m.0 C.Here) m.1)
+
+-- a member of what a pointer points to
+abbrev pub pointer_member : Layout → Name → C.Expr → Ruling C.Place
+pointer_member l x e = followed l e (C.type_of e) >=> member_in l x
 
 abbrev pub member_of_operand : Layout → Name → Operand → Ruling C.Place
-member_of_operand l x (At p) = member_in l x p (C.place_type p)
+member_of_operand l x (At p) = member_in l x p
 member_of_operand l x _ = Refused Mismatch
 
 -- what a path ends with: nothing, a member, or an element, behind the path before it
@@ -189,11 +210,13 @@ constant_at at j =
     taken j >>= λ e. rule at (λ s. constant_of e (constant_value s.layout e)) >>= λ c. changed (note (has_cast e)) c
 
 -- of an integer type
-abbrev pub whole : Constant → Ruling ℤ
-whole c = refuse (not (is_integer c.type)) Mismatch (Ruled c.value)
+abbrev pub integer_of : C.Expr → Option ℤ → Ruling ℤ
+integer_of e None = Refused Mismatch
+integer_of e (Some n) = refuse (not (is_integer (C.type_of e))) Mismatch (Ruled n)
 
 abbrev pub integer_at : ℕ → Judgement Operand → Judgement ℤ
-integer_at at j = constant_at at j >>= λ c. rule at (λ s. whole c)
+integer_at at j =
+    taken j >>= λ e. rule at (λ s. integer_of e (constant_value s.layout e)) >>= λ n. changed (note (has_cast e)) n
 
 -- stars around a type; there is no pointer to an array
 abbrev pub starred : ℕ → CType → Ruling CType
@@ -211,12 +234,12 @@ abbrev mutual
   operand d (tree.Parenthesis at e) = operand d e
   operand d (tree.Index e i) =
       operand ForElement e >>= λ a. taken (operand ForValue i) >>= λ b.
-      rule (first e) (λ s. indexed s.layout a b (operand_type a) >=> used d)
+      rule (first e) (λ s. indexed s.layout a b >=> used d)
   operand d (tree.Member e x) =
       operand ForPlace e >>= λ a. rule (first e) (λ s. member_of_operand s.layout x a >=> used d)
   operand d (tree.PointerMember e x) =
       taken (operand ForValue e) >>= λ a.
-      rule (first e) (λ s. followed s.layout a (C.type_of a) >=> λ p. member_in s.layout x p (C.place_type p) >=> used d)
+      rule (first e) (λ s. pointer_member s.layout x a >=> used d)
   operand d (tree.Unary at op e) = operand (unary_demand op) e >>= λ a. rule at (λ s. unary d s.layout op a)
   operand d (tree.SizeofValue at e) =
       operand ForPlace e >>= λ a. rule at (λ s. size_constant s.layout (operand_type a)) >>= changed (note (operand_has_cast a))
@@ -243,15 +266,12 @@ abbrev mutual
   pub word : tree.Word → Judgement D.Part
   word (tree.Reserved at k) = pure (D.Word k)
   word (tree.Named at x) = rule at (λ s. option_map_or (λ t. Ruled (D.Type' t)) (s.typedefs x) (Refused Unknown))
-  word (tree.StructTag at x) =
-      rule at (λ s. D.struct_mentioned s x) >>= λ t. changed (D.mention (Some x)) (D.Type' t)
+  word (tree.StructTag at x) = declares at (D.struct_tag x) >>= λ t. pure (D.Type' t)
   word (tree.StructBody at x ms) =
-      after (D.mention x) (members [] ms) >>= λ list.
-      rule at (λ s. D.completed s (record { name = D.tag_name s.unnamed x; members = list })) >>= λ d.
-      changed (D.complete x d) (D.Type' (Struct d.name))
-  word (tree.EnumTag at x) = rule at (λ s. D.enum_mentioned s x) >>= λ t. pure (D.Type' t)
+      after (D.mention x) (members [] ms) >>= λ list. declares at (D.struct_body x list) >>= λ t. pure (D.Type' t)
+  word (tree.EnumTag at x) = rule at (D.enum_tag x) >>= λ t. pure (D.Type' t)
   word (tree.EnumBody at x es) =
-      enumerators (pos 0) es >>= λ _. rule at (λ s. D.enumerated s x) >>= λ t. changed (D.enumerate x) (D.Type' t)
+      enumerators (pos 0) es >>= λ _. declares at (D.enum_body x) >>= λ t. pure (D.Type' t)
 
   -- behind the members before them
   pub members : List Member → tree.Members → Judgement (List Member)
@@ -285,11 +305,9 @@ abbrev mutual
 
   -- the value behind it
   pub enumerator : ℤ → tree.Enumerator → Judgement ℤ
-  enumerator n (tree.Implicit at x) =
-      rule at (λ s. D.enumerator s x n) >>= λ k. changed (declare x (Enumerator k)) (k +ℤ pos 1)
+  enumerator n (tree.Implicit at x) = declares at (D.enumerator x n)
   enumerator n (tree.Explicit at x e) =
-      integer_at (first e) (operand ForValue e) >>= λ m.
-      rule at (λ s. D.enumerator s x m) >>= λ k. changed (declare x (Enumerator k)) (k +ℤ pos 1)
+      integer_at (first e) (operand ForValue e) >>= λ m. declares at (D.enumerator x m)
 
 -- the value of an expression
 abbrev pub value : tree.Exp → Judgement C.Expr

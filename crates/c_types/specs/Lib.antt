@@ -15,6 +15,9 @@ pub mod CodeProgress
 pub mod CodeScope
 pub mod Answers
 pub mod CodeForm
+pub mod CodeOperand
+pub mod CodeWords
+pub mod CodeConstant
 pub mod CodeCalls
 pub mod CodeStatements
 pub mod CodeDeclared

@@ -1,10 +1,10 @@
 -- What an expression is before its value is taken: a value, a local, or a place in memory (C99 6.3.2.1). A value of an array
 -- place is a pointer to its first element; arrays in globals have no address in the subset, and are only indexed.
-use Rattle.std.specs.Prelude.{Bool, true, false}
+use Rattle.std.specs.Prelude.{Bool, true, false, if◌then◌else◌}
 use Rattle.c_values.specs.Name.{Name}
 use Rattle.c_values.specs.Types.{CType, Array}
 use Rattle.c_types.specs.declared.fault.TypeKind.TheVariants.{NotLvalue, OutOfSubset}
-use Rattle.c_types.specs.Checked.{Ruling, Ruled, Refused}
+use Rattle.c_types.specs.Checked.{Ruling, Ruled, Refused, refuse}
 use Rattle.c_types.specs.Cast.{has_cast, place_has_cast}
 use Rattle.c_types.specs.Typed as C
 
@@ -45,25 +45,31 @@ abbrev pub is_array : CType → Bool
 is_array (Array t n) = true
 is_array _ = false
 
--- an array of these elements through a pointer, in value use: there is no pointer to an array
-abbrev pub decayed : C.Place → CType → Ruling Operand
-decayed p (Array t n) = Refused OutOfSubset
-decayed p t = Ruled (Valued (C.Decay p t))
+-- what an array is of; any other type itself
+abbrev pub first_element : CType → CType
+first_element (Array t n) = t
+first_element t = t
+
+abbrev pub is_in_global : C.Place → Bool
+is_in_global (C.InGlobal x path t) = true
+is_in_global (C.Through r p path t) = false
+
+-- an array of these elements through a pointer: its value is a pointer to the first, and there is no pointer to an array
+abbrev pub decays : Demand → C.Place → CType → Ruling Operand
+decays ForValue p t = refuse (is_array t) OutOfSubset (Ruled (Valued (C.Decay p t)))
+decays _ p t = Ruled (At p)
 
 -- an array place as an operand that isn't indexed
-abbrev pub array_used : Demand → C.Place → CType → Ruling Operand
-array_used d (C.InGlobal x path u) t = Refused OutOfSubset
-array_used ForValue (C.Through r p path u) t = decayed (C.Through r p path u) t
-array_used d (C.Through r p path u) t = Ruled (At (C.Through r p path u))
+abbrev pub array_used : Demand → C.Place → Ruling Operand
+array_used d p = refuse (is_in_global p) OutOfSubset (decays d p (first_element (C.place_type p)))
 
--- a place as an operand, by the type that lies there
-abbrev pub used_at : Demand → C.Place → CType → Ruling Operand
-used_at ForElement p t = Ruled (At p)
-used_at d p (Array t n) = array_used d p t
-used_at d p t = Ruled (At p)
+abbrev pub used_unindexed : Demand → C.Place → Ruling Operand
+used_unindexed d p = if is_array (C.place_type p) then array_used d p else Ruled (At p)
 
+-- a place as an operand
 abbrev pub used : Demand → C.Place → Ruling Operand
-used d p = used_at d p (C.place_type p)
+used ForElement p = Ruled (At p)
+used d p = used_unindexed d p
 
 -- the place that a path's last step leads to, with the type there
 abbrev pub path_then : C.Path → C.Path → C.Path

@@ -71,7 +71,7 @@ fn path_has_cast(path: &Path) -> bool
 
 // Whether a conversion to a type from another is one to a pointer to a type that isn't void.
 fn casts_to(to: &CType, from: Form<'_>) -> bool
-    ensures { result ≡ casts.casts_to (type_of to.now) (form_type from) }
+    ensures { result ≡ casts.casts_to (type_of to.now) (form_type from.entry) }
 {
     match form_of(to) {
         Form::Pointer(inner) => !is_void(inner) && !is_pointer_to(from, inner),
@@ -85,7 +85,7 @@ fn is_void(t: &CType) -> bool {
 
 // Whether a type is the pointer to another.
 fn is_pointer_to(t: Form<'_>, inner: &CType) -> bool
-    ensures { result ≡ types.same_type (types.Ptr (type_of inner.now)) (form_type t) }
+    ensures { result ≡ types.same_type (types.Ptr (type_of inner.now)) (form_type t.entry) }
 {
     match t {
         Form::Pointer(other) => is_same(inner, other),

@@ -16,8 +16,9 @@ use crate::folding::{
     number_at, shifted, truth,
 };
 use crate::operands::type_of;
+use crate::operators::is_void_pointer;
 use crate::typed::{Expr, Path, Place, Sign};
-use crate::types::is_integer;
+use crate::types::{form_of, is_integer};
 use c_values::{CType, Layout, Number, PathStep, is_object, step_into};
 
 /// The value of a constant expression.
@@ -53,8 +54,7 @@ fn is_void_zero(l: &Layout, e: &Expr) -> bool
     ensures { result ≡ operators.is_void_zero l.now (expr_of e.now) }
 {
     match e {
-        Expr::ConvertNull(CType::Ptr(inner), a) => matches!(**inner, CType::Void)
-            && is_zero(l, &**a),
+        Expr::ConvertNull(ty, a) => is_void_pointer(form_of(ty)) && is_zero(l, &**a),
         _ => false,
     }
 }
@@ -183,7 +183,7 @@ fn address(l: &Layout, place: &Place) -> Option<Number>
 // Where a path leads from an address of a type.
 #[cycle(folded)]
 fn reached(l: &Layout, path: &Path, ty: &CType, from: Number) -> Option<Number>
-    ensures { result ≡ constants.reached l.now (path_of path.now) (constants.object_shape l.now (type_of ty.now)) from }
+    ensures { result ≡ constants.reached l.now (path_of path.now) (shape_of l.now (type_of ty.now)) from }
 {
     match path {
         Path::Here => Some(from),
@@ -192,17 +192,27 @@ fn reached(l: &Layout, path: &Path, ty: &CType, from: Number) -> Option<Number>
             reached(l, &**further, part, moved_by(l, from, offset))
         }
         Path::Element(_, index, further) => {
-            let k = index_in(folded(l, &**index)?)?;
-            let (offset, part) = part_at(l, ty, PathStep::Index(k))?;
+            let (offset, part) = element_at(l, ty, folded(l, &**index)?)?;
             reached(l, &**further, part, moved_by(l, from, offset))
         }
+    }
+}
+
+// The element of an array at an index: its offset, and its type.
+fn element_at<'a>(l: &'a Layout, ty: &'a CType, index: Number) -> Option<(u32, &'a CType)>
+    ensures { option_map (λ r. record { offset = pos r.0; shape = shape_of l.now (type_of r.1.now) }) result
+        ≡ constants.element_into (shape_of l.now (type_of ty.now)) index }
+{
+    match index_in(index) {
+        Some(k) => part_at(l, ty, PathStep::Index(k)),
+        None => None,
     }
 }
 
 // The part of an object that one step leads to: its offset, and its type.
 fn part_at<'a>(l: &'a Layout, ty: &'a CType, step: PathStep) -> Option<(u32, &'a CType)>
     ensures { option_map (λ r. record { offset = pos r.0; shape = shape_of l.now (type_of r.1.now) }) result
-        ≡ step_into (constants.object_shape l.now (type_of ty.now)) (step_of step) }
+        ≡ step_into (constants.object_in (shape_of l.now (type_of ty.now))) (step_of step) }
 {
     if is_object(l, ty) {
         step_into(l, ty, step)

@@ -1,28 +1,43 @@
 //! Expressions, and the types, members, enumerators and lengths that stand among them.
 
-use crate::addresses::{addressed, followed, indexed, member_in, member_of_operand};
+ghost use Rattle.std.specs.Prelude.{◌≡◌, [], pos};
+ghost use Rattle.c_grammar.specs.Tree as tree;
+ghost use Rattle.c_grammar.specs.View as view;
+ghost use Rattle.c_values.specs.CodeTypes.{type_of};
+ghost use Rattle.c_types.specs.Answers.{Answers, RulesAs};
+ghost use Rattle.c_types.specs.CodeConstant.{constant_of};
+ghost use Rattle.c_types.specs.CodeOperand.{operand_of, demand_of};
+ghost use Rattle.c_types.specs.CodeScope.{scope_of};
+ghost use Rattle.c_types.specs.CodeWords.{part_of, base_of, declared_of, members_of};
+ghost use Rattle.c_types.specs.Constant as constants;
+ghost use Rattle.c_types.specs.Expressions as expressions;
+ghost use Rattle.c_types.specs.View.{expr_of};
+
 use crate::casts::{has_cast, operand_has_cast};
 use crate::constants::constant_value;
 use crate::declarators::{Declared, declarator_start, declared_type, length_at};
 use crate::fault::{TypeFault, TypeKind};
-use crate::integers::number_type;
-use crate::operands::{Demand, Operand, operand_type, type_of, used, value_in};
-use crate::operators::{binary, cast, chosen, complemented, inverted, kept, negated};
+use crate::members::Fields;
+use crate::nodes::{
+    binary_operand, cast_operand, character, chosen_operand, element, member, number,
+    pointer_member, size_constant, size_of_operand, unary, unary_demand, variable,
+};
+use crate::operands::{Demand, Operand, type_of, value_in};
 use crate::rulings::{Refusal, at_node, refuse};
-use crate::scope::{Entity, Scope};
+use crate::scope::Scope;
 use crate::specifiers::{Base, Part, Specs, named_part, pointers, type_start, words_start};
-use crate::tags::Fields;
-use crate::typed::{Expr, Path, Place};
-use crate::types::{Form, copy_of, formed, is_integer, points_to_array};
-use c_grammar::UnaryOperator;
+use crate::typed::Expr;
+use crate::types::{formed, is_integer, points_to_array};
 use c_grammar::tree::{
     CExp, Declarator, Declarators, Dimensions, Enumerator, Enumerators, Members, Word, Words,
 };
-use c_values::{CType, IntType, Layout, Number, Target, is_object, size_of};
+use c_values::{CType, Layout, Number};
 use std::alloc::Global;
 
 /// Where an expression begins.
-pub(crate) fn first(e: &CExp) -> usize {
+pub(crate) fn first(e: &CExp) -> usize
+    ensures { result ≡ expressions.first (view.exp_of e.now) }
+{
     let mut left = e;
     loop {
         match left {
@@ -44,13 +59,17 @@ pub(crate) fn first(e: &CExp) -> usize {
 }
 
 /// The value of an expression.
-pub(crate) fn value(alloc: Global, e: &CExp, scope: &mut Scope) -> Result<Expr, TypeFault> {
+pub(crate) fn value(alloc: Global, e: &CExp, scope: &mut Scope) -> Result<Expr, TypeFault>
+    ensures { Answers expr_of (scope_of scope.new) result (expressions.value (view.exp_of e.now) (scope_of scope.old)) }
+{
     let operand = operand(alloc, e, scope, Demand::Value)?;
     Ok(value_in(alloc, operand)?)
 }
 
 /// An operand that stays a place, as of `=`, `++` and `--`.
-pub(crate) fn place(alloc: Global, e: &CExp, scope: &mut Scope) -> Result<Operand, TypeFault> {
+pub(crate) fn place(alloc: Global, e: &CExp, scope: &mut Scope) -> Result<Operand, TypeFault>
+    ensures { Answers operand_of (scope_of scope.new) result (expressions.place (view.exp_of e.now) (scope_of scope.old)) }
+{
     operand(alloc, e, scope, Demand::Place)
 }
 
@@ -62,14 +81,18 @@ pub(crate) struct Evaluated {
 }
 
 /// A constant expression.
-pub(crate) fn constant(alloc: Global, e: &CExp, scope: &mut Scope) -> Result<Evaluated, TypeFault> {
+pub(crate) fn constant(alloc: Global, e: &CExp, scope: &mut Scope) -> Result<Evaluated, TypeFault>
+    ensures { Answers constant_of (scope_of scope.new) result (expressions.constant (view.exp_of e.now) (scope_of scope.old)) }
+{
     let e_value = value(alloc, e, scope)?;
-    let constant = at_node(first(e), constant_of(alloc, &scope.layout, &e_value))?;
+    let constant = at_node(first(e), constant_in(alloc, &scope.layout, &e_value))?;
     scope.note(has_cast(&e_value));
     Ok(constant)
 }
 
-fn constant_of(alloc: Global, l: &Layout, e: &Expr) -> Result<Evaluated, Refusal> {
+fn constant_in(alloc: Global, l: &Layout, e: &Expr) -> Result<Evaluated, Refusal>
+    ensures { RulesAs constant_of result (expressions.constant_of (expr_of e.now) (constants.constant_value l.now (expr_of e.now))) }
+{
     match constant_value(l, e) {
         Some(value) => Ok(Evaluated {
             ty: formed(alloc, type_of(e))?,
@@ -85,7 +108,9 @@ pub(crate) fn integer_constant(
     alloc: Global,
     e: &CExp,
     scope: &mut Scope,
-) -> Result<Number, TypeFault> {
+) -> Result<Number, TypeFault>
+    ensures { Answers (λ n. n) (scope_of scope.new) result (expressions.integer_constant (view.exp_of e.now) (scope_of scope.old)) }
+{
     let operand = operand(alloc, e, scope, Demand::Value)?;
     let e_value = value_in(alloc, operand)?;
     let n = at_node(first(e), integer_of(&scope.layout, &e_value))?;
@@ -93,7 +118,9 @@ pub(crate) fn integer_constant(
     Ok(n)
 }
 
-fn integer_of(l: &Layout, e: &Expr) -> Result<Number, Refusal> {
+fn integer_of(l: &Layout, e: &Expr) -> Result<Number, Refusal>
+    ensures { RulesAs (λ n. n) result (expressions.integer_of (expr_of e.now) (constants.constant_value l.now (expr_of e.now))) }
+{
     match constant_value(l, e) {
         Some(n) => {
             refuse(!is_integer(type_of(e)), TypeKind::Mismatch)?;
@@ -103,16 +130,11 @@ fn integer_of(l: &Layout, e: &Expr) -> Result<Number, Refusal> {
     }
 }
 
-impl Scope {
-    // Of what only a value is left, a conversion is noted.
-    pub(crate) fn note(&mut self, has_cast: bool) {
-        self.folds_cast = self.folds_cast || has_cast;
-    }
-}
-
 /// A type, and whether `static` or `extern` stands beside it.
 #[cycle(expression)]
-pub(crate) fn base(alloc: Global, words: &Words, scope: &mut Scope) -> Result<Base, TypeFault> {
+pub(crate) fn base(alloc: Global, words: &Words, scope: &mut Scope) -> Result<Base, TypeFault>
+    ensures { Answers base_of (scope_of scope.new) result (expressions.base (view.words_of words.now) (scope_of scope.old)) }
+{
     let mut specs = Specs::none();
     let mut rest = words;
     while let Words::More(first, more) = rest {
@@ -124,28 +146,32 @@ pub(crate) fn base(alloc: Global, words: &Words, scope: &mut Scope) -> Result<Ba
 }
 
 #[cycle(expression)]
-fn word(alloc: Global, word: &Word, scope: &mut Scope) -> Result<Part, TypeFault> {
+fn word(alloc: Global, word: &Word, scope: &mut Scope) -> Result<Part, TypeFault>
+    ensures { Answers part_of (scope_of scope.new) result (expressions.word (view.word_of word.now) (scope_of scope.old)) }
+{
     match word {
         Word::Reserved(_, keyword) => Ok(Part::Word(*keyword)),
         Word::Named(at, name) => at_node(*at, named_part(alloc, scope.typedefs.get(name.as_str()))),
         Word::StructTag(at, tag) => {
-            let ty = at_node(*at, scope.struct_mentioned(alloc, tag.as_str()))?;
-            scope.mention(alloc, Some(tag.as_str()))?;
+            let ty = at_node(*at, scope.struct_tag(alloc, tag.as_str()))?;
             Ok(Part::Type(ty))
         }
         Word::StructBody(at, tag, body) => {
-            let tag = text_of(tag);
-            scope.mention(alloc, tag)?;
+            scope.mention(alloc, text_of(tag))?;
             let fields = members(alloc, &**body, scope)?;
-            let ty = at_node(*at, scope.complete(alloc, tag, fields.into_members()))?;
+            let ty = at_node(
+                *at,
+                scope.struct_body(alloc, text_of(tag), fields.into_members()),
+            )?;
             Ok(Part::Type(ty))
         }
         Word::EnumTag(at, tag) => {
-            Ok(Part::Type(at_node(*at, scope.enum_mentioned(tag.as_str()))?))
+            let ty = at_node(*at, scope.enum_tag(tag.as_str()))?;
+            Ok(Part::Type(ty))
         }
         Word::EnumBody(at, tag, body) => {
-            enumerators(alloc, &**body, scope)?;
-            let ty = at_node(*at, scope.enumerate(alloc, text_of(tag)))?;
+            let _ = enumerators(alloc, &**body, scope)?;
+            let ty = at_node(*at, scope.enum_body(alloc, text_of(tag)))?;
             Ok(Part::Type(ty))
         }
     }
@@ -159,19 +185,21 @@ fn text_of(name: &Option<String>) -> Option<&str> {
 }
 
 #[cycle(expression)]
-fn members(alloc: Global, members: &Members, scope: &mut Scope) -> Result<Fields, TypeFault> {
+fn members(alloc: Global, members: &Members, scope: &mut Scope) -> Result<Fields, TypeFault>
+    ensures { Answers members_of (scope_of scope.new) result
+        (expressions.members [] (view.members_of members.now) (scope_of scope.old)) }
+{
     let mut fields = Fields::none(alloc);
     let mut rest = members;
     loop {
         match rest {
             Members::Last(words, declared) => {
-                let ty = base(alloc, &**words, scope)?.ty;
-                declarators(alloc, &**declared, scope, &ty, &mut fields)?;
-                return Ok(fields);
+                let base = base(alloc, &**words, scope)?;
+                return declarators(alloc, &**declared, scope, &base.ty, fields);
             }
             Members::More(words, declared, more) => {
-                let ty = base(alloc, &**words, scope)?.ty;
-                declarators(alloc, &**declared, scope, &ty, &mut fields)?;
+                let base = base(alloc, &**words, scope)?;
+                fields = declarators(alloc, &**declared, scope, &base.ty, fields)?;
                 rest = &**more;
             }
         }
@@ -184,8 +212,12 @@ fn declarators(
     declared: &Declarators,
     scope: &mut Scope,
     ty: &CType,
-    fields: &mut Fields,
-) -> Result<(), TypeFault> {
+    fields: Fields,
+) -> Result<Fields, TypeFault>
+    ensures { Answers members_of (scope_of scope.new) result
+        (expressions.declarators (type_of ty.now) (members_of fields) (view.declarators_of declared.now) (scope_of scope.old)) }
+{
+    let mut fields = fields;
     let mut rest = declared;
     loop {
         match rest {
@@ -195,7 +227,7 @@ fn declarators(
             }
             Declarators::More(next, more) => {
                 let member = declarator(alloc, &**next, scope, ty)?;
-                at_node(member.at, fields.join(&scope.layout, member))?;
+                fields = at_node(member.at, fields.join(&scope.layout, member))?;
                 rest = &**more;
             }
         }
@@ -209,7 +241,9 @@ pub(crate) fn declarator(
     declarator: &Declarator,
     scope: &mut Scope,
     ty: &CType,
-) -> Result<Declared, TypeFault> {
+) -> Result<Declared, TypeFault>
+    ensures { Answers declared_of (scope_of scope.new) result (expressions.declarator (type_of ty.now) (view.declarator_of declarator.now) (scope_of scope.old)) }
+{
     let Declarator::Declare(stars, at, name, dimensions) = declarator;
     let lengths = lengths(alloc, &**dimensions, scope)?;
     Ok(Declared {
@@ -220,11 +254,9 @@ pub(crate) fn declarator(
 }
 
 #[cycle(expression)]
-fn lengths(
-    alloc: Global,
-    dimensions: &Dimensions,
-    scope: &mut Scope,
-) -> Result<Vec<u32>, TypeFault> {
+fn lengths(alloc: Global, dimensions: &Dimensions, scope: &mut Scope) -> Result<Vec<u32>, TypeFault>
+    ensures { Answers (λ v. v.items) (scope_of scope.new) result (expressions.dimensions [] (view.dimensions_of dimensions.now) (scope_of scope.old)) }
+{
     let mut lengths = Vec::new(alloc);
     let mut rest = dimensions;
     while let Dimensions::More(length, more) = rest {
@@ -235,20 +267,21 @@ fn lengths(
     Ok(lengths)
 }
 
+// The value behind the last one.
 #[cycle(expression)]
 fn enumerators(
     alloc: Global,
     enumerators: &Enumerators,
     scope: &mut Scope,
-) -> Result<(), TypeFault> {
+) -> Result<Number, TypeFault>
+    ensures { Answers (λ n. n) (scope_of scope.new) result
+        (expressions.enumerators (pos 0) (view.enumerators_of enumerators.now) (scope_of scope.old)) }
+{
     let mut next = Number::new(false, 0);
     let mut rest = enumerators;
     loop {
         match rest {
-            Enumerators::Last(last) => {
-                let _ = enumerator(alloc, &**last, scope, next)?;
-                return Ok(());
-            }
+            Enumerators::Last(last) => return enumerator(alloc, &**last, scope, next),
             Enumerators::More(first, more) => {
                 next = enumerator(alloc, &**first, scope, next)?;
                 rest = &**more;
@@ -263,12 +296,18 @@ fn enumerator(
     enumerator: &Enumerator,
     scope: &mut Scope,
     next: Number,
-) -> Result<Number, TypeFault> {
+) -> Result<Number, TypeFault>
+    ensures { Answers (λ n. n) (scope_of scope.new) result
+        (expressions.enumerator next (view.enumerator_of enumerator.now) (scope_of scope.old)) }
+{
     match enumerator {
-        Enumerator::Implicit(at, name) => scope.enumerator(alloc, *at, name.as_str(), next),
+        Enumerator::Implicit(at, name) => at_node(
+            *at,
+            scope.enumerator(alloc, name.as_str(), next),
+        ),
         Enumerator::Explicit(at, name, value) => {
             let n = integer_constant(alloc, &**value, scope)?;
-            scope.enumerator(alloc, *at, name.as_str(), n)
+            at_node(*at, scope.enumerator(alloc, name.as_str(), n))
         }
     }
 }
@@ -279,14 +318,18 @@ fn type_name(
     alloc: Global,
     words: &Words,
     scope: &mut Scope,
-    stars: usize,
-) -> Result<CType, TypeFault> {
+    stars: &[usize],
+) -> Result<CType, TypeFault>
+    ensures { Answers type_of (scope_of scope.new) result (expressions.type_name (tree.Typed (view.words_of words.now) stars.now) (scope_of scope.old)) }
+{
     let base = base(alloc, words, scope)?;
-    at_node(words_start(words), starred(alloc, stars, base.ty))
+    at_node(words_start(words), starred(alloc, stars.len(), base.ty))
 }
 
 // Stars around a type; there is no pointer to an array.
-fn starred(alloc: Global, stars: usize, ty: CType) -> Result<CType, Refusal> {
+fn starred(alloc: Global, stars: usize, ty: CType) -> Result<CType, Refusal>
+    ensures { RulesAs type_of result (expressions.starred stars (type_of ty)) }
+{
     let ty = pointers(alloc, stars, ty)?;
     refuse(points_to_array(&ty), TypeKind::OutOfSubset)?;
     Ok(ty)
@@ -294,12 +337,9 @@ fn starred(alloc: Global, stars: usize, ty: CType) -> Result<CType, Refusal> {
 
 /// An operand.
 #[cycle(expression)]
-fn operand(
-    alloc: Global,
-    e: &CExp,
-    scope: &mut Scope,
-    demand: Demand,
-) -> Result<Operand, TypeFault> {
+fn operand(alloc: Global, e: &CExp, scope: &mut Scope, demand: Demand) -> Result<Operand, TypeFault>
+    ensures { Answers operand_of (scope_of scope.new) result (expressions.operand (demand_of demand) (view.exp_of e.now) (scope_of scope.old)) }
+{
     match e {
         CExp::Name(at, name) => at_node(*at, variable(alloc, scope, demand, name.as_str())),
         CExp::Number(at, n, decimal, unsigned, longs) => at_node(
@@ -336,19 +376,16 @@ fn operand(
         }
         CExp::SizeofValue(at, inner) => {
             let inner = operand(alloc, &**inner, scope, Demand::Place)?;
-            let size = at_node(
-                *at,
-                size_constant(&scope.layout, alloc, operand_type(&inner)),
-            )?;
+            let size = at_node(*at, size_of_operand(alloc, &scope.layout, &inner))?;
             scope.note(operand_has_cast(&inner));
             Ok(size)
         }
         CExp::SizeofType(at, words, stars) => {
-            let ty = type_name(alloc, &**words, scope, stars.len())?;
-            at_node(*at, size_constant_of(&scope.layout, &ty))
+            let ty = type_name(alloc, &**words, scope, stars.as_slice())?;
+            at_node(*at, size_constant(&scope.layout, &ty))
         }
         CExp::Cast(at, words, stars, inner) => {
-            let ty = type_name(alloc, &**words, scope, stars.len())?;
+            let ty = type_name(alloc, &**words, scope, stars.as_slice())?;
             let inner = operand(alloc, &**inner, scope, Demand::Value)?;
             at_node(*at, cast_operand(alloc, &scope.layout, ty, inner))
         }
@@ -370,161 +407,4 @@ fn operand(
             )
         }
     }
-}
-
-fn variable(alloc: Global, scope: &Scope, demand: Demand, name: &str) -> Result<Operand, Refusal> {
-    match scope.entity(name) {
-        None => Err(Refusal::Kind(TypeKind::Unknown)),
-        Some(Entity::Enumerator(n)) => Ok(Operand::Valued(Expr::Constant(IntType::Int, *n))),
-        Some(Entity::Global(ty)) => {
-            let ty = copy_of(alloc, ty)?;
-            let name = String::from_str(alloc, name)?;
-            used(
-                alloc,
-                demand,
-                Place::InGlobal(name, Box::new(alloc, Path::Here)?, ty),
-            )
-        }
-        Some(Entity::Local(own, ty)) => {
-            let own = String::from_str(alloc, own.as_str())?;
-            Ok(Operand::Variable(own, copy_of(alloc, ty)?))
-        }
-        Some(Entity::Function(_, _)) => Err(Refusal::Kind(TypeKind::Mismatch)),
-        Some(Entity::Hidden) => Err(Refusal::Kind(TypeKind::OutOfSubset)),
-    }
-}
-
-fn number(
-    target: Target,
-    n: u64,
-    decimal: bool,
-    unsigned: bool,
-    longs: u8,
-) -> Result<Operand, Refusal> {
-    match number_type(target, n, decimal, unsigned, longs) {
-        Some(ty) => Ok(Operand::Valued(Expr::Constant(ty, Number::new(false, u128::from(n))))),
-        None => Err(Refusal::Kind(TypeKind::Mismatch)),
-    }
-}
-
-fn character(c: u8) -> Operand {
-    Operand::Valued(Expr::Constant(IntType::Int, Number::new(false, u128::from(c))))
-}
-
-fn element(
-    alloc: Global,
-    l: &Layout,
-    demand: Demand,
-    array: Operand,
-    index: Operand,
-) -> Result<Operand, Refusal> {
-    let index = value_in(alloc, index)?;
-    let place = indexed(alloc, l, array, index)?;
-    used(alloc, demand, place)
-}
-
-fn member(
-    alloc: Global,
-    l: &Layout,
-    demand: Demand,
-    whole: Operand,
-    name: &str,
-) -> Result<Operand, Refusal> {
-    let place = member_of_operand(alloc, l, name, whole)?;
-    used(alloc, demand, place)
-}
-
-fn pointer_member(
-    alloc: Global,
-    l: &Layout,
-    demand: Demand,
-    pointer: Operand,
-    name: &str,
-) -> Result<Operand, Refusal> {
-    let whole = followed(alloc, l, value_in(alloc, pointer)?)?;
-    let place = member_in(alloc, l, name, whole)?;
-    used(alloc, demand, place)
-}
-
-fn unary_demand(op: UnaryOperator) -> Demand {
-    match op {
-        UnaryOperator::Address => Demand::Place,
-        UnaryOperator::Negate
-        | UnaryOperator::Plus
-        | UnaryOperator::Complement
-        | UnaryOperator::Not
-        | UnaryOperator::Dereference => Demand::Value,
-    }
-}
-
-fn unary(
-    alloc: Global,
-    l: &Layout,
-    demand: Demand,
-    op: UnaryOperator,
-    a: Operand,
-) -> Result<Operand, Refusal> {
-    match op {
-        UnaryOperator::Address => Ok(Operand::Valued(addressed(alloc, a)?)),
-        UnaryOperator::Dereference => {
-            let place = followed(alloc, l, value_in(alloc, a)?)?;
-            used(alloc, demand, place)
-        }
-        UnaryOperator::Negate => Ok(Operand::Valued(negated(alloc, value_in(alloc, a)?)?)),
-        UnaryOperator::Plus => Ok(Operand::Valued(kept(alloc, value_in(alloc, a)?)?)),
-        UnaryOperator::Complement => {
-            Ok(Operand::Valued(complemented(alloc, value_in(alloc, a)?)?))
-        }
-        UnaryOperator::Not => Ok(Operand::Valued(inverted(alloc, value_in(alloc, a)?)?)),
-    }
-}
-
-// The bytes of an object, a constant.
-fn size_constant_of(l: &Layout, ty: &CType) -> Result<Operand, Refusal> {
-    refuse(!is_object(l, ty), TypeKind::Incomplete)?;
-    let size = Number::new(false, u128::from(size_of(l, ty)));
-    Ok(Operand::Valued(Expr::Constant(size_type(l.target()), size)))
-}
-
-fn size_constant(l: &Layout, alloc: Global, form: Form<'_>) -> Result<Operand, Refusal> {
-    let ty = formed(alloc, form)?;
-    size_constant_of(l, &ty)
-}
-
-// The type of `sizeof`.
-fn size_type(target: Target) -> IntType {
-    match target {
-        Target::Ilp32 => IntType::UInt,
-        Target::Lp64 => IntType::ULong,
-    }
-}
-
-fn cast_operand(alloc: Global, l: &Layout, ty: CType, a: Operand) -> Result<Operand, Refusal> {
-    let a = value_in(alloc, a)?;
-    Ok(Operand::Valued(cast(alloc, l, ty, a)?))
-}
-
-fn binary_operand(
-    alloc: Global,
-    l: &Layout,
-    op: c_grammar::BinaryOperator,
-    left: Operand,
-    right: Operand,
-) -> Result<Operand, Refusal> {
-    let left = value_in(alloc, left)?;
-    let right = value_in(alloc, right)?;
-    Ok(Operand::Valued(binary(alloc, l, op, left, right)?))
-}
-
-fn chosen_operand(
-    alloc: Global,
-    l: &Layout,
-    test: Operand,
-    left: Operand,
-    right: Operand,
-) -> Result<Operand, Refusal> {
-    let test = value_in(alloc, test)?;
-    let left = value_in(alloc, left)?;
-    let right = value_in(alloc, right)?;
-    Ok(Operand::Valued(chosen(alloc, l, test, left, right)?))
 }

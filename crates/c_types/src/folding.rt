@@ -1,6 +1,6 @@
 //! The steps of constant expressions: numbers at their types, and none where a step is undefined.
 
-ghost use Rattle.std.specs.Prelude.{◌≡◌, ℕ, ◌^◌, ◌<◌, false, pos, int_lt, Some, IfNone, IfSome};
+ghost use Rattle.std.specs.Prelude.{◌≡◌, ◌^◌, ◌<◌, false, pos, int_lt, Some, IfNone, IfSome};
 ghost use Rattle.std.specs.Option.{option_map};
 ghost use Rattle.c_values.specs.CodeTypes.{int_type_of, type_of};
 ghost use Rattle.c_values.specs.CodeWord.{word_op_of};
@@ -313,10 +313,10 @@ pub(crate) fn moved_by(l: &Layout, from: Number, offset: u32) -> Number
 
 /// Which element an index is, as far as there are such.
 pub(crate) fn index_in(n: Number) -> Option<u32>
-    ensures none { IfNone result ((k : ℕ) → k < 2 ^ 32 → is_index n k ≡ false) }
-    ensures some { IfSome result (λ k. n ≡ pos k) }
+    ensures none { IfNone result (is_index n (2 ^ 32) ≡ false) }
+    ensures some { IfSome result (λ k. (n ≡ pos k) × (k < 2 ^ 32)) }
 {
-    if n.negative() || n.magnitude() >= u128::from(u32::MAX) {
+    if n.negative() || n.magnitude() > u128::from(u32::MAX) {
         None
     } else {
         Some(n.magnitude() as u32)

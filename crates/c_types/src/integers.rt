@@ -93,7 +93,6 @@ pub(crate) fn usual(target: Target, first: IntType, second: IntType) -> IntType
 }
 
 /// The type of a number: the first one that holds it, by whether it is decimal, whether it has a `u`, and how many `l`.
-#[tactic(auto, using(crate::proofs::Finding::find_seen))]
 pub(crate) fn number_type(
     target: Target,
     value: u64,

@@ -15,6 +15,8 @@ mod functions;
 mod globals;
 mod integers;
 mod locals;
+mod members;
+mod nodes;
 mod operands;
 mod operators;
 mod parameters;

@@ -115,6 +115,11 @@ impl Scope {
         Ok(())
     }
 
+    /// Of what only a value is left, a conversion is noted.
+    pub(crate) fn note(&mut self, has_cast: bool) {
+        self.folds_cast = self.folds_cast || has_cast;
+    }
+
     /// Begins a block.
     #[tactic(auto, using(crate::proofs::Blocks::blocks_behind))]
     pub(crate) fn open_block(&mut self, alloc: Global) -> Result<(), AllocError>

@@ -1,5 +1,14 @@
 //! The words of a type and of its storage: what they say, and which type that is.
 
+ghost use Rattle.std.specs.Prelude.{◌≡◌, IfOk};
+ghost use Rattle.std.specs.Option.{option_map};
+ghost use Rattle.c_grammar.specs.View.{word_of, words_of};
+ghost use Rattle.c_values.specs.CodeTypes.{int_type_of, type_of};
+ghost use Rattle.c_types.specs.Answers.{RulesAs};
+ghost use Rattle.c_types.specs.CodeWords.{part_of, named_of, specs_of, base_of, signedness_of};
+ghost use Rattle.c_types.specs.Declarations as declarations;
+ghost use Rattle.c_types.specs.Expressions as expressions;
+
 use crate::fault::TypeKind;
 use crate::rulings::Refusal;
 use crate::types::copy_of;
@@ -19,7 +28,9 @@ pub(crate) enum Times {
 
 impl Times {
     // Once more.
-    fn again(self) -> Times {
+    fn again(self) -> Times
+        ensures { result ≡ declarations.again self }
+    {
         match self {
             Times::Never => Times::Once,
             Times::Once => Times::Twice,
@@ -75,7 +86,9 @@ pub(crate) struct Base {
 
 impl Specs {
     /// Before the first word.
-    pub(crate) fn none() -> Specs {
+    pub(crate) fn none() -> Specs
+        ensures { specs_of result ≡ declarations.no_specs }
+    {
         Specs {
             integers: Integers {
                 chars: Times::Never,
@@ -93,14 +106,18 @@ impl Specs {
     }
 
     /// One word more.
-    pub(crate) fn with_part(self, part: Part) -> Specs {
+    pub(crate) fn with_part(self, part: Part) -> Specs
+        ensures { specs_of result ≡ declarations.with_part (specs_of self) (part_of part) }
+    {
         match part {
             Part::Word(keyword) => self.with_keyword(keyword),
             Part::Type(ty) => self.with_type(ty),
         }
     }
 
-    fn with_type(self, ty: CType) -> Specs {
+    fn with_type(self, ty: CType) -> Specs
+        ensures { specs_of result ≡ declarations.with_type (specs_of self) (type_of ty) }
+    {
         Specs {
             integers: self.integers,
             has_integers: self.has_integers,
@@ -110,35 +127,70 @@ impl Specs {
         }
     }
 
-    fn with_keyword(self, keyword: Keyword) -> Specs {
+    fn with_keyword(self, keyword: Keyword) -> Specs
+        ensures { specs_of result ≡ declarations.with_keyword (specs_of self) keyword }
+    {
+        let n = self.integers;
         match keyword {
+            Keyword::Char => self.with_integers(Integers {
+                chars: n.chars.again(),
+                ..n
+            }),
+            Keyword::Short => self.with_integers(Integers {
+                shorts: n.shorts.again(),
+                ..n
+            }),
+            Keyword::Int => self.with_integers(Integers {
+                ints: n.ints.again(),
+                ..n
+            }),
+            Keyword::Long => self.with_integers(Integers {
+                longs: n.longs.again(),
+                ..n
+            }),
+            Keyword::Signed => self.with_integers(Integers {
+                signeds: n.signeds.again(),
+                ..n
+            }),
+            Keyword::Unsigned => self.with_integers(Integers {
+                unsigneds: n.unsigneds.again(),
+                ..n
+            }),
             Keyword::Void => self.with_type(CType::Void),
-            Keyword::Static => Specs {
-                integers: self.integers,
-                has_integers: self.has_integers,
-                named: self.named,
-                is_static: true,
-                is_extern: self.is_extern,
-            },
-            Keyword::Extern => Specs {
-                integers: self.integers,
-                has_integers: self.has_integers,
-                named: self.named,
-                is_static: self.is_static,
-                is_extern: true,
-            },
-            _ => Specs {
-                integers: with_integer_word(self.integers, keyword),
-                has_integers: self.has_integers || is_integer_word(keyword),
-                named: self.named,
-                is_static: self.is_static,
-                is_extern: self.is_extern,
-            },
+            Keyword::Static => self.with_storage(true, false),
+            Keyword::Extern => self.with_storage(false, true),
+            _ => self,
+        }
+    }
+
+    fn with_integers(self, integers: Integers) -> Specs
+        ensures { specs_of result ≡ declarations.with_integers (specs_of self) integers }
+    {
+        Specs {
+            integers,
+            has_integers: true,
+            named: self.named,
+            is_static: self.is_static,
+            is_extern: self.is_extern,
+        }
+    }
+
+    fn with_storage(self, is_static: bool, is_extern: bool) -> Specs
+        ensures { specs_of result ≡ declarations.with_storage (specs_of self) is_static is_extern }
+    {
+        Specs {
+            integers: self.integers,
+            has_integers: self.has_integers,
+            named: self.named,
+            is_static: self.is_static || is_static,
+            is_extern: self.is_extern || is_extern,
         }
     }
 
     /// The type that the words write.
-    pub(crate) fn base(self) -> Result<Base, Refusal> {
+    pub(crate) fn base(self) -> Result<Base, Refusal>
+        ensures { RulesAs base_of result (declarations.base (specs_of self)) }
+    {
         let ty = base_type(self.has_integers, self.integers, self.named)?;
         Ok(Base {
             ty,
@@ -148,58 +200,19 @@ impl Specs {
     }
 }
 
-fn with_named(named: Named, ty: CType) -> Named {
+fn with_named(named: Named, ty: CType) -> Named
+    ensures { named_of result ≡ declarations.with_named (named_of named) (type_of ty) }
+{
     match named {
         Named::None => Named::One(ty),
         Named::One(_) | Named::Several => Named::Several,
     }
 }
 
-fn is_integer_word(keyword: Keyword) -> bool {
-    matches!(
-        keyword,
-        Keyword::Char
-            | Keyword::Short
-            | Keyword::Int
-            | Keyword::Long
-            | Keyword::Signed
-            | Keyword::Unsigned
-    )
-}
-
-// The counts with one word more; other words aren't counted.
-fn with_integer_word(n: Integers, keyword: Keyword) -> Integers {
-    match keyword {
-        Keyword::Char => Integers {
-            chars: n.chars.again(),
-            ..n
-        },
-        Keyword::Short => Integers {
-            shorts: n.shorts.again(),
-            ..n
-        },
-        Keyword::Int => Integers {
-            ints: n.ints.again(),
-            ..n
-        },
-        Keyword::Long => Integers {
-            longs: n.longs.again(),
-            ..n
-        },
-        Keyword::Signed => Integers {
-            signeds: n.signeds.again(),
-            ..n
-        },
-        Keyword::Unsigned => Integers {
-            unsigneds: n.unsigneds.again(),
-            ..n
-        },
-        _ => n,
-    }
-}
-
 // One type, or integer words that write one.
-fn base_type(has_integers: bool, integers: Integers, named: Named) -> Result<CType, Refusal> {
+fn base_type(has_integers: bool, integers: Integers, named: Named) -> Result<CType, Refusal>
+    ensures { RulesAs type_of result (declarations.base_type has_integers integers (named_of named)) }
+{
     match named {
         Named::One(ty) if !has_integers => Ok(ty),
         Named::None if has_integers => match integer_type(integers) {
@@ -219,16 +232,30 @@ pub(crate) enum Signedness {
 }
 
 // The type that integer words write.
-fn integer_type(n: Integers) -> Option<IntType> {
-    let signedness = signedness_of(n.signeds, n.unsigneds)?;
-    match n.ints {
-        Times::Never => sized(signedness, n.chars, n.shorts, n.longs),
-        Times::Once if n.chars == Times::Never => sized(signedness, n.chars, n.shorts, n.longs),
-        _ => None,
+fn integer_type(n: Integers) -> Option<IntType>
+    ensures { option_map int_type_of result ≡ declarations.integer_type n }
+{
+    let signedness = sign_among(n.signeds, n.unsigneds)?;
+    if fits_int(n.ints, n.chars) {
+        sized(signedness, n.chars, n.shorts, n.longs)
+    } else {
+        None
     }
 }
 
-fn signedness_of(signeds: Times, unsigneds: Times) -> Option<Signedness> {
+// Whether `int` stands at most once, and not beside `char`.
+fn fits_int(ints: Times, chars: Times) -> bool
+    ensures { result ≡ declarations.fits_int ints chars }
+{
+    match (ints, chars) {
+        (Times::Never, _) | (Times::Once, Times::Never) => true,
+        _ => false,
+    }
+}
+
+fn sign_among(signeds: Times, unsigneds: Times) -> Option<Signedness>
+    ensures { option_map signedness_of result ≡ declarations.signedness signeds unsigneds }
+{
     match (signeds, unsigneds) {
         (Times::Never, Times::Never) => Some(Signedness::Plain),
         (Times::Once, Times::Never) => Some(Signedness::Signed),
@@ -237,7 +264,9 @@ fn signedness_of(signeds: Times, unsigneds: Times) -> Option<Signedness> {
     }
 }
 
-fn sized(signedness: Signedness, chars: Times, shorts: Times, longs: Times) -> Option<IntType> {
+fn sized(signedness: Signedness, chars: Times, shorts: Times, longs: Times) -> Option<IntType>
+    ensures { option_map int_type_of result ≡ declarations.sized (signedness_of signedness) chars shorts longs }
+{
     match (chars, shorts, longs) {
         (Times::Never, Times::Never, Times::Never) => Some(int_type(signedness)),
         (Times::Once, Times::Never, Times::Never) => Some(char_type(signedness)),
@@ -248,7 +277,9 @@ fn sized(signedness: Signedness, chars: Times, shorts: Times, longs: Times) -> O
     }
 }
 
-fn char_type(signedness: Signedness) -> IntType {
+fn char_type(signedness: Signedness) -> IntType
+    ensures { int_type_of result ≡ declarations.char_type (signedness_of signedness) }
+{
     match signedness {
         Signedness::Plain => IntType::Char,
         Signedness::Signed => IntType::SChar,
@@ -256,28 +287,36 @@ fn char_type(signedness: Signedness) -> IntType {
     }
 }
 
-fn short_type(signedness: Signedness) -> IntType {
+fn short_type(signedness: Signedness) -> IntType
+    ensures { int_type_of result ≡ declarations.short_type (signedness_of signedness) }
+{
     match signedness {
         Signedness::Plain | Signedness::Signed => IntType::Short,
         Signedness::Unsigned => IntType::UShort,
     }
 }
 
-fn int_type(signedness: Signedness) -> IntType {
+fn int_type(signedness: Signedness) -> IntType
+    ensures { int_type_of result ≡ declarations.int_type (signedness_of signedness) }
+{
     match signedness {
         Signedness::Plain | Signedness::Signed => IntType::Int,
         Signedness::Unsigned => IntType::UInt,
     }
 }
 
-fn long_type(signedness: Signedness) -> IntType {
+fn long_type(signedness: Signedness) -> IntType
+    ensures { int_type_of result ≡ declarations.long_type (signedness_of signedness) }
+{
     match signedness {
         Signedness::Plain | Signedness::Signed => IntType::Long,
         Signedness::Unsigned => IntType::ULong,
     }
 }
 
-fn long_long_type(signedness: Signedness) -> IntType {
+fn long_long_type(signedness: Signedness) -> IntType
+    ensures { int_type_of result ≡ declarations.long_long_type (signedness_of signedness) }
+{
     match signedness {
         Signedness::Plain | Signedness::Signed => IntType::LLong,
         Signedness::Unsigned => IntType::ULLong,
@@ -285,7 +324,9 @@ fn long_long_type(signedness: Signedness) -> IntType {
 }
 
 /// Where the words begin.
-pub(crate) fn words_start(words: &Words) -> usize {
+pub(crate) fn words_start(words: &Words) -> usize
+    ensures { result ≡ expressions.words_start (words_of words.now) }
+{
     match words {
         Words::None => 0,
         Words::More(word, _) => word_start(&**word),
@@ -293,7 +334,9 @@ pub(crate) fn words_start(words: &Words) -> usize {
 }
 
 /// Where the type among the words begins: its first word that isn't of storage.
-pub(crate) fn type_start(words: &Words) -> usize {
+pub(crate) fn type_start(words: &Words) -> usize
+    ensures { result ≡ expressions.type_start (words_of words.now) }
+{
     let mut rest = words;
     while let Words::More(word, more) = rest {
         if !is_storage(&**word) {
@@ -304,7 +347,9 @@ pub(crate) fn type_start(words: &Words) -> usize {
     0
 }
 
-fn word_start(word: &Word) -> usize {
+fn word_start(word: &Word) -> usize
+    ensures { result ≡ expressions.word_start (word_of word.now) }
+{
     match word {
         Word::Reserved(at, _)
         | Word::Named(at, _)
@@ -315,7 +360,9 @@ fn word_start(word: &Word) -> usize {
     }
 }
 
-fn is_storage(word: &Word) -> bool {
+fn is_storage(word: &Word) -> bool
+    ensures { result ≡ expressions.is_storage (word_of word.now) }
+{
     match word {
         Word::Reserved(_, keyword) => matches!(
             *keyword,
@@ -326,7 +373,9 @@ fn is_storage(word: &Word) -> bool {
 }
 
 /// A type with stars around it.
-pub(crate) fn pointers(alloc: Global, stars: usize, ty: CType) -> Result<CType, AllocError> {
+pub(crate) fn pointers(alloc: Global, stars: usize, ty: CType) -> Result<CType, AllocError>
+    ensures { IfOk result (λ t. type_of t ≡ declarations.pointers stars (type_of ty)) }
+{
     let mut pointer = ty;
     for _ in 0..stars {
         pointer = CType::Ptr(Box::new(alloc, pointer)?);
