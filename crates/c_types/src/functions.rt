@@ -1,6 +1,7 @@
 //! Functions: their declarations, and those with a body.
 
-ghost use Rattle.std.specs.Prelude.{◌≡◌, true, map, string_bytes, IfOk, OnOk};
+ghost use Rattle.std.specs.Prelude.{◌≡◌, ◌∷◌, ◌++◌, [], true, map, string_bytes, IfOk, OnOk};
+ghost use Rattle.c_types.specs.Typed.{variable_names};
 ghost use Rattle.std.specs.HashSet.{contains_text};
 ghost use Rattle.c_values.specs.Name.{with_name};
 ghost use Rattle.std.specs.Option.{option_copied, option_map};
@@ -245,14 +246,28 @@ fn declare_parameters(
     Ok(())
 }
 
-fn names_of(alloc: Global, params: &[Parameter]) -> Result<Vec<String>, AllocError> {
+// The names of the parameters that have one.
+fn names_of(alloc: Global, params: &[Parameter]) -> Result<Vec<String>, AllocError>
+    ensures { IfOk result (λ names. map string_bytes names.items ≡ variable_names (rules.variables (map parameter_of params.now))) }
+{
     let mut names = Vec::new(alloc);
     for param in params {
-        if let Some(name) = &param.name {
-            names.push(name.clone()?)?;
-        }
+        add_name(param, &mut names)?;
     }
     Ok(names)
+}
+
+// Adds the name of a parameter that has one.
+fn add_name(param: &Parameter, names: &mut Vec<String>) -> Result<(), AllocError>
+    ensures { OnOk result (map string_bytes names.new.items ≡ map string_bytes names.old.items ++ variable_names (rules.variables (parameter_of param.now ∷ []))) }
+{
+    match &param.name {
+        None => Ok(()),
+        Some(name) => {
+            names.push(name.clone()?)?;
+            Ok(())
+        }
+    }
 }
 
 // The locals of the body that ends.
