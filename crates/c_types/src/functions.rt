@@ -225,10 +225,13 @@ fn body(
 }
 
 // The body begins: nothing has a number or is declared but the parameters.
-fn enter(alloc: Global, params: &[Parameter], scope: &mut Scope) -> Result<(), AllocError> {
+fn enter(alloc: Global, params: &[Parameter], scope: &mut Scope) -> Result<(), AllocError>
+    ensures { OnOk result (scope_of scope.new ≡ rules.enter (map parameter_of params.now) (scope_of scope.old)) }
+{
     let names = names_of(alloc, params)?;
     scope.progress = Progress::at_start(alloc, names);
-    declare_parameters(alloc, params, scope)
+    declare_parameters(alloc, params, scope)?;
+    Ok(())
 }
 
 // Declares the parameters that have a name.
