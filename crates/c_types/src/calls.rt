@@ -6,7 +6,7 @@ ghost use Rattle.c_types.specs.CodeScope.{entity_of};
 ghost use Rattle.c_values.specs.CodeTypes.{type_of};
 ghost use Rattle.c_types.specs.Answers.{RulesAs};
 ghost use Rattle.c_types.specs.Calls as rules;
-ghost use Rattle.c_types.specs.CodeCalls.{called_of};
+ghost use Rattle.c_types.specs.CodeCalls.{called_of, right_of};
 ghost use Rattle.c_types.specs.View.{destination_of, statement_of, use_of};
 
 use crate::expressions::value;
@@ -96,7 +96,9 @@ pub(crate) fn assigned(
     layout: &Layout,
     target: Destination,
     right: Right,
-) -> Result<Statement, Refusal> {
+) -> Result<Statement, Refusal>
+    ensures { RulesAs statement_of result (rules.assigned layout.now (destination_of target) (right_of right)) }
+{
     match right {
         Right::Computed(e) => {
             let e = converted(alloc, layout, form_of(target.ty()), e)?;
@@ -126,7 +128,9 @@ pub(crate) fn returned(
     layout: &Layout,
     ty: &CType,
     right: Right,
-) -> Result<Statement, Refusal> {
+) -> Result<Statement, Refusal>
+    ensures { RulesAs statement_of result (rules.returned layout.now (type_of ty.now) (right_of right)) }
+{
     match right {
         Right::Computed(e) => Ok(Statement::Return(converted(alloc, layout, form_of(ty), e)?)),
         Right::Resulting(called) => result_returned(alloc, ty, called),
