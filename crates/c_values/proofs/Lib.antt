@@ -18,3 +18,7 @@ pub mod Tabulating
 pub mod Defined
 pub mod Steps
 pub mod Members
+pub mod Growing
+pub mod Naming
+pub mod Into
+pub mod Following

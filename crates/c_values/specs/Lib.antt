@@ -16,3 +16,5 @@ pub mod CodeLayout
 pub mod StructTable
 pub mod LayoutCode
 pub mod PartOf
+pub mod Growth
+pub mod StepInto

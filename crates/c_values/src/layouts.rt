@@ -7,9 +7,10 @@ ghost use Rattle.c_values.specs.declared.layouts.LayoutFault.TheVariants.{Memory
 
 use crate::extents::extent;
 use crate::places::{Extent, LARGEST, Table};
+use crate::placing::places;
 use crate::tabulation::tabulate;
 use crate::types::{CType, Target};
-use std::alloc::{AllocError, AllocFailed};
+use std::alloc::{AllocError, AllocFailed, Global};
 use std::marker::Model;
 use thiserror::Error;
 
@@ -75,12 +76,14 @@ impl Model for Layout {
 }
 
 impl Layout {
-    ghost use Rattle.std.specs.Prelude.{None, Some, pos, IfNone, IfSome};
+    ghost use Rattle.std.specs.Prelude.{false, None, Some, pos, IfNone, IfSome, string_bytes};
+    ghost use Rattle.std.specs.Option.{option_map, option_copied};
+    ghost use Rattle.c_values.specs.Growth.{with_struct, can_follow, struct_named};
     ghost use Rattle.c_values.specs.Types.{Struct};
-    ghost use Rattle.c_values.specs.Layout.{Incomplete, are_built, are_small, shape_of};
+    ghost use Rattle.c_values.specs.Layout.{Incomplete, are_built, are_small, shape_of, all_members_complete};
     ghost use Rattle.c_values.specs.Path.{step_spot, Field};
     ghost use Rattle.c_values.specs.CodeTypes.{target_of, type_of};
-    ghost use Rattle.c_values.specs.CodeLayout.{struct_def_of, IsFirstLarge};
+    ghost use Rattle.c_values.specs.CodeLayout.{struct_def_of, member_of, IsFirstLarge};
     ghost use Rattle.c_values.specs.StructTable.{Measures};
     ghost use Rattle.c_values.specs.declared.layouts.LayoutFault.TheVariants.{Large};
 
@@ -119,6 +122,72 @@ impl Layout {
         ensures { map struct_def_of result.now ≡ self.now.structs }
     {
         &self.structs
+    }
+
+    /// The struct of a name, where it has a body.
+    pub fn definition(&self, name: &str) -> Option<&StructDef>
+        ensures { option_map struct_def_of (option_copied result) ≡ struct_named self.now.structs name.now }
+    {
+        match self.table.get(name) {
+            None => None,
+            Some(places) => Some(&self.structs[places.position]),
+        }
+    }
+
+    /// Whether a struct may stand behind the others: its name is new, and it has members, each of a complete type.
+    pub fn can_follow(&self, definition: &StructDef) -> bool
+        ensures { result ≡ can_follow self.now (struct_def_of definition.now) }
+    {
+        match self.definition(definition.name.as_str()) {
+            Some(_) => false,
+            None => {
+                if definition.members.is_empty() {
+                    return false;
+                }
+                self.are_complete(&definition.members)
+            }
+        }
+    }
+
+    // Whether each member is of a complete type.
+    fn are_complete(&self, members: &[(String, CType)]) -> bool
+        ensures { result ≡ all_members_complete (shape_of self.now) (map member_of members.now) }
+    {
+        for (_, ty) in members {
+            if !self.extent(ty).complete {
+                return false;
+            }
+        }
+        true
+    }
+
+    /// One struct more, behind the others. Its name is new, and it has members, each of a complete object type.
+    ///
+    /// - `Large` where it has more than 65,536 bytes: its place.
+    /// - `Memory` where there is no room for it.
+    ///
+    /// The layout is then as it was.
+    pub fn define(&mut self, alloc: Global, definition: StructDef) -> Result<(), LayoutFault>
+        requires { can_follow self.old (struct_def_of definition) ≡ true }
+        ensures grown { OnOk result (self.new ≡ with_struct self.old (struct_def_of definition)) }
+        ensures small { OnOk result
+            (is_object (with_struct self.old (struct_def_of definition)) (Struct (string_bytes definition.name)) ≡ true) }
+        ensures large { (k : ℕ) → result ≡ Err (Large k) →
+            is_object (with_struct self.old (struct_def_of definition)) (Struct (string_bytes definition.name)) ≡ false }
+    {
+        let position = self.structs.len();
+        match places(alloc, self.target, &self.table, &definition, position)? {
+            Some(found) => {
+                let name = definition.name.clone()?;
+                self.structs.push(definition)?;
+                if let Err(fault) = self.table.insert(name, found) {
+                    let _ = self.structs.pop();
+                    return Err(LayoutFault::from(fault));
+                }
+                Ok(())
+            }
+            None => Err(LayoutFault::Large(position)),
+        }
     }
 
     /// The offset and the type of a struct's member, from 0. There is none where the struct has no body, or no such member.

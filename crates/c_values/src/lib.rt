@@ -20,10 +20,10 @@ mod words;
 
 pub use layouts::{Layout, LayoutFault, StructDef, align_of, is_object, size_of};
 pub use numbers::{Number, NumberOp, number_op};
-pub use offsets::offset_of;
-pub use types::{CType, IntType, Target, width_of};
+pub use offsets::{offset_of, step_into};
+pub use types::{CType, IntType, Target, address_width, is_signed, width_of};
 pub use values::{GlobalVar, PathStep, Value};
-pub use views::{fits, int, nat};
+pub use views::{fits, int, is_of_type, nat};
 pub use word_operations::{
     ShiftOp, UnaryOp, WordOp, WordTest, cast, word_op, word_shift, word_test, word_unary,
 };

@@ -70,7 +70,7 @@ pub fn width_of(target: Target, ty: IntType) -> u8
 }
 
 /// Whether an integer type is signed.
-pub(crate) fn is_signed(ty: IntType) -> bool
+pub fn is_signed(ty: IntType) -> bool
     ensures { result ≡ is_signed (int_type_of ty) }
 {
     matches!(
@@ -80,7 +80,7 @@ pub(crate) fn is_signed(ty: IntType) -> bool
 }
 
 /// The bits of a pointer.
-pub(crate) fn address_width(target: Target) -> u8
+pub fn address_width(target: Target) -> u8
     ensures value { result ≡ address_width (target_of target) }
     ensures width { IsWidth result }
 {

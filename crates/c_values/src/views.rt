@@ -67,8 +67,8 @@ fn value_of(ty: IntType, a: Word) -> Number
     if is_signed(ty) { int(a) } else { nat(a) }
 }
 
-// Whether a number is from the least to the greatest value of a type.
-fn is_of_type(target: Target, ty: IntType, n: Number) -> bool
+/// Whether a number is from the least to the greatest value of a type.
+pub fn is_of_type(target: Target, ty: IntType, n: Number) -> bool
     ensures { result ≡ is_of_type (target_of target) (int_type_of ty) n }
 {
     let greatest = u128::from(mask(width_of(target, ty)));
