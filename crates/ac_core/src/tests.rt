@@ -57,452 +57,378 @@ fn run(
     Ok((status, taken))
 }
 
-/// Texts, as pieces that are repeated, and how their answers begin.
-static ROWS: [(&[(&str, usize)], Status, &str); 77] = [
-    // the class that is shown
+/// Texts, and how their answers begin.
+static READ: [(&str, Status, &str); 21] = [
     (
-        &[("unsigned f(unsigned a){return a;}", 1)],
+        "unsigned f(unsigned a){return a;}",
         Status::Done,
         "(program (f numbers ((a (nat 32))) ((nat 32)) (ret a)))\n",
     ),
     (
-        &[(
-            "unsigned f(unsigned a,unsigned b,unsigned c){return a+(b+c);}",
-            1,
-        )],
+        "",
         Status::Done,
         "(program (f numbers ((a (nat 32)) (b (nat 32)) (c (nat 32))) ((nat 32)) (do () (guard (between 0 (add b c) 4294967295)) () (guard (between 0 (add a (add b c)) 4294967295)) (ret (add a (add b c))))))\n",
     ),
     (
-        &[(
-            "unsigned\tf(unsigned a) // one\n{ return /* two */ 4294967295u ; }\n",
-            1,
-        )],
+        "",
         Status::Done,
         "(program (f numbers ((a (nat 32))) ((nat 32)) (ret 4294967295)))\n",
     ),
     (
-        &[(
-            "# 1 \"a.c\"\nunsigned f(unsigned f){return ((0x80000000))+f;}",
-            1,
-        )],
+        "",
         Status::Done,
         "(program (f numbers ((f (nat 32))) ((nat 32)) (do () (guard (between 0 (add 2147483648 f) 4294967295)) (ret (add 2147483648 f)))))\n",
     ),
-    (&[("", 1)], Status::NotYet, "not yet\n"),
+    ("", Status::NotYet, "not yet\n"),
+    ("int f(int a){return a;}", Status::NotYet, "not yet\n"),
     (
-        &[("int f(int a){return a;}", 1)],
+        "unsigned int f(unsigned a){return a;}",
         Status::NotYet,
         "not yet\n",
     ),
     (
-        &[("unsigned int f(unsigned a){return a;}", 1)],
+        "unsigned f(unsigned a){return a+0x7fffffff;}",
         Status::NotYet,
         "not yet\n",
     ),
     (
-        &[("unsigned f(unsigned a){return a+0x7fffffff;}", 1)],
+        "unsigned f(unsigned a){return a+2147483648;}",
         Status::NotYet,
         "not yet\n",
     ),
     (
-        &[("unsigned f(unsigned a){return a+2147483648;}", 1)],
+        "unsigned f(unsigned a){return a+4294967296u;}",
         Status::NotYet,
         "not yet\n",
     ),
     (
-        &[("unsigned f(unsigned a){return a+4294967296u;}", 1)],
+        "unsigned f(unsigned a){return a+1ul;}",
         Status::NotYet,
         "not yet\n",
     ),
     (
-        &[("unsigned f(unsigned a){return a+1ul;}", 1)],
+        "unsigned f(unsigned a){return b;}",
         Status::NotYet,
         "not yet\n",
     ),
     (
-        &[("unsigned f(unsigned a){return b;}", 1)],
+        "unsigned f(unsigned a,unsigned a){return a;}",
         Status::NotYet,
         "not yet\n",
     ),
     (
-        &[("unsigned f(unsigned a,unsigned a){return a;}", 1)],
+        "unsigned f(unsigned a){return a-a;}",
+        Status::NotYet,
+        "not yet\n",
+    ),
+    ("unsigned f(void){return 1u;}", Status::NotYet, "not yet\n"),
+    (
+        "unsigned f(unsigned a){;return a;}",
         Status::NotYet,
         "not yet\n",
     ),
     (
-        &[("unsigned f(unsigned a){return a-a;}", 1)],
+        "unsigned f(unsigned a){return g(a);}",
+        Status::NotYet,
+        "not yet\n",
+    ),
+    ("unsigned f(unsigned a);", Status::NotYet, "not yet\n"),
+    (
+        "unsigned f(unsigned a){return a;}int x;",
         Status::NotYet,
         "not yet\n",
     ),
     (
-        &[("unsigned f(void){return 1u;}", 1)],
-        Status::NotYet,
-        "not yet\n",
-    ),
-    (
-        &[("unsigned f(unsigned a){;return a;}", 1)],
-        Status::NotYet,
-        "not yet\n",
-    ),
-    (
-        &[("unsigned f(unsigned a){return g(a);}", 1)],
-        Status::NotYet,
-        "not yet\n",
-    ),
-    (
-        &[("unsigned f(unsigned a);", 1)],
-        Status::NotYet,
-        "not yet\n",
-    ),
-    (
-        &[("unsigned f(unsigned a){return a;}int x;", 1)],
-        Status::NotYet,
-        "not yet\n",
-    ),
-    // the lexer's faults
-    (
-        &[("int f(void){goto x;}", 1)],
+        "int f(void){goto x;}",
         Status::Source,
         "source: unsupported goto at 12\n",
     ),
     (
-        &[("char *s = \"x\";", 1)],
+        "char *s = \"x\";",
         Status::Source,
         "source: unsupported \" at 10\n",
     ),
+];
+
+/// Texts, and how their answers begin.
+static REFUSED: [(&str, Status, &str); 21] = [
     (
-        &[("int f(int a,...);", 1)],
+        "int f(int a,...);",
         Status::Source,
         "source: unsupported ... at 12\n",
     ),
+    ("int a; # 1", Status::Source, "source: unsupported # at 7\n"),
+    ("/* x", Status::Source, "source: open comment at 0\n"),
+    ("int a = 08;", Status::Source, "source: bad number at 8\n"),
     (
-        &[("int a; # 1", 1)],
-        Status::Source,
-        "source: unsupported # at 7\n",
-    ),
-    (
-        &[("/* x", 1)],
-        Status::Source,
-        "source: open comment at 0\n",
-    ),
-    (
-        &[("int a = 08;", 1)],
+        "int a = 18446744073709551616ull;",
         Status::Source,
         "source: bad number at 8\n",
     ),
     (
-        &[("int a = 18446744073709551616ull;", 1)],
-        Status::Source,
-        "source: bad number at 8\n",
-    ),
-    (
-        &[("int a = 18446744073709551615ull;", 1)],
+        "int a = 18446744073709551615ull;",
         Status::NotYet,
         "not yet\n",
     ),
-    (&[("int @;", 1)], Status::Source, "source: bad byte at 4\n"),
-    (&[("int a = '\\377';", 1)], Status::NotYet, "not yet\n"),
+    ("int @;", Status::Source, "source: bad byte at 4\n"),
+    ("int a = '\\377';", Status::NotYet, "not yet\n"),
     (
-        &[("int a = '\\400';", 1)],
+        "int a = '\\400';",
         Status::Source,
         "source: bad byte at 8\n",
     ),
     (
-        &[("int ", 1), ("n", 63), (";", 1)],
-        Status::NotYet,
-        "not yet\n",
-    ),
-    (
-        &[("int ", 1), ("n", 64), (";", 1)],
-        Status::Source,
-        "source: long name at 4\n",
-    ),
-    // no tree
-    (
-        &[("int f(int a){else;}", 1)],
+        "int f(int a){else;}",
         Status::Source,
         "source: syntax at 13\n",
     ),
+    ("", Status::NotYet, "not yet\n"),
     (
-        &[(
-            "int f(int a){if(a)if(a)return 1;else return 2;return 0;}",
-            1,
-        )],
+        "int f(int a,int b){return a- -b;}",
         Status::NotYet,
         "not yet\n",
     ),
     (
-        &[("int f(int a,int b){return a- -b;}", 1)],
-        Status::NotYet,
-        "not yet\n",
-    ),
-    (
-        &[("int f(int a,int b){return a--b;}", 1)],
+        "int f(int a,int b){return a--b;}",
         Status::Source,
         "source: syntax at 27\n",
     ),
     (
-        &[("int f(int a,int b){return a+++b;}", 1)],
+        "int f(int a,int b){return a+++b;}",
         Status::Source,
         "source: syntax at 27\n",
     ),
     (
-        &[("void f(int *p){*p++;}", 1)],
+        "void f(int *p){*p++;}",
         Status::Source,
         "source: syntax at 17\n",
     ),
     (
-        &[("void f(void){x*y;}", 1)],
+        "void f(void){x*y;}",
         Status::Source,
         "source: syntax at 14\n",
     ),
     (
-        &[("typedef int x;void f(void){x*y;}", 1)],
+        "typedef int x;void f(void){x*y;}",
         Status::NotYet,
         "not yet\n",
     ),
     (
-        &[("typedef int t;struct s{int t;};", 1)],
+        "typedef int t;struct s{int t;};",
         Status::Source,
         "source: syntax at 27\n",
     ),
+    ("/* /* */ */", Status::Source, "source: syntax at 9\n"),
+    ("int", Status::Source, "source: syntax at 3\n"),
     (
-        &[("/* /* */ */", 1)],
-        Status::Source,
-        "source: syntax at 9\n",
-    ),
-    (&[("int", 1)], Status::Source, "source: syntax at 3\n"),
-    (
-        &[("unsigned f(unsigned a){return a; ", 1)],
+        "unsigned f(unsigned a){return a; ",
         Status::Source,
         "source: syntax at 32\n",
     ),
-    // each limit, and one past it
-    (&[("void f(void){}", 1024)], Status::NotYet, "not yet\n"),
+];
+
+/// Texts, each second part between the bars as often as the number says, and how their answers begin.
+static LIMITS: [(&str, usize, Status, &str); 17] = [
+    ("int |n|;", 63, Status::NotYet, "not yet\n"),
+    ("int |n|;", 64, Status::Source, "source: long name at 4\n"),
+    ("|void f(void){}|", 1024, Status::NotYet, "not yet\n"),
     (
-        &[("void f(void){}", 1025)],
+        "|void f(void){}|",
+        1025,
         Status::Limit,
         "limit: functions\n",
     ),
+    ("void f(void){|;|}", 200, Status::NotYet, "not yet\n"),
     (
-        &[("void f(void){", 1), (";", 200), ("}", 1)],
-        Status::NotYet,
-        "not yet\n",
-    ),
-    (
-        &[("void f(void){", 1), (";", 201), ("}", 1)],
+        "void f(void){|;|}",
+        201,
         Status::Limit,
         "limit: statements\n",
     ),
     (
-        &[
-            ("void f(void){int a", 1),
-            (",a", 196),
-            (";for(int b;;);}", 1),
-        ],
+        "void f(void){int a|,a|;for(int b;;);}",
+        196,
         Status::NotYet,
         "not yet\n",
     ),
     (
-        &[
-            ("void f(void){int a", 1),
-            (",a", 197),
-            (";for(int b;;);}", 1),
-        ],
+        "void f(void){int a|,a|;for(int b;;);}",
+        197,
         Status::Limit,
         "limit: statements\n",
     ),
+    ("void f(void){|{||}|}", 32, Status::NotYet, "not yet\n"),
+    ("void f(void){|{||}|}", 33, Status::Limit, "limit: blocks\n"),
     (
-        &[("void f(void){", 1), ("{", 32), ("}", 33)],
+        "void f(int a){if(a);|else if(a);|else;}",
+        30,
         Status::NotYet,
         "not yet\n",
     ),
     (
-        &[("void f(void){", 1), ("{", 33), ("}", 34)],
+        "void f(int a){if(a);|else if(a);|}",
+        31,
         Status::Limit,
         "limit: blocks\n",
     ),
     (
-        &[
-            ("void f(int a){if(a);", 1),
-            ("else if(a);", 30),
-            ("else;}", 1),
-        ],
-        Status::NotYet,
-        "not yet\n",
-    ),
-    (
-        &[("void f(int a){if(a);", 1), ("else if(a);", 31), ("}", 1)],
-        Status::Limit,
-        "limit: blocks\n",
-    ),
-    (
-        &[
-            ("unsigned f(unsigned a){return a", 1),
-            ("+a", 31),
-            (";}", 1),
-        ],
+        "unsigned f(unsigned a){return a|+a|;}",
+        31,
         Status::Done,
         "(program (f numbers ((a (nat 32))) ((nat 32)) (do () (guard (between 0 (add a a) 4294967295))",
     ),
     (
-        &[
-            ("unsigned f(unsigned a){return a", 1),
-            ("+a", 32),
-            (";}", 1),
-        ],
+        "unsigned f(unsigned a){return a|+a|;}",
+        32,
         Status::Limit,
         "limit: depth\n",
     ),
     (
-        &[
-            ("unsigned f(unsigned a){return (a+a)", 1),
-            ("+(a+a)", 24),
-            ("+a", 2),
-            (";}", 1),
-        ],
+        "unsigned f(unsigned a){return (a+a)|+(a+a)|+a+a;}",
+        24,
         Status::Done,
         "(program (f numbers ",
     ),
     (
-        &[
-            ("unsigned f(unsigned a){return (a+a)", 1),
-            ("+(a+a)", 24),
-            ("+a+(a);}", 1),
-        ],
+        "unsigned f(unsigned a){return (a+a)|+(a+a)|+a+(a);}",
+        24,
         Status::Limit,
         "limit: nodes\n",
     ),
     (
-        &[
-            ("int a[sizeof(struct{int b[", 1),
-            ("(", 30),
-            ("1", 1),
-            (")", 30),
-            ("];})];", 1),
-        ],
+        "int a[sizeof(struct{int b[|(|1|)|];})];",
+        30,
         Status::NotYet,
         "not yet\n",
     ),
+];
+
+/// Texts, each second part between the bars as often as the number says, and how their answers begin.
+static DEEP: [(&str, usize, Status, &str); 18] = [
     (
-        &[
-            ("int a[sizeof(struct{int b[", 1),
-            ("(", 31),
-            ("1", 1),
-            (")", 31),
-            ("];})];", 1),
-        ],
+        "int a[sizeof(struct{int b[|(|1|)|];})];",
+        31,
         Status::Limit,
         "limit: depth\n",
     ),
     (
-        &[("void f(void){switch(a){case 1:", 1), ("{", 31), ("}", 33)],
+        "void f(void){switch(a){case 1:|{||}|}}",
+        31,
         Status::NotYet,
         "not yet\n",
     ),
     (
-        &[("void f(void){switch(a){case 1:", 1), ("{", 32), ("}", 34)],
+        "void f(void){switch(a){case 1:|{||}|}}",
+        32,
         Status::Limit,
         "limit: blocks\n",
     ),
+    ("int a=|!|x;", 31, Status::NotYet, "not yet\n"),
+    ("int a=|!|x;", 32, Status::Limit, "limit: depth\n"),
+    ("void g(void){f(x|+x|);}", 31, Status::NotYet, "not yet\n"),
     (
-        &[("int a=", 1), ("!", 31), ("x;", 1)],
-        Status::NotYet,
-        "not yet\n",
-    ),
-    (
-        &[("int a=", 1), ("!", 32), ("x;", 1)],
+        "void g(void){f(x|+x|);}",
+        32,
         Status::Limit,
         "limit: depth\n",
     ),
     (
-        &[("void g(void){f(x", 1), ("+x", 31), (");}", 1)],
-        Status::NotYet,
-        "not yet\n",
-    ),
-    (
-        &[("void g(void){f(x", 1), ("+x", 32), (");}", 1)],
+        "void f(void){a=x|+x|;|{|{|}|}}",
+        32,
         Status::Limit,
         "limit: depth\n",
     ),
     (
-        &[
-            ("void f(void){a=x", 1),
-            ("+x", 32),
-            (";", 1),
-            ("{", 33),
-            ("}", 34),
-        ],
-        Status::Limit,
-        "limit: depth\n",
-    ),
-    // however deep or long
-    (
-        &[
-            ("int f(void){return ", 1),
-            ("(", 100_000),
-            ("1", 1),
-            (")", 100_000),
-            (";}", 1),
-        ],
+        "int f(void){return |(|1|)|;}",
+        100_000,
         Status::Limit,
         "limit: depth\n",
     ),
     (
-        &[
-            ("int f(void){return ", 1),
-            ("(", 100_000),
-            ("1", 1),
-            (")", 99_999),
-            (";}", 1),
-        ],
+        "int f(void){return |(|(1|)|;}",
+        99_999,
         Status::Source,
         "source: syntax at 200019\n",
     ),
     (
-        &[("void f(void){", 1), ("{", 100_000), ("}", 100_001)],
+        "void f(void){|{||}|}",
+        100_000,
         Status::Limit,
         "limit: blocks\n",
     ),
     (
-        &[("void f(void){", 1), ("{", 100_000), ("}", 100_000)],
+        "void f(void){|{||}|",
+        100_000,
         Status::Source,
         "source: syntax at 200013\n",
     ),
+    ("enum{a|,a|};", 100_000, Status::NotYet, "not yet\n"),
+    ("int a|[1]|;", 80_000, Status::NotYet, "not yet\n"),
+    ("|;|", 262_144, Status::Source, "source: syntax at 0\n"),
+    ("|(|", 262_144, Status::Source, "source: syntax at 0\n"),
     (
-        &[("enum{a", 1), (",a", 100_000), ("};", 1)],
-        Status::NotYet,
-        "not yet\n",
-    ),
-    (
-        &[("int a", 1), ("[1]", 80_000), (";", 1)],
-        Status::NotYet,
-        "not yet\n",
-    ),
-    (&[(";", 262_144)], Status::Source, "source: syntax at 0\n"),
-    (&[("(", 262_144)], Status::Source, "source: syntax at 0\n"),
-    (
-        &[("/*", 131_072)],
+        "|/*|",
+        131_072,
         Status::Source,
         "source: open comment at 0\n",
     ),
-    (
-        &[("n", 262_144)],
-        Status::Source,
-        "source: long name at 0\n",
-    ),
+    ("|n|", 262_144, Status::Source, "source: long name at 0\n"),
 ];
 
+/// The text of a pattern.
+fn text_of(alloc: Global, pattern: &str, count: usize) -> Result<Vec<u8>, Fail> {
+    let mut text = Vec::new(alloc);
+    let mut is_repeated = false;
+    for part in pattern.split('|') {
+        repeat(&mut text, part, if is_repeated { count } else { 1 })?;
+        is_repeated = !is_repeated;
+    }
+    Ok(text)
+}
+
+/// Appends so many copies of a part.
+fn repeat(text: &mut Vec<u8>, part: &str, count: usize) -> Result<(), Fail> {
+    for _ in 0..count {
+        text.extend_from_slice(part.as_bytes())?;
+    }
+    Ok(())
+}
+
 #[test]
-fn texts_are_shown_or_refused(rt: HostRuntime) -> Result<(), Fail> {
-    for (pieces, status, start) in &ROWS {
-        let mut text = Vec::new(rt.alloc());
-        for (piece, times) in *pieces {
-            for _ in 0..*times {
-                text.extend_from_slice(piece.as_bytes())?;
-            }
-        }
+fn texts_are_read(rt: HostRuntime) -> Result<(), Fail> {
+    for (text, status, start) in &READ {
+        let (got, taken) = run(rt.alloc(), &["show", "a.c"], text.as_bytes(), &SOUND)?;
+        assert_eq!(rt; got, *status);
+        assert!(rt; taken.starts_with(start.as_bytes()));
+    }
+    Ok(())
+}
+
+#[test]
+fn texts_are_refused(rt: HostRuntime) -> Result<(), Fail> {
+    for (text, status, start) in &REFUSED {
+        let (got, taken) = run(rt.alloc(), &["show", "a.c"], text.as_bytes(), &SOUND)?;
+        assert_eq!(rt; got, *status);
+        assert!(rt; taken.starts_with(start.as_bytes()));
+    }
+    Ok(())
+}
+
+#[test]
+fn limits_are_told(rt: HostRuntime) -> Result<(), Fail> {
+    for (pattern, count, status, start) in &LIMITS {
+        let text = text_of(rt.alloc(), pattern, *count)?;
+        let (got, taken) = run(rt.alloc(), &["show", "a.c"], &text, &SOUND)?;
+        assert_eq!(rt; got, *status);
+        assert!(rt; taken.starts_with(start.as_bytes()));
+    }
+    Ok(())
+}
+
+#[test]
+fn deep_texts_are_answered(rt: HostRuntime) -> Result<(), Fail> {
+    for (pattern, count, status, start) in &DEEP {
+        let text = text_of(rt.alloc(), pattern, *count)?;
         let (got, taken) = run(rt.alloc(), &["show", "a.c"], &text, &SOUND)?;
         assert_eq!(rt; got, *status);
         assert!(rt; taken.starts_with(start.as_bytes()));
