@@ -65,17 +65,17 @@ static READ: [(&str, Status, &str); 21] = [
         "(program (f numbers ((a (nat 32))) ((nat 32)) (ret a)))\n",
     ),
     (
-        "",
+        "unsigned f(unsigned a,unsigned b,unsigned c){return a+(b+c);}",
         Status::Done,
         "(program (f numbers ((a (nat 32)) (b (nat 32)) (c (nat 32))) ((nat 32)) (do () (guard (between 0 (add b c) 4294967295)) () (guard (between 0 (add a (add b c)) 4294967295)) (ret (add a (add b c))))))\n",
     ),
     (
-        "",
+        "unsigned\tf(unsigned a) // one\n{ return /* two */ 4294967295u ; }\n",
         Status::Done,
         "(program (f numbers ((a (nat 32))) ((nat 32)) (ret 4294967295)))\n",
     ),
     (
-        "",
+        "# 1 \"a.c\"\nunsigned f(unsigned f){return ((0x80000000))+f;}",
         Status::Done,
         "(program (f numbers ((f (nat 32))) ((nat 32)) (do () (guard (between 0 (add 2147483648 f) 4294967295)) (ret (add 2147483648 f)))))\n",
     ),
@@ -370,7 +370,7 @@ static DEEP: [(&str, usize, Status, &str); 18] = [
         "|/*|",
         131_072,
         Status::Source,
-        "source: open comment at 0\n",
+        "source: open comment at 262140\n",
     ),
     ("|n|", 262_144, Status::Source, "source: long name at 0\n"),
 ];
