@@ -17,7 +17,7 @@ use Rattle.simpl_lang.specs.Command as K
 use Rattle.monad_lang.specs.Program.{Place, Mon, Ret, Bind}
 use Rattle.monad_lang.specs.Form.{program_has, is_stored, no_place, is_numbers}
 use Rattle.monad_lang.specs.Run as M
-use Rattle.c_types.specs.Typed as C
+use Rattle.c_typed.specs.Typed as C
 use Rattle.simpl_gen.specs.CValue as V
 use Rattle.simpl_gen.specs.Generate.{variables}
 use Rattle.ac_core.specs.Exact.{AreArguments, Begin, state_of, heap_for, ExactFrom, Exact, IsExact, AreProgramsOf}

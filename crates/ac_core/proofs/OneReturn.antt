@@ -15,7 +15,7 @@ use Rattle.simpl_lang.specs.Command as K
 use Rattle.simpl_lang.specs.Exec.{Machine, machine_with, Returned}
 use Rattle.monad_lang.specs.Program.{Mon, FinalFn, FinalUnit}
 use Rattle.monad_lang.specs.Run as M
-use Rattle.c_types.specs.Typed as C
+use Rattle.c_typed.specs.Typed as C
 use Rattle.simpl_gen.specs.CValue as V
 use Rattle.simpl_gen.specs.CRun as R
 use Rattle.simpl_gen.specs.Generate.{variables}

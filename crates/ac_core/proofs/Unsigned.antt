@@ -18,7 +18,7 @@ use Rattle.ac_expr.specs.View.{view_at, views_at}
 use Rattle.ac_expr.specs.Signature.{names_of, kinds_of, bound}
 use Rattle.simpl_lang.specs.Command as K
 use Rattle.monad_lang.specs.Run as M
-use Rattle.c_types.specs.Typed as C
+use Rattle.c_typed.specs.Typed as C
 use Rattle.simpl_gen.specs.CValue as V
 use Rattle.simpl_gen.specs.CValue.{◌>>=◌}
 use Rattle.simpl_gen.specs.Generate.{variables}

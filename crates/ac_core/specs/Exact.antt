@@ -22,7 +22,7 @@ use Rattle.simpl_lang.specs.Command.{GuardKind}
 use Rattle.simpl_lang.specs.Exec.{Returned}
 use Rattle.monad_lang.specs.Program.{FinalUnit, FinalFn}
 use Rattle.monad_lang.specs.Run.{Answer, Failure, program_runs}
-use Rattle.c_types.specs.Typed.{TypedUnit, TypedFn, Variable, typed_fn}
+use Rattle.c_typed.specs.Typed.{TypedUnit, TypedFn, Variable, typed_fn}
 use Rattle.simpl_gen.specs.CRun.{c_runs, plain}
 use Rattle.simpl_gen.specs.Generate.{variables, result_kind}
 

@@ -18,7 +18,7 @@ use Rattle.ac_expr.specs.Signature.{bound, no_env, names_of, kinds_of}
 use Rattle.simpl_lang.specs.Exec.{Returned}
 use Rattle.monad_lang.specs.Program.{FinalUnit, FinalFn, final_fn}
 use Rattle.monad_lang.specs.Run.{Answer, program_runs}
-use Rattle.c_types.specs.Typed.{TypedUnit, TypedFn, typed_fn}
+use Rattle.c_typed.specs.Typed.{TypedUnit, TypedFn, typed_fn}
 use Rattle.simpl_gen.specs.CRun.{plain}
 use Rattle.simpl_gen.specs.Generate.{variables, result_kind}
 use Rattle.ac_core.specs.Exact.{AreGlobals, Begin, IsBegin, state_of, heap_for, c_ends, seen, IsUndefined}

@@ -1,1 +1,7 @@
-pub mod Typed
+pub mod CodeScope
+pub mod CodeDeclared
+pub mod CodeFields
+pub mod CodeTail
+pub mod CodeConstant
+pub mod CodeCalls
+pub mod CodeStatements

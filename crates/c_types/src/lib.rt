@@ -1,2 +1,28 @@
-//! Typed C units: each expression has its type, and each conversion stands where it is made.
+//! The type checker: it goes through a text once, and answers the typed unit, or the first bad node.
 #![tactic(auto)]
+
+mod addresses;
+mod calls;
+mod declarators;
+mod expressions;
+mod file;
+mod functions;
+mod globals;
+mod locals;
+mod members;
+mod nodes;
+mod parameters;
+mod scope;
+mod simple;
+mod statements;
+mod switches;
+mod tags;
+mod unit;
+mod zeros;
+
+pub use c_typed::tree::{TypedFn, TypedUnit};
+pub use c_typing::fault::{TypeFault, TypeKind};
+pub use unit::check_unit;
+
+#[cfg(test)]
+mod tests;

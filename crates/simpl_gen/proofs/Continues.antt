@@ -10,7 +10,7 @@ use Rattle.ac_expr.specs.Sort.{Level}
 use Rattle.ac_expr.specs.Signature.{Invocation}
 use Rattle.simpl_lang.specs.Command as K
 use Rattle.simpl_lang.specs.Exec.{Machine}
-use Rattle.c_types.specs.Typed as C
+use Rattle.c_typed.specs.Typed as C
 use Rattle.simpl_gen.specs.CRun.{Flow, Next, Broken, Continued, Returning, Runs, Setting, Ended, and_next, turned, stepped, statement, statements, groups, function_runs, bodies, functions_below, c_runs}
 
 and_next_continues : (r r' : Machine → Ended) → ((m : Machine) → Continues (r m) (r' m)) → (f : Flow) → Continues (and_next r f) (and_next r' f)

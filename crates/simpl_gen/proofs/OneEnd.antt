@@ -13,7 +13,7 @@ use Rattle.ac_expr.specs.Signature.{Invocation}
 use Rattle.ac_expr.proofs.Picked.{picked_once}
 use Rattle.simpl_lang.specs.Command as K
 use Rattle.simpl_lang.specs.Exec.{Machine}
-use Rattle.c_types.specs.Typed as C
+use Rattle.c_typed.specs.Typed as C
 use Rattle.simpl_gen.specs.CRun.{Flow, Next, Broken, Continued, Returning, Runs, Setting, Ended, and_next, assigned, used, tested, turned, stepped, later, tested_after_first, turned_later, switched, statement, statements, groups, ended, function_runs, bodies, functions_below, c_runs}
 
 and_next_once : (rest : Machine → Ended) → ((m : Machine) → OneEnd (rest m)) → (f : Flow) → OneEnd (and_next rest f)

@@ -11,7 +11,7 @@ use Rattle.ac_expr.specs.Sort.{Level, Bytes}
 use Rattle.ac_expr.specs.Signature.{Invocation}
 use Rattle.simpl_lang.specs.Command as K
 use Rattle.simpl_lang.specs.Exec.{Machine}
-use Rattle.c_types.specs.Typed as C
+use Rattle.c_typed.specs.Typed as C
 use Rattle.simpl_gen.specs.CValue.{Defined}
 use Rattle.simpl_gen.specs.CRun.{Flow, Next, Broken, Continued, Returning, Runs, Setting, Ended, context, and_next, assigned, used, tested, turned, stepped, tested_after_first, statement, statements, groups, function_runs, bodies, c_runs, plain}
 use Rattle.simpl_gen.proofs.WatchedValue.{IsExtra, tag, wrap, Watched, same, extra, bind_watched, accessible_watched, value_watched, located_watched, values_watched}

@@ -9,7 +9,7 @@ use Rattle.c_memory.specs.Heap.{is_tagged}
 use Rattle.c_memory.specs.Tags.{is_pointer_ok}
 use Rattle.ac_expr.specs.Sort.{Level, Bytes, Words, Numbers, is_lifted}
 use Rattle.simpl_lang.specs.Command as K
-use Rattle.c_types.specs.Typed as C
+use Rattle.c_typed.specs.Typed as C
 use Rattle.simpl_gen.specs.CValue.{Context, Defined, ◌>>=◌, unless, Located, InMemory, InGlobal, value_at, int_of, is_true, fitted, computed, accessible, content, value, located, indexed, values}
 
 -- the kinds that a level alone watches

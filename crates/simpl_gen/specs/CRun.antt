@@ -18,7 +18,7 @@ use Rattle.ac_expr.specs.Evaluation.{Env}
 use Rattle.ac_expr.specs.Signature.{Invocation, bound, no_env}
 use Rattle.simpl_lang.specs.Command as K
 use Rattle.simpl_lang.specs.Exec.{Machine, machine_with, with_local, Returned}
-use Rattle.c_types.specs.Typed as C
+use Rattle.c_typed.specs.Typed as C
 use Rattle.simpl_gen.specs.CValue.{Context, Defined, ◌>>=◌, Located, InMemory, InGlobal, value, values, located, accessible, converted, is_true, number_at}
 
 pub data Flow : Type 0 where

@@ -16,7 +16,7 @@ use Rattle.c_memory.specs.Heap.{read_heap, is_tagged}
 use Rattle.ac_expr.specs.Sort.{Level, Numbers, is_lifted}
 use Rattle.ac_expr.specs.Evaluation.{Env, State, moved, moved_to}
 use Rattle.simpl_lang.specs.Command as K
-use Rattle.c_types.specs.Typed as C
+use Rattle.c_typed.specs.Typed as C
 
 -- what C expressions are evaluated in
 pub record Context : Type 0 where

@@ -12,7 +12,7 @@ use Rattle.ac_expr.specs.Signature.{Binder, Signature}
 use Rattle.simpl_lang.specs.Command as K
 use Rattle.simpl_lang.specs.Command.{Condition, Simpl, Skip, Throw, Set, SetGlobal, Store, Pick, Seq, Cond, Guard, Catch, While, Call, SimplFn, SimplUnit}
 use Rattle.simpl_lang.specs.Exec.{result_local}
-use Rattle.c_types.specs.Typed as C
+use Rattle.c_typed.specs.Typed as C
 use Rattle.simpl_gen.specs.Guards.{when, word_of, int_literal, conversion, exp, exps, truth, path_of, guards, argument_guards, place_guards, accesses}
 
 abbrev pub exception_local : Name

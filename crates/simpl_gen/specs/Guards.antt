@@ -9,7 +9,7 @@ use Rattle.ac_expr.specs.Expression as E
 use Rattle.ac_expr.specs.Sort.{Level, Numbers, is_lifted}
 use Rattle.simpl_lang.specs.Command.{GuardKind, Condition}
 use Rattle.simpl_lang.specs.Command as K
-use Rattle.c_types.specs.Typed as C
+use Rattle.c_typed.specs.Typed as C
 
 abbrev pub when : GuardKind → E.Exp → Condition
 when k e = record { kind = k; exp = e }

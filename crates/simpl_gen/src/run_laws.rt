@@ -11,7 +11,7 @@ ghost use Rattle.ac_expr.specs.Sort.{Level, Bytes};
 ghost use Rattle.ac_expr.specs.Signature.{Invocation};
 ghost use Rattle.simpl_lang.specs.Exec.{Machine};
 ghost use Rattle.simpl_lang.specs.Command.{GuardKind, Tag, Wrap};
-ghost use Rattle.c_types.specs.Typed.{Expr, Statement, TypedUnit};
+ghost use Rattle.c_typed.specs.Typed.{Expr, Statement, TypedUnit};
 ghost use Rattle.simpl_gen.specs.CValue.{Context, value};
 ghost use Rattle.simpl_gen.specs.CRun.{Setting, statement, functions_below, c_runs, plain};
 

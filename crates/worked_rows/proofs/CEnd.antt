@@ -12,7 +12,7 @@ use Rattle.ac_expr.specs.Sort.{Level}
 use Rattle.ac_expr.specs.Signature.{Invocation, bound}
 use Rattle.simpl_lang.specs.Command as K
 use Rattle.simpl_lang.specs.Exec.{Machine, machine_with, with_local, Returned}
-use Rattle.c_types.specs.Typed as C
+use Rattle.c_typed.specs.Typed as C
 use Rattle.simpl_gen.specs.CValue.{◌>>=◌, value, values, located, accessible, converted, is_true, number_at}
 use Rattle.simpl_gen.specs.CRun as R
 use Rattle.simpl_gen.specs.CRun.{Flow, Next, Broken, Continued, Returning, Runs, Setting, Ended, context, stored, result_value, local_width, is_label, has_label}

@@ -13,7 +13,7 @@ use Rattle.ac_expr.specs.Sort.{Level, Words, Numbers}
 use Rattle.ac_expr.specs.Signature.{Invocation}
 use Rattle.simpl_lang.specs.Command.{GuardKind}
 use Rattle.simpl_lang.specs.Exec.{Returned, simpl_runs}
-use Rattle.c_types.specs.Typed.{TypedUnit}
+use Rattle.c_typed.specs.Typed.{TypedUnit}
 use Rattle.simpl_gen.specs.CRun.{c_runs}
 use Rattle.simpl_gen.specs.Generate.{generated}
 

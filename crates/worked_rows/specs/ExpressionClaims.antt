@@ -9,7 +9,7 @@ use Rattle.ac_expr.specs.Evaluation as E
 use Rattle.ac_expr.specs.Evaluation.{Env, holds}
 use Rattle.ac_expr.specs.Signature.{no_env}
 use Rattle.simpl_lang.specs.Command.{GuardKind, Condition}
-use Rattle.c_types.specs.Typed.{Expr}
+use Rattle.c_typed.specs.Typed.{Expr}
 use Rattle.simpl_gen.specs.CValue.{Context, value}
 use Rattle.simpl_gen.specs.Guards.{exp, guards}
 use Rattle.worked_rows.specs.Claims.{no_memory}

@@ -4,7 +4,7 @@ use Rattle.c_values.specs.Types.{Struct}
 use Rattle.c_values.specs.Word.{word}
 use Rattle.ac_expr.specs.Expression.{Exp, Var, WordLit, TruthLit, Not, Eq, Imp, PtrOk, Tagged}
 use Rattle.simpl_lang.specs.Command.{Pointer, Tag, Unreached, Condition, Simpl, Skip, Throw, Set, Seq, Guard, Catch}
-use Rattle.c_types.specs.Typed.{Return, TypedFn}
+use Rattle.c_typed.specs.Typed.{Return, TypedFn}
 use Rattle.worked_rows.specs.Trees.{uint, unsigned_literal, function}
 
 abbrev pub f : TypedFn

@@ -4,7 +4,7 @@ ghost use Rattle.std.specs.Prelude.{pos};
 ghost use Rattle.c_values.specs.Types.{Ilp32, Lp64, Char, SChar, UChar, Short, UShort, Int, UInt, Long, ULong, LLong, ULLong};
 ghost use Rattle.ac_expr.specs.Sort.{Bytes, Words, Numbers};
 ghost use Rattle.simpl_lang.specs.Command.{Div, Signed, Shift, Pointer, Bounds, Tag, Wrap};
-ghost use Rattle.c_types.specs.Typed.{Add, Subtract, Multiply, Divide, Remainder, Left, Right, Less, GreaterEqual, Compute, Compare, And, Or, Choose};
+ghost use Rattle.c_typed.specs.Typed.{Add, Subtract, Multiply, Divide, Remainder, Left, Right, Less, GreaterEqual, Compute, Compare, And, Or, Choose};
 ghost use Rattle.worked_rows.specs.Trees.{int, value, minus};
 ghost use Rattle.worked_rows.specs.ExpressionClaims.{alone, Evaluates, IsUndefined};
 ghost use Rattle.worked_rows.specs.Edges;

@@ -1,0 +1,412 @@
+//! Expressions, and the types, members, enumerators and lengths that stand among them.
+
+ghost use Rattle.std.specs.Prelude.{◌≡◌, [], pos};
+ghost use Rattle.c_grammar.specs.Tree as tree;
+ghost use Rattle.c_grammar.specs.View as view;
+ghost use Rattle.c_values.specs.CodeTypes.{type_of};
+ghost use Rattle.c_typing.specs.Answers.{Answers, RulesAs};
+ghost use Rattle.c_types.specs.CodeConstant.{constant_of};
+ghost use Rattle.c_typing.specs.CodeOperand.{operand_of, demand_of};
+ghost use Rattle.c_types.specs.CodeScope.{scope_of};
+ghost use Rattle.c_typing.specs.CodeWords.{part_of, base_of};
+ghost use Rattle.c_types.specs.CodeDeclared.{declared_of};
+ghost use Rattle.c_types.specs.CodeFields.{members_of};
+ghost use Rattle.c_typing.specs.Constant as constants;
+ghost use Rattle.c_typing.specs.Expressions as expressions;
+ghost use Rattle.c_typed.specs.View.{expr_of};
+
+use crate::declarators::{Declared, declarator_start, declared_type, length_at};
+use crate::members::Fields;
+use crate::nodes::{
+    binary_operand, cast_operand, character, chosen_operand, element, member, number,
+    pointer_member, size_constant, size_of_operand, unary, unary_demand, variable,
+};
+use crate::scope::Scope;
+use c_grammar::tree::{
+    CExp, Declarator, Declarators, Dimensions, Enumerator, Enumerators, Members, Word, Words,
+};
+use c_typed::tree::Expr;
+use c_typing::casts::{has_cast, operand_has_cast};
+use c_typing::constants::constant_value;
+use c_typing::fault::{TypeFault, TypeKind};
+use c_typing::operands::{Demand, Operand, type_of, value_in};
+use c_typing::rulings::{Refusal, at_node, refuse};
+use c_typing::specifiers::{Base, Part, Specs, named_part, pointers, type_start, words_start};
+use c_typing::types::{formed, is_integer, points_to_array};
+use c_values::{CType, Layout, Number};
+use std::alloc::Global;
+
+/// Where an expression begins.
+pub(crate) fn first(e: &CExp) -> usize
+    ensures { result ≡ expressions.first (view.exp_of e.now) }
+{
+    let mut left = e;
+    loop {
+        match left {
+            CExp::Name(at, _)
+            | CExp::Number(at, _, _, _, _)
+            | CExp::Character(at, _)
+            | CExp::Parenthesis(at, _)
+            | CExp::Unary(at, _, _)
+            | CExp::SizeofValue(at, _)
+            | CExp::SizeofType(at, _, _)
+            | CExp::Cast(at, _, _, _) => return *at,
+            CExp::Index(part, _)
+            | CExp::Member(part, _)
+            | CExp::PointerMember(part, _)
+            | CExp::Binary(_, part, _)
+            | CExp::Conditional(part, _, _) => left = &**part,
+        }
+    }
+}
+
+/// The value of an expression.
+pub(crate) fn value(alloc: Global, e: &CExp, scope: &mut Scope) -> Result<Expr, TypeFault>
+    ensures { Answers expr_of (scope_of scope.new) result (expressions.value (view.exp_of e.now) (scope_of scope.old)) }
+{
+    let operand = operand(alloc, e, scope, Demand::Value)?;
+    Ok(value_in(alloc, operand)?)
+}
+
+/// An operand that stays a place, as of `=`, `++` and `--`.
+pub(crate) fn place(alloc: Global, e: &CExp, scope: &mut Scope) -> Result<Operand, TypeFault>
+    ensures { Answers operand_of (scope_of scope.new) result (expressions.place (view.exp_of e.now) (scope_of scope.old)) }
+{
+    operand(alloc, e, scope, Demand::Place)
+}
+
+/// A constant expression's value, with its type.
+#[derive(Debug, Drop)]
+pub(crate) struct Evaluated {
+    pub(crate) ty: CType,
+    pub(crate) value: Number,
+}
+
+/// A constant expression.
+pub(crate) fn constant(alloc: Global, e: &CExp, scope: &mut Scope) -> Result<Evaluated, TypeFault>
+    ensures { Answers constant_of (scope_of scope.new) result (expressions.constant (view.exp_of e.now) (scope_of scope.old)) }
+{
+    let e_value = value(alloc, e, scope)?;
+    let constant = at_node(first(e), constant_in(alloc, &scope.layout, &e_value))?;
+    scope.note(has_cast(&e_value));
+    Ok(constant)
+}
+
+fn constant_in(alloc: Global, l: &Layout, e: &Expr) -> Result<Evaluated, Refusal>
+    ensures { RulesAs constant_of result (expressions.constant_of (expr_of e.now) (constants.constant_value l.now (expr_of e.now))) }
+{
+    match constant_value(l, e) {
+        Some(value) => Ok(Evaluated {
+            ty: formed(alloc, type_of(e))?,
+            value,
+        }),
+        None => Err(Refusal::Kind(TypeKind::Mismatch)),
+    }
+}
+
+/// The value of a constant expression of an integer type.
+#[cycle(expression)]
+pub(crate) fn integer_constant(
+    alloc: Global,
+    e: &CExp,
+    scope: &mut Scope,
+) -> Result<Number, TypeFault>
+    ensures { Answers (λ n. n) (scope_of scope.new) result (expressions.integer_constant (view.exp_of e.now) (scope_of scope.old)) }
+{
+    let operand = operand(alloc, e, scope, Demand::Value)?;
+    let e_value = value_in(alloc, operand)?;
+    let n = at_node(first(e), integer_of(&scope.layout, &e_value))?;
+    scope.note(has_cast(&e_value));
+    Ok(n)
+}
+
+fn integer_of(l: &Layout, e: &Expr) -> Result<Number, Refusal>
+    ensures { RulesAs (λ n. n) result (expressions.integer_of (expr_of e.now) (constants.constant_value l.now (expr_of e.now))) }
+{
+    match constant_value(l, e) {
+        Some(n) => {
+            refuse(!is_integer(type_of(e)), TypeKind::Mismatch)?;
+            Ok(n)
+        }
+        None => Err(Refusal::Kind(TypeKind::Mismatch)),
+    }
+}
+
+/// A type, and whether `static` or `extern` stands beside it.
+#[cycle(expression)]
+pub(crate) fn base(alloc: Global, words: &Words, scope: &mut Scope) -> Result<Base, TypeFault>
+    ensures { Answers base_of (scope_of scope.new) result (expressions.base (view.words_of words.now) (scope_of scope.old)) }
+{
+    let mut specs = Specs::none();
+    let mut rest = words;
+    while let Words::More(first, more) = rest {
+        let part = word(alloc, &**first, scope)?;
+        specs = specs.with_part(part);
+        rest = &**more;
+    }
+    at_node(type_start(words), specs.base())
+}
+
+#[cycle(expression)]
+fn word(alloc: Global, word: &Word, scope: &mut Scope) -> Result<Part, TypeFault>
+    ensures { Answers part_of (scope_of scope.new) result (expressions.word (view.word_of word.now) (scope_of scope.old)) }
+{
+    match word {
+        Word::Reserved(_, keyword) => Ok(Part::Word(*keyword)),
+        Word::Named(at, name) => at_node(*at, named_part(alloc, scope.typedefs.get(name.as_str()))),
+        Word::StructTag(at, tag) => {
+            let ty = at_node(*at, scope.struct_tag(alloc, tag.as_str()))?;
+            Ok(Part::Type(ty))
+        }
+        Word::StructBody(at, tag, body) => {
+            scope.mention(alloc, text_of(tag))?;
+            let fields = members(alloc, &**body, scope)?;
+            let ty = at_node(
+                *at,
+                scope.struct_body(alloc, text_of(tag), fields.into_members()),
+            )?;
+            Ok(Part::Type(ty))
+        }
+        Word::EnumTag(at, tag) => {
+            let ty = at_node(*at, scope.enum_tag(tag.as_str()))?;
+            Ok(Part::Type(ty))
+        }
+        Word::EnumBody(at, tag, body) => {
+            let _ = enumerators(alloc, &**body, scope)?;
+            let ty = at_node(*at, scope.enum_body(alloc, text_of(tag)))?;
+            Ok(Part::Type(ty))
+        }
+    }
+}
+
+fn text_of(name: &Option<String>) -> Option<&str> {
+    match name {
+        Some(name) => Some(name.as_str()),
+        None => None,
+    }
+}
+
+#[cycle(expression)]
+fn members(alloc: Global, members: &Members, scope: &mut Scope) -> Result<Fields, TypeFault>
+    ensures { Answers members_of (scope_of scope.new) result
+        (expressions.members [] (view.members_of members.now) (scope_of scope.old)) }
+{
+    let mut fields = Fields::none(alloc);
+    let mut rest = members;
+    loop {
+        match rest {
+            Members::Last(words, declared) => {
+                let base = base(alloc, &**words, scope)?;
+                return declarators(alloc, &**declared, scope, &base.ty, fields);
+            }
+            Members::More(words, declared, more) => {
+                let base = base(alloc, &**words, scope)?;
+                fields = declarators(alloc, &**declared, scope, &base.ty, fields)?;
+                rest = &**more;
+            }
+        }
+    }
+}
+
+#[cycle(expression)]
+fn declarators(
+    alloc: Global,
+    declared: &Declarators,
+    scope: &mut Scope,
+    ty: &CType,
+    fields: Fields,
+) -> Result<Fields, TypeFault>
+    ensures { Answers members_of (scope_of scope.new) result
+        (expressions.declarators (type_of ty.now) (members_of fields) (view.declarators_of declared.now) (scope_of scope.old)) }
+{
+    let mut fields = fields;
+    let mut rest = declared;
+    loop {
+        match rest {
+            Declarators::Last(last) => {
+                let member = declarator(alloc, &**last, scope, ty)?;
+                return at_node(member.at, fields.join(&scope.layout, member));
+            }
+            Declarators::More(next, more) => {
+                let member = declarator(alloc, &**next, scope, ty)?;
+                fields = at_node(member.at, fields.join(&scope.layout, member))?;
+                rest = &**more;
+            }
+        }
+    }
+}
+
+/// A declarator: its faults are those of what it declares, beside others there.
+#[cycle(expression)]
+pub(crate) fn declarator(
+    alloc: Global,
+    declarator: &Declarator,
+    scope: &mut Scope,
+    ty: &CType,
+) -> Result<Declared, TypeFault>
+    ensures { Answers declared_of (scope_of scope.new) result (expressions.declarator (type_of ty.now) (view.declarator_of declarator.now) (scope_of scope.old)) }
+{
+    let Declarator::Declare(stars, at, name, dimensions) = declarator;
+    let lengths = lengths(alloc, &**dimensions, scope)?;
+    Ok(Declared {
+        at: declarator_start(stars, *at),
+        name: name.clone()?,
+        ty: declared_type(alloc, ty, stars.len(), &lengths)?,
+    })
+}
+
+#[cycle(expression)]
+fn lengths(alloc: Global, dimensions: &Dimensions, scope: &mut Scope) -> Result<Vec<u32>, TypeFault>
+    ensures { Answers (λ v. v.items) (scope_of scope.new) result (expressions.dimensions [] (view.dimensions_of dimensions.now) (scope_of scope.old)) }
+{
+    let mut lengths = Vec::new(alloc);
+    let mut rest = dimensions;
+    while let Dimensions::More(length, more) = rest {
+        let n = integer_constant(alloc, &**length, scope)?;
+        lengths.push(length_at(n))?;
+        rest = &**more;
+    }
+    Ok(lengths)
+}
+
+// The value behind the last one.
+#[cycle(expression)]
+fn enumerators(
+    alloc: Global,
+    enumerators: &Enumerators,
+    scope: &mut Scope,
+) -> Result<Number, TypeFault>
+    ensures { Answers (λ n. n) (scope_of scope.new) result
+        (expressions.enumerators (pos 0) (view.enumerators_of enumerators.now) (scope_of scope.old)) }
+{
+    let mut next = Number::new(false, 0);
+    let mut rest = enumerators;
+    loop {
+        match rest {
+            Enumerators::Last(last) => return enumerator(alloc, &**last, scope, next),
+            Enumerators::More(first, more) => {
+                next = enumerator(alloc, &**first, scope, next)?;
+                rest = &**more;
+            }
+        }
+    }
+}
+
+#[cycle(expression)]
+fn enumerator(
+    alloc: Global,
+    enumerator: &Enumerator,
+    scope: &mut Scope,
+    next: Number,
+) -> Result<Number, TypeFault>
+    ensures { Answers (λ n. n) (scope_of scope.new) result
+        (expressions.enumerator next (view.enumerator_of enumerator.now) (scope_of scope.old)) }
+{
+    match enumerator {
+        Enumerator::Implicit(at, name) => at_node(
+            *at,
+            scope.enumerator(alloc, name.as_str(), next),
+        ),
+        Enumerator::Explicit(at, name, value) => {
+            let n = integer_constant(alloc, &**value, scope)?;
+            at_node(*at, scope.enumerator(alloc, name.as_str(), n))
+        }
+    }
+}
+
+// The type of a cast, or of a `sizeof`.
+#[cycle(expression)]
+fn type_name(
+    alloc: Global,
+    words: &Words,
+    scope: &mut Scope,
+    stars: &[usize],
+) -> Result<CType, TypeFault>
+    ensures { Answers type_of (scope_of scope.new) result (expressions.type_name (tree.Typed (view.words_of words.now) stars.now) (scope_of scope.old)) }
+{
+    let base = base(alloc, words, scope)?;
+    at_node(words_start(words), starred(alloc, stars.len(), base.ty))
+}
+
+// Stars around a type; there is no pointer to an array.
+fn starred(alloc: Global, stars: usize, ty: CType) -> Result<CType, Refusal>
+    ensures { RulesAs type_of result (expressions.starred stars (type_of ty)) }
+{
+    let ty = pointers(alloc, stars, ty)?;
+    refuse(points_to_array(&ty), TypeKind::OutOfSubset)?;
+    Ok(ty)
+}
+
+/// An operand.
+#[cycle(expression)]
+fn operand(alloc: Global, e: &CExp, scope: &mut Scope, demand: Demand) -> Result<Operand, TypeFault>
+    ensures { Answers operand_of (scope_of scope.new) result (expressions.operand (demand_of demand) (view.exp_of e.now) (scope_of scope.old)) }
+{
+    match e {
+        CExp::Name(at, name) => at_node(*at, variable(alloc, scope, demand, name.as_str())),
+        CExp::Number(at, n, decimal, unsigned, longs) => at_node(
+            *at,
+            number(scope.layout.target(), *n, *decimal, *unsigned, *longs),
+        ),
+        CExp::Character(_, c) => Ok(character(*c)),
+        CExp::Parenthesis(_, inner) => operand(alloc, &**inner, scope, demand),
+        CExp::Index(array, index) => {
+            let array = operand(alloc, &**array, scope, Demand::Element)?;
+            let index = operand(alloc, &**index, scope, Demand::Value)?;
+            at_node(
+                first(e),
+                element(alloc, &scope.layout, demand, array, index),
+            )
+        }
+        CExp::Member(whole, name) => {
+            let whole = operand(alloc, &**whole, scope, Demand::Place)?;
+            at_node(
+                first(e),
+                member(alloc, &scope.layout, demand, whole, name.as_str()),
+            )
+        }
+        CExp::PointerMember(pointer, name) => {
+            let pointer = operand(alloc, &**pointer, scope, Demand::Value)?;
+            at_node(
+                first(e),
+                pointer_member(alloc, &scope.layout, demand, pointer, name.as_str()),
+            )
+        }
+        CExp::Unary(at, op, inner) => {
+            let inner = operand(alloc, &**inner, scope, unary_demand(*op))?;
+            at_node(*at, unary(alloc, &scope.layout, demand, *op, inner))
+        }
+        CExp::SizeofValue(at, inner) => {
+            let inner = operand(alloc, &**inner, scope, Demand::Place)?;
+            let size = at_node(*at, size_of_operand(alloc, &scope.layout, &inner))?;
+            scope.note(operand_has_cast(&inner));
+            Ok(size)
+        }
+        CExp::SizeofType(at, words, stars) => {
+            let ty = type_name(alloc, &**words, scope, stars.as_slice())?;
+            at_node(*at, size_constant(&scope.layout, &ty))
+        }
+        CExp::Cast(at, words, stars, inner) => {
+            let ty = type_name(alloc, &**words, scope, stars.as_slice())?;
+            let inner = operand(alloc, &**inner, scope, Demand::Value)?;
+            at_node(*at, cast_operand(alloc, &scope.layout, ty, inner))
+        }
+        CExp::Binary(op, left, right) => {
+            let left = operand(alloc, &**left, scope, Demand::Value)?;
+            let right = operand(alloc, &**right, scope, Demand::Value)?;
+            at_node(
+                first(e),
+                binary_operand(alloc, &scope.layout, *op, left, right),
+            )
+        }
+        CExp::Conditional(test, left, right) => {
+            let test = operand(alloc, &**test, scope, Demand::Value)?;
+            let left = operand(alloc, &**left, scope, Demand::Value)?;
+            let right = operand(alloc, &**right, scope, Demand::Value)?;
+            at_node(
+                first(e),
+                chosen_operand(alloc, &scope.layout, test, left, right),
+            )
+        }
+    }
+}

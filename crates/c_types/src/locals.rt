@@ -1,0 +1,102 @@
+//! Locals: each is a scalar, has a name of its own, and begins with a value or with any.
+
+ghost use Rattle.std.specs.Prelude.{◌≡◌, string_bytes, OnOk};
+ghost use Rattle.c_typing.specs.Answers.{RulesAs};
+ghost use Rattle.c_types.specs.CodeDeclared.{declared_of};
+ghost use Rattle.c_types.specs.CodeScope.{scope_of};
+ghost use Rattle.c_typing.specs.Locals as rules;
+
+use crate::calls::{assigned, right_side};
+use crate::declarators::{Declared, is_incomplete};
+use crate::expressions::{base, declarator};
+use crate::scope::{Entity, Scope};
+use c_grammar::tree::{Init, Local, Rhs};
+use c_typed::tree::{Destination, Statement};
+use c_typing::fault::{TypeFault, TypeKind};
+use c_typing::rulings::{Refusal, at_node, refuse};
+use c_typing::specifiers::words_start;
+use c_typing::types::{copy_of, form_of, is_scalar, points_to_array};
+use std::alloc::{AllocError, Global};
+
+/// Adds the statements of a declaration of locals.
+pub(crate) fn local(
+    alloc: Global,
+    local: &Local,
+    scope: &mut Scope,
+    statements: &mut Vec<Statement>,
+) -> Result<(), TypeFault> {
+    let base = base(alloc, &local.words, scope)?;
+    for init in &local.inits {
+        let head = declarator(alloc, &init.declarator, scope, &base.ty)?;
+        statements.push(declared(alloc, head, &init.value, scope)?)?;
+    }
+    at_node(
+        words_start(&local.words),
+        refuse(base.is_static || base.is_extern, TypeKind::OutOfSubset),
+    )
+}
+
+// A local with its value. Its name isn't used in that.
+fn declared(
+    alloc: Global,
+    head: Declared,
+    value: &Option<Rhs>,
+    scope: &mut Scope,
+) -> Result<Statement, TypeFault> {
+    let own = at_node(head.at, local_name(alloc, &head, &*scope))?;
+    add_local(alloc, &head, own.as_str(), scope)?;
+    let statement = initial(alloc, &head, own.as_str(), value, scope)?;
+    name_local(head, own, scope)?;
+    Ok(statement)
+}
+
+// The rule of a local: a scalar under a name that is new in its block. It gives the local's own name.
+fn local_name(alloc: Global, head: &Declared, scope: &Scope) -> Result<String, Refusal>
+    ensures { RulesAs string_bytes result (rules.local_name (declared_of head.now) (scope_of scope.now)) }
+{
+    let name = head.name.as_str();
+    refuse(scope.is_declared_here(name), TypeKind::Twice)?;
+    refuse(is_incomplete(&scope.layout, &head.ty), TypeKind::Incomplete)?;
+    refuse(
+        !is_scalar(form_of(&head.ty)) || points_to_array(&head.ty),
+        TypeKind::OutOfSubset,
+    )?;
+    Ok(scope.progress.own_name(alloc, name)?)
+}
+
+// Declares a local that isn't to be used yet.
+fn add_local(alloc: Global, head: &Declared, own: &str, scope: &mut Scope) -> Result<(), AllocError>
+    ensures { OnOk result (scope_of scope.new ≡ rules.add_local own.now (declared_of head.now) (scope_of scope.old)) }
+{
+    let name = head.name.as_str();
+    scope.progress.add_local(alloc, own, name, &head.ty)?;
+    scope.declare(String::from_str(alloc, name)?, Entity::Hidden)?;
+    Ok(())
+}
+
+// A local that is to be used from here on.
+fn name_local(head: Declared, own: String, scope: &mut Scope) -> Result<(), AllocError>
+    ensures { OnOk result (scope_of scope.new ≡ rules.name_local (string_bytes own) (declared_of head) (scope_of scope.old)) }
+{
+    scope.declare(head.name, Entity::Local(own, head.ty))
+}
+
+// The value that a local begins with, or any.
+fn initial(
+    alloc: Global,
+    head: &Declared,
+    own: &str,
+    value: &Option<Rhs>,
+    scope: &mut Scope,
+) -> Result<Statement, TypeFault> {
+    let name = String::from_str(alloc, own)?;
+    let ty = copy_of(alloc, &head.ty)?;
+    match value {
+        None => Ok(Statement::Declare(name, ty)),
+        Some(source) => {
+            let source = right_side(alloc, source, scope)?;
+            let target = Destination::ToLocal(name, ty);
+            at_node(head.at, assigned(alloc, &scope.layout, target, source))
+        }
+    }
+}

@@ -1,0 +1,4 @@
+pub mod Layers
+pub mod Naming
+pub mod Finding
+pub mod Lengths

@@ -1,0 +1,16 @@
+//! The typing rules of C: which trees are typed, and how, is defined in `specs`. Here are the rules of nodes whose parts are typed:
+//! operands, operators, constants, and the words of a type.
+#![tactic(auto)]
+
+pub mod casts;
+pub mod constants;
+pub mod copies;
+pub mod fault;
+mod folding;
+pub mod integers;
+pub mod operands;
+pub mod operators;
+pub mod progress;
+pub mod rulings;
+pub mod specifiers;
+pub mod types;
