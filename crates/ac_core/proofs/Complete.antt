@@ -8,7 +8,7 @@ use Rattle.ac_core.specs.Sum.{SumFunction}
 use Rattle.ac_core.specs.Class.{class_of}
 use Rattle.c_lex.proofs.Leads.{one_list, tokens_or_fault}
 use Rattle.c_grammar.proofs.Texts.{one_tree}
-use Rattle.c_parse.specs.Limits.{first_limit}
+use Rattle.c_limits.specs.Limits.{first_limit}
 use Rattle.ac_base.specs.Count.{Rose}
 use Rattle.ac_base.specs.Sink.{grown}
 use Rattle.ac_core.specs.Words.{command_of, plain_show}

@@ -8,9 +8,9 @@ use Rattle.c_lex.specs.Tokens.{Tokens, FaultAt}
 use Rattle.c_grammar.specs.Tree.{External}
 use Rattle.c_grammar.specs.Spells.{Spells}
 use Rattle.c_grammar.specs.Place.{IsPlace}
-use Rattle.c_parse.specs.Limits.{first_limit}
+use Rattle.c_limits.specs.Limits.{first_limit}
 use Rattle.c_parse.specs.Answer.{HasNoTree, Passes}
-use Rattle.c_parse.specs.declared.limits.Limit as limits
+use Rattle.c_limits.specs.declared.limits.Limit as limits
 use Rattle.monad_lang.specs.Program.{FinalUnit, FinalFn}
 use Rattle.monad_lang.specs.Form.{is_numbers}
 use Rattle.ac_base.specs.Count.{Rose}

@@ -11,8 +11,8 @@ use Rattle.c_grammar.specs.declared.fault.ScriptFault.{ScriptFault}
 use Rattle.c_grammar.specs.declared.fault.ScriptFault.TheVariants as script
 use Rattle.c_grammar.proofs.Texts.{one_tree}
 use Rattle.c_parse.specs.Answer.{HasNoTree, IsFaultOf, of_script}
-use Rattle.c_parse.specs.Limits.{Fault, first_limit}
-use Rattle.c_parse.specs.declared.limits.Limit.{Limit}
+use Rattle.c_limits.specs.Limits.{Fault, first_limit}
+use Rattle.c_limits.specs.declared.limits.Limit.{Limit}
 use Rattle.c_parse.specs.declared.fault.ParseFault.{ParseFault}
 use Rattle.c_parse.specs.declared.fault.ParseFault.TheVariants as faults
 

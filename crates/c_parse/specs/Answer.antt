@@ -4,8 +4,8 @@ use Rattle.c_lex.specs.Lexeme.{Lexeme}
 use Rattle.c_grammar.specs.Tree.{External}
 use Rattle.c_grammar.specs.Spells.{Spells}
 use Rattle.c_grammar.specs.Place.{IsPlace}
-use Rattle.c_parse.specs.Limits.{first_limit}
-use Rattle.c_parse.specs.declared.limits.Limit as limits
+use Rattle.c_limits.specs.Limits.{first_limit}
+use Rattle.c_limits.specs.declared.limits.Limit as limits
 use Rattle.c_grammar.specs.declared.fault.ScriptFault.{ScriptFault}
 use Rattle.c_grammar.specs.declared.fault.ScriptFault.TheVariants as script
 use Rattle.c_parse.specs.declared.fault.ParseFault.{ParseFault}

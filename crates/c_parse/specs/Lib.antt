@@ -1,10 +1,1 @@
-pub mod FirstToken
-pub mod Limits
-pub mod Levels
-pub mod LimitsExamples
-pub mod Roles
-pub mod Measure
-pub mod Stacks
-pub mod Reduce
-pub mod StacksOf
 pub mod Answer

@@ -3,8 +3,8 @@ ghost use Rattle.std.specs.Prelude.{◌≡◌};
 ghost use Rattle.c_parse.specs.declared.fault.ParseFault.TheVariants.{Memory};
 ghost use Rattle.c_parse.specs.Answer.{of_script};
 
-use crate::limits::Limit;
 use c_grammar::ScriptFault;
+use c_limits::limits::Limit;
 use std::alloc::{AllocError, AllocFailed};
 use thiserror::Error;
 

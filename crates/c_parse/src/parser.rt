@@ -5,16 +5,16 @@ ghost use Rattle.c_lex.specs.Lexeme.{lexemes_of};
 ghost use Rattle.c_grammar.specs.Tree.{External};
 ghost use Rattle.c_grammar.specs.Spells.{Spells};
 ghost use Rattle.c_grammar.specs.View.{unit_of};
-ghost use Rattle.c_parse.specs.Limits.{first_limit};
+ghost use Rattle.c_limits.specs.Limits.{first_limit};
 ghost use Rattle.c_parse.specs.Answer.{HasNoTree, IsFaultOf, IsRefused, IsRefusedAsSyntax};
-ghost use Rattle.c_parse.specs.declared.limits.Limit.{Limit};
+ghost use Rattle.c_limits.specs.declared.limits.Limit.{Limit};
 
-use crate::build::build;
 use crate::fault::ParseFault;
-use crate::limits::first_limit;
+use c_build::build::build;
 use c_grammar::script::script;
 use c_grammar::tree::Unit;
 use c_lex::Token;
+use c_limits::limits::first_limit;
 use std::alloc::Global;
 
 /// The tree that spells the tokens.

@@ -1,0 +1,2 @@
+pub mod BuildReduces
+pub mod BuildReplays

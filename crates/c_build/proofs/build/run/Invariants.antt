@@ -1,0 +1,10 @@
+-- The steps that are left make of these stacks what all make of empty ones.
+use Rattle.std.proofs.Common.{◌≡◌, drop}
+use Rattle.c_lex.specs.Lexeme.{lexemes_of}
+use Rattle.c_build.specs.Reduce.{rebuild}
+use Rattle.c_build.specs.Stacks.{empty}
+use Rattle.c_build.specs.StacksOf.{stacks_of}
+use Rattle.c_build.proofs.build.run.Given as goal
+
+abbrev pub invariant-loop-step : goal.invariant-loop-step
+invariant-loop-step l = rebuild (drop l.step-index l.steps) (lexemes_of l.rest) (stacks_of l.stacks) ≡ rebuild l.steps (lexemes_of l.tokens) empty

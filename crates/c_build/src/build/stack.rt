@@ -1,0 +1,84 @@
+//! A stack of values, the last one on top.
+
+ghost use Rattle.std.specs.Prelude.{◌≡◌, [], ◌∷◌, List, MatchResult, reverse};
+ghost use Rattle.c_build.specs.declared.build.stack.BuildFault.TheVariants.{Memory, Missing};
+
+use std::alloc::{AllocError, AllocFailed, Global};
+use std::marker::Model;
+
+/// Why no tree is built.
+#[derive(Clone, Copy, Debug, PartialEq, Eq)]
+pub(crate) enum BuildFault {
+    /// A part of a tree is missing.
+    Missing,
+    /// Memory ran out.
+    Memory,
+}
+
+impl From<AllocError> for BuildFault {
+    ghost from_gives = { λ _ e. e ≡ Memory };
+
+    fn from(_error: AllocError) -> BuildFault {
+        BuildFault::Memory
+    }
+}
+
+impl<T: Drop> From<AllocFailed<T>> for BuildFault {
+    ghost from_gives = { λ _ e. e ≡ Memory };
+
+    fn from(_error: AllocFailed<T>) -> BuildFault {
+        BuildFault::Memory
+    }
+}
+
+/// A stack: contracts see the list of its values, the top first.
+#[derive(Drop)]
+pub(crate) struct Stack<T> {
+    items: Vec<T>,
+}
+
+impl<T> Model for Stack<T> {
+    ghost Value = { List T };
+
+    ghost view = { λ s. reverse s.items.items };
+}
+
+impl<T> Stack<T> {
+    /// An empty stack.
+    pub(crate) fn new(alloc: Global) -> Self
+        ensures { result ≡ [] }
+    {
+        Stack {
+            items: Vec::new(alloc),
+        }
+    }
+
+    /// Takes the top.
+    pub(crate) fn pop(&mut self) -> Result<T, BuildFault>
+        ensures { MatchResult result (λ top. self.old ≡ top ∷ self.new) (λ e. (e ≡ Missing) × (self.old ≡ [])) }
+    {
+        match self.items.pop() {
+            Some(top) => Ok(top),
+            None => Err(BuildFault::Missing),
+        }
+    }
+}
+
+impl<T: Drop> Stack<T> {
+    /// Puts a value on top.
+    pub(crate) fn push(&mut self, top: T) -> Result<(), BuildFault>
+        ensures { MatchResult result (λ _. self.new ≡ top ∷ self.old) (λ e. e ≡ Memory) }
+    {
+        self.items.push(top)?;
+        Ok(())
+    }
+
+    /// The values, the top first.
+    pub(crate) fn into_vec(self) -> Vec<T>
+        ensures { result.items ≡ self }
+    {
+        let Stack { mut items } = self;
+        items.reverse();
+        items
+    }
+}

@@ -1,0 +1,99 @@
+//! The parts of a text on the stack: where each begins, and its measure.
+
+ghost use Rattle.std.specs.Prelude.{◌≡◌, IfOk, map, option_map, reverse};
+ghost use Rattle.c_limits.specs.Measure as machine;
+
+use super::measure::Measure;
+use super::role::{Role, arity, role_of};
+use c_grammar::Production;
+use std::alloc::{AllocError, Global};
+
+/// A part of a text.
+#[derive(Drop)]
+pub(super) struct Part {
+    /// The offset of its first token, where that can be the first one of a node.
+    pub(super) first: Option<usize>,
+    /// What counts in it.
+    pub(super) measure: Measure,
+}
+
+impl Part {
+    /// The part without tokens.
+    pub(super) fn empty(alloc: Global) -> Part
+        ensures { machine.part_of result ≡ machine.empty }
+    {
+        Part {
+            first: None,
+            measure: Measure::nothing(alloc),
+        }
+    }
+
+    /// A token at an offset.
+    pub(super) fn token(alloc: Global, at: usize) -> Part
+        ensures { machine.part_of result ≡ machine.token at }
+    {
+        Part {
+            first: Some(at),
+            measure: Measure::nothing(alloc),
+        }
+    }
+
+    /// Two parts side by side.
+    pub(super) fn beside(self, right: Part) -> Result<Part, AllocError>
+        ensures { IfOk result (λ part. machine.part_of part ≡ machine.joined machine.cut (machine.part_of self) (machine.part_of right)) }
+    {
+        Ok(Part {
+            first: self.first.or(right.first),
+            measure: self.measure.beside(right.measure)?,
+        })
+    }
+
+    /// What a production makes of its parts, if anything.
+    pub(super) fn made(self, alloc: Global, role: Role) -> Result<Option<Part>, AllocError>
+        ensures { machine.cut_part (machine.part_of self) ≡ machine.part_of self → IfOk result (λ part. option_map machine.part_of part ≡ machine.made machine.cut role (machine.part_of self)) }
+    {
+        let Part { first, measure } = self;
+        let at = first.unwrap_or(0);
+        let (first, measure) = match role {
+            Role::Nothing => return Ok(None),
+            Role::Node => (first, measure.node(at)?),
+            Role::Specifier => (first, measure),
+            Role::Part => (None, measure),
+            Role::Simple => (first, measure.outermost(alloc)),
+            Role::Outermost => (None, measure.outermost(alloc)),
+            Role::Statement => (None, measure.statement(alloc, at)?),
+            Role::Local => (None, measure.local(alloc, at)?),
+            Role::Function => (None, measure.function(alloc, at)?),
+        };
+        Ok(Some(Part { first, measure }))
+    }
+}
+
+/// Takes some parts from the stack, and puts them side by side.
+fn gather(alloc: Global, parts: &mut Vec<Part>, count: usize) -> Result<Part, AllocError>
+    ensures { IfOk result (λ part. (machine.part_of part, reverse (map machine.part_of parts.new.items)) ≡ machine.gathered machine.cut count (reverse (map machine.part_of parts.old.items)) machine.empty) }
+{
+    let mut sum = Part::empty(alloc);
+    for _ in 0..count {
+        match parts.pop() {
+            Some(part) => sum = part.beside(sum)?,
+            None => break,
+        }
+    }
+    Ok(sum)
+}
+
+/// Puts what a production makes of its parts in their place.
+pub(super) fn reduce(
+    alloc: Global,
+    parts: &mut Vec<Part>,
+    production: Production,
+) -> Result<(), AllocError>
+    ensures { IfOk result (λ _. reverse (map machine.part_of parts.new.items) ≡ machine.reduced machine.cut production (reverse (map machine.part_of parts.old.items))) }
+{
+    let sum = gather(alloc, parts, arity(production))?;
+    if let Some(part) = sum.made(alloc, role_of(production))? {
+        parts.push(part)?;
+    }
+    Ok(())
+}

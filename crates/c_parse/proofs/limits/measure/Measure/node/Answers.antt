@@ -1,7 +1,0 @@
-use Rattle.std.proofs.Common.{rules}
-use Rattle.c_parse.specs.Measure as machine
-use Rattle.c_parse.proofs.LimitsSteps.{node_is}
-use Rattle.c_parse.proofs.limits.measure.Measure.node.Goals as goal
-
-pub returns : goal.returns
-returns c = λ h. node_is c.args.at (machine.measure_of c.args.self) _ _ _ h c.in_ok-self.ensures c.in_ok-self-2.ensures (search rules)
