@@ -23,6 +23,3 @@ mod zeros;
 pub use c_typed::tree::{TypedFn, TypedUnit};
 pub use c_typing::fault::{TypeFault, TypeKind};
 pub use unit::check_unit;
-
-#[cfg(test)]
-mod tests;
