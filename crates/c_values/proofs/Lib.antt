@@ -21,4 +21,5 @@ pub mod Members
 pub mod Growing
 pub mod Naming
 pub mod Into
+pub mod Zeroed
 pub mod Following

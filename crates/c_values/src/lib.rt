@@ -17,6 +17,7 @@ pub mod views;
 pub mod word_laws;
 mod word_operations;
 mod words;
+mod zero_values;
 
 pub use layouts::{Layout, LayoutFault, StructDef, align_of, is_object, size_of};
 pub use numbers::{Number, NumberOp, number_op};
@@ -28,3 +29,4 @@ pub use word_operations::{
     ShiftOp, UnaryOp, WordOp, WordTest, cast, word_op, word_shift, word_test, word_unary,
 };
 pub use words::Word;
+pub use zero_values::zeros;

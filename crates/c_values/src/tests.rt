@@ -8,8 +8,8 @@ ghost use Rattle.c_values.specs.CodeLayout.{struct_def_of};
 use crate::views::word;
 use crate::{
     CType, IntType, Layout, LayoutFault, Number, NumberOp, PathStep, ShiftOp, StructDef, Target,
-    UnaryOp, Word, WordOp, WordTest, align_of, cast, fits, int, is_object, nat, number_op,
-    offset_of, size_of, width_of, word_op, word_shift, word_test, word_unary,
+    UnaryOp, Value, Word, WordOp, WordTest, align_of, cast, fits, int, is_object, nat, number_op,
+    offset_of, size_of, width_of, word_op, word_shift, word_test, word_unary, zeros,
 };
 use std::alloc::{AllocError, Global};
 use std::test::Fail;
@@ -259,5 +259,18 @@ fn nested_arrays(rt: HostRuntime) -> Result<(), Fail> {
         t = CType::Array(Box::new(alloc, t)?, u32::MAX);
     }
     assert!(rt; !is_object(&layout, &t));
+    Ok(())
+}
+
+#[test]
+fn zeros_of_nested_arrays(rt: HostRuntime) -> Result<(), Fail> {
+    let alloc = rt.alloc();
+    let layout = Layout::build(Target::Lp64, structs(alloc, 3)?)?;
+    let mut t = CType::Struct(String::from_str(alloc, "q")?);
+    for _ in 0..100000 {
+        t = CType::Array(Box::new(alloc, t)?, 1);
+    }
+    let value = zeros(alloc, &layout, &t)?;
+    assert!(rt; matches!(&value, Value::Parts(parts) if parts.len() == 1));
     Ok(())
 }
