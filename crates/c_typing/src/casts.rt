@@ -1,10 +1,12 @@
 //! Conversions to a pointer to a type that isn't void, from another type, null pointer constants apart.
 
-ghost use Rattle.std.specs.Prelude.{◌≡◌};
+ghost use Rattle.std.specs.Prelude.{◌≡◌, not};
 ghost use Rattle.c_values.specs.CodeTypes.{type_of};
 ghost use Rattle.c_values.specs.Types as types;
 ghost use Rattle.c_typed.specs.Cast as casts;
 ghost use Rattle.c_typing.specs.CodeForm.{form_type};
+ghost use Rattle.c_typing.specs.CodeOperand.{operand_of};
+ghost use Rattle.c_typing.specs.Operand as operands;
 ghost use Rattle.c_typed.specs.View.{expr_of, place_of, path_of};
 
 use crate::operands::{Operand, type_of};
@@ -13,7 +15,9 @@ use c_typed::tree::{Expr, Path, Place};
 use c_values::CType;
 
 /// Whether there is such a conversion in an operand.
-pub fn operand_has_cast(operand: &Operand) -> bool {
+pub fn operand_has_cast(operand: &Operand) -> bool
+    ensures { result ≡ operands.operand_has_cast (operand_of operand.now) }
+{
     match operand {
         Operand::Valued(e) => has_cast(e),
         Operand::Variable(_, _) => false,
@@ -79,7 +83,9 @@ fn casts_to(to: &CType, from: Form<'_>) -> bool
     }
 }
 
-fn is_void(t: &CType) -> bool {
+fn is_void(t: &CType) -> bool
+    ensures { not result ≡ casts.is_non_void_pointer (types.Ptr (type_of t.now)) }
+{
     matches!(t, CType::Void)
 }
 
