@@ -14,6 +14,3 @@ pub mod progress;
 pub mod rulings;
 pub mod specifiers;
 pub mod types;
-
-#[cfg(test)]
-mod tests;
