@@ -1,10 +1,10 @@
 -- Zeros that are made one after the other, and one around the other.
 use Rattle.std.proofs.Common.{◌≡◌, ℕ, zero, suc, ◌+◌, ◌≤◌, max, Bool, true, false, cond, eqb, List, [], ◌∷◌, ◌++◌, refl, sym, ap, ap₂, ◌∙◌, arith, le_refl, eqb-true}
-use Rattle.std.specs.Prelude.{Option, Some, None, Vec, slice_get}
+use Rattle.std.specs.Prelude.{Some, None, Vec, slice_get}
 use Rattle.std.specs.declared.alloc.Global.{Global}
 use Rattle.c_values.specs.Name.{Name, same_name, with_name}
 use Rattle.c_values.specs.Types.{Target, CType, Integer, Void, Ptr, Struct, Array}
-use Rattle.c_values.specs.Layout.{Layout, IsLayout, Shape, Incomplete, Row, Fields, size, alignment, aligned, placed, Member, StructDef, struct_shape, shape_from, shapes_after, shape_of}
+use Rattle.c_values.specs.Layout.{Layout, IsLayout, Shape, Incomplete, size, alignment, aligned, placed, Member, StructDef, struct_shape, shape_from, shapes_after, shape_of}
 use Rattle.c_values.specs.Growth.{struct_named}
 use Rattle.c_values.specs.declared.values.Value as V
 use Rattle.c_values.specs.declared.values.Value.{Row_of-Value, end_of-Value, more_of-Value, items-the_row-Value, items_hidden-the_row-Value-0}
@@ -108,7 +108,7 @@ unknown t structs (d ∷ ds) x h e =
   where
     by_cases : (b : Bool) → same_name d.name x ≡ b → cond b (Some d) (struct_named ds x) ≡ None →
         (with_name d.name (struct_shape (shape_from t structs) d) structs x ≡ Incomplete → struct_named ds x ≡ None →
-            shapes_after t (with_name d.name (struct_shape (shape_from t structs) d) structs) ds x ≡ Incomplete) →
+        shapes_after t (with_name d.name (struct_shape (shape_from t structs) d) structs) ds x ≡ Incomplete) →
         shapes_after t (with_name d.name (struct_shape (shape_from t structs) d) structs) ds x ≡ Incomplete
     by_cases true is e' further = absurd cc
     by_cases false is e' further = further (ap (λ b. cond b (struct_shape (shape_from t structs) d) (structs x)) is ∙ h) e'

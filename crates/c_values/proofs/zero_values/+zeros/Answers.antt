@@ -1,7 +1,6 @@
 -- The zeros of the parts are those of the whole.
-use Rattle.std.proofs.Common.{◌≡◌, ◌+◌, max, sym, ap, ◌∙◌, subst, map, arith, IfOk}
+use Rattle.std.proofs.Common.{◌≡◌, max, sym, ap, ◌∙◌, subst, map, arith, IfOk}
 use Rattle.std.proofs.lemmas.List.{nil_from_length}
-use Rattle.c_values.specs.Types.{Struct}
 use Rattle.c_values.specs.Value.{Parts}
 use Rattle.c_values.specs.Layout.{shape_of, placed}
 use Rattle.c_values.specs.Path.{zeros, copies, member_zeros}
@@ -31,9 +30,9 @@ zeros_of_members-members-preserved t c =
     let highest : heights shape (map member_of c.members.rest.now) ≡ max (height (shape (type_of m.1))) (heights shape (map member_of others)) = ap (λ ms. heights shape (map member_of ms)) split in (
       omega (arith, highest, c.members.invariant.0),
       member_made (zeros (shape (type_of m.1))) c.members.values.items c.in_ok-zeros_of_type.field-0 c.push.new.self.items
-      (zeros_each shape (map member_of others)) (zeros_each shape (map member_of c.args.members.now))
-      (ap (λ ms. joined (values_in c.members.values.items) (zeros_each shape (map member_of ms))) (sym split) ∙ c.members.invariant.1)
-      c.in_ok-zeros_of_type.ensures c.in_ok-push.ensures.items,
+          (zeros_each shape (map member_of others)) (zeros_each shape (map member_of c.args.members.now))
+          (ap (λ ms. joined (values_in c.members.values.items) (zeros_each shape (map member_of ms))) (sym split) ∙ c.members.invariant.1)
+          c.in_ok-zeros_of_type.ensures c.in_ok-push.ensures.items,
     )
 
 pub zeros_of_members-returns : goal.zeros_of_members-returns
@@ -62,7 +61,7 @@ zeros_of_struct-returns-in-Some t c =
     let d = c.in-Some.definition.now in
     subst (λ w. IfOk c.zeros_of_members.result (λ v. value_of v ≡ w))
     (ap (λ ms. Parts (member_zeros (placed (shape_of l) 0 (map member_of ms)))) c.as_slice.ensures.value
-      ∙ struct_zeros l c.args.name.now (struct_def_of d) c.requires.1.1.0 c.in-Some.ensures)
+    ∙ struct_zeros l c.args.name.now (struct_def_of d) c.requires.1.1.0 c.in-Some.ensures)
     c.zeros_of_members.ensures
 
 pub zeros_of_type-zeros_by_kind-requires : goal.zeros_of_type-zeros_by_kind-requires
