@@ -1,1 +1,4 @@
 pub mod Cells
+pub mod Follow
+pub mod Copied
+pub mod Zeroed

@@ -1,1 +1,2 @@
 pub mod CodeCells
+pub mod Follow

@@ -1,7 +1,10 @@
 //! Typed heaps: for each tag the value that lies there, in place of bytes.
 #![tactic(auto)]
 
+mod copying;
 mod heap;
+mod selecting;
+mod zeros;
 mod viewing;
 
 pub use heap::TypedHeap;
