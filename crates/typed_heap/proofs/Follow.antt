@@ -79,7 +79,6 @@ sel_cons (Bits w) p ps = sym (sel_nothing ps)
 sel_cons (Number n) p ps = sym (sel_nothing ps)
 sel_cons (Truth b) p ps = sym (sel_nothing ps)
 
-
 pub sel_append : (v : Value) (ps qs : List Step) → sel v (ps ++ qs) ≡ sel (sel v ps) qs
 sel_append v [] qs = refl
 sel_append v (p ∷ ps) qs = sel_cons v p (ps ++ qs) ∙ sel_append (sel v (p ∷ [])) ps qs ∙ ap (λ w. sel w qs) (sym (sel_cons v p ps))

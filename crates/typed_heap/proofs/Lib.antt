@@ -1,7 +1,6 @@
 pub mod Cells
 pub mod Follow
 pub mod Copied
-pub mod Zeroed
 pub mod Typed
 pub mod Steps
 pub mod Found

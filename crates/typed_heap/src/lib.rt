@@ -10,7 +10,7 @@ mod tagged_values;
 mod types_at;
 mod viewing;
 mod ways;
-mod zeros;
+mod zero_words;
 
 pub use heap::TypedHeap;
 pub use viewing::view;

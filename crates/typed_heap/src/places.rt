@@ -1,13 +1,13 @@
 //! Typed heaps, read and written at places.
 
-use crate::tagged_values::{put, value_at};
 use crate::copying::copy_of;
 use crate::heap::TypedHeap;
 use crate::selecting::word_in;
+use crate::tagged_values::{put, value_at};
 use crate::types_at::type_at;
-use crate::zeros::{zero_word, zeros};
+use crate::zero_words::zero_word;
 use c_memory::{Heap, Step};
-use c_values::{CType, Layout, Value, Word};
+use c_values::{CType, Layout, Value, Word, zeros};
 use std::alloc::{AllocError, Global};
 
 impl Heap for TypedHeap {
