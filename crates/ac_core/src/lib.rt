@@ -14,4 +14,6 @@ pub use status::Status;
 pub use top::autocorres;
 
 #[cfg(test)]
+mod conversion_tests;
+#[cfg(test)]
 mod tests;

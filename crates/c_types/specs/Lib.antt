@@ -1,7 +1,0 @@
-pub mod CodeScope
-pub mod CodeDeclared
-pub mod CodeFields
-pub mod CodeTail
-pub mod CodeConstant
-pub mod CodeCalls
-pub mod CodeStatements

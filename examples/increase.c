@@ -1,6 +1,0 @@
-typedef unsigned count;
-
-count increase(count a)
-{
-    return a + 1;
-}

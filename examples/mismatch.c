@@ -1,4 +1,0 @@
-unsigned first(unsigned *p)
-{
-    return p;
-}
