@@ -14,6 +14,4 @@ pub use status::Status;
 pub use top::autocorres;
 
 #[cfg(test)]
-mod conversion_tests;
-#[cfg(test)]
 mod tests;
