@@ -1,6 +1,6 @@
 //! Struct and enum tags, members and enumerators.
 
-ghost use Rattle.std.specs.Prelude.{◌≡◌, map, IfOk, OnOk, string_bytes};
+ghost use Rattle.std.specs.Prelude.{◌≡◌, ◌+ℤ◌, pos, map, IfOk, OnOk, Some, string_bytes};
 ghost use Rattle.std.specs.Option.{option_copied};
 ghost use Rattle.c_values.specs.CodeLayout.{struct_def_of, member_of};
 ghost use Rattle.c_values.specs.CodeTypes.{type_of};
@@ -139,10 +139,17 @@ impl Scope {
     pub(crate) fn enum_body(&mut self, alloc: Global, tag: Option<&str>) -> Result<CType, Refusal>
         ensures { RulesAs (λ t. (type_of t, scope_of self.new)) result (declarations.enum_body (option_copied tag.entry) (scope_of self.old)) }
     {
-        if let Some(tag) = tag {
-            refuse(self.tags.contains_key(tag), TypeKind::Twice)?;
-            self.set_tag(alloc, tag, Tag::Enum)?;
+        match tag {
+            Some(tag) => self.tagged_enum_body(alloc, tag),
+            None => Ok(CType::Int(IntType::Int)),
         }
+    }
+
+    fn tagged_enum_body(&mut self, alloc: Global, tag: &str) -> Result<CType, Refusal>
+        ensures { RulesAs (λ t. (type_of t, scope_of self.new)) result (declarations.enum_body (Some tag.now) (scope_of self.old)) }
+    {
+        refuse(self.tags.contains_key(tag), TypeKind::Twice)?;
+        self.set_tag(alloc, tag, Tag::Enum)?;
         Ok(CType::Int(IntType::Int))
     }
 
@@ -162,9 +169,13 @@ impl Scope {
         )?;
         let name = String::from_str(alloc, name)?;
         self.declare(name, Entity::Enumerator(value))?;
-        match number_op(NumberOp::Add, value, Number::new(false, 1)) {
-            Some(next) => Ok(next),
-            None => Err(Refusal::Memory),
-        }
+        Ok(next_value(value)?)
     }
+}
+
+// The value of the next enumerator. One behind an int has room.
+fn next_value(value: Number) -> Result<Number, AllocError>
+    ensures { IfOk result (λ next. next ≡ value +ℤ pos 1) }
+{
+    number_op(NumberOp::Add, value, Number::new(false, 1)).ok_or(AllocError)
 }
