@@ -19,5 +19,7 @@ pub beginning : (t : Target) (w : Name → Bool) (l : Layout) (tags : Name → O
 beginning t w l tags typedefs bs f p e1 e2 e3 e4 e5 e6 = λ i. record { layout = e1 i; tags = e2 i; unnamed = 0; typedefs = e3 i; blocks = e4 i; file = e5 i; progress = e6 i; folds_cast = false }
 
 -- a table without entries has no name
-pub no_names : {A B : Type 0} (view : A → B) (m : HashMap (String Heap) A (BuildHasherDefault FoldHasher)) → m.entries ≡ [] → (λ (x : List ℕ). option_map view (get_by_text m x)) ≡ (λ x. None)
-no_names view m e = ap (λ es. λ (x : List ℕ). option_map view (lookup (λ k. bytes_eq x (string_bytes k)) es)) e
+pub no_names : {A B : Type 0} (view : A → B) (m : HashMap (String Heap) A (BuildHasherDefault FoldHasher)) → m.entries ≡ [] → ◌≡◌ {A = Name → Option B} (λ x. option_map view (get_by_text m x)) (λ x. None)
+no_names {A = A} {B = B} view m e =
+    let at : List (String Heap × A) → Name → Option B = λ es x. option_map view (lookup (λ k. bytes_eq x (string_bytes k)) es) in
+    ap at e

@@ -5,13 +5,16 @@ ghost use Rattle.std.specs.Option.{option_map};
 ghost use Rattle.c_grammar.specs.View.{init_of, local_of, rhs_of};
 ghost use Rattle.c_values.specs.CodeTypes.{type_of};
 ghost use Rattle.c_typing.specs.Answers.{Answers, RulesAs};
+ghost use Rattle.c_types.specs.CodeCalls.{right_of};
 ghost use Rattle.c_types.specs.CodeDeclared.{declared_of};
 ghost use Rattle.c_types.specs.CodeScope.{scope_of};
 ghost use Rattle.c_types.specs.CodeStatements.{behind};
+ghost use Rattle.c_typing.specs.Calls as calls;
 ghost use Rattle.c_typing.specs.Locals as rules;
+ghost use Rattle.c_typed.specs.Typed as C;
 ghost use Rattle.c_typed.specs.View.{statement_of};
 
-use crate::calls::{assigned, right_side};
+use crate::calls::{Right, assigned, right_side};
 use crate::declarators::{Declared, is_incomplete};
 use crate::expressions::{base, declarator};
 use crate::scope::{Entity, Scope};
@@ -21,7 +24,7 @@ use c_typing::fault::{TypeFault, TypeKind};
 use c_typing::rulings::{Refusal, at_node, refuse};
 use c_typing::specifiers::words_start;
 use c_typing::types::{copy_of, form_of, is_scalar, points_to_array};
-use c_values::CType;
+use c_values::{CType, Layout};
 use std::alloc::{AllocError, Global};
 
 /// Adds the statements of a declaration of locals.
@@ -131,14 +134,29 @@ fn initial(
     ensures { Answers statement_of (scope_of scope.new) result
         (rules.initial own.now (declared_of head.now) (option_map rhs_of value.now) (scope_of scope.old)) }
 {
-    let name = String::from_str(alloc, own)?;
-    let ty = copy_of(alloc, &head.ty)?;
     match value {
-        None => Ok(Statement::Declare(name, ty)),
+        None => {
+            let name = String::from_str(alloc, own)?;
+            Ok(Statement::Declare(name, copy_of(alloc, &head.ty)?))
+        }
         Some(source) => {
             let source = right_side(alloc, source, scope)?;
-            let target = Destination::ToLocal(name, ty);
-            at_node(head.at, assigned(alloc, &scope.layout, target, source))
+            at_node(head.at, begins(alloc, &scope.layout, head, own, source))
         }
     }
+}
+
+// The rule of an initialiser.
+fn begins(
+    alloc: Global,
+    layout: &Layout,
+    head: &Declared,
+    own: &str,
+    source: Right,
+) -> Result<Statement, Refusal>
+    ensures { RulesAs statement_of result (calls.assigned layout.now (C.ToLocal own.now (type_of head.now.ty)) (right_of source)) }
+{
+    let name = String::from_str(alloc, own)?;
+    let ty = copy_of(alloc, &head.ty)?;
+    assigned(alloc, layout, Destination::ToLocal(name, ty), source)
 }

@@ -1,6 +1,6 @@
 //! Conversions to a pointer to a type that isn't void, from another type, null pointer constants apart.
 
-ghost use Rattle.std.specs.Prelude.{◌≡◌};
+ghost use Rattle.std.specs.Prelude.{◌≡◌, not};
 ghost use Rattle.c_values.specs.CodeTypes.{type_of};
 ghost use Rattle.c_values.specs.Types as types;
 ghost use Rattle.c_typed.specs.Cast as casts;
@@ -83,7 +83,9 @@ fn casts_to(to: &CType, from: Form<'_>) -> bool
     }
 }
 
-fn is_void(t: &CType) -> bool {
+fn is_void(t: &CType) -> bool
+    ensures { not result ≡ casts.is_non_void_pointer (types.Ptr (type_of t.now)) }
+{
     matches!(t, CType::Void)
 }
 
