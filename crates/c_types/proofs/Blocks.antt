@@ -1,8 +1,7 @@
 -- The blocks of the code's scope: the last one is the innermost.
-use Rattle.std.proofs.Common.{◌≡◌, ℕ, Bool, cond, if◌then◌else◌, List, [], ◌∷◌, ◌++◌, ◌+◌, ◌-◌, ◌<◌, ◌≤◌, length, get_or, take, arith, sym, length-set, map, reverse, Option, Some, None, true, false, refl, ap, ◌∙◌, String, string_bytes}
+use Rattle.std.proofs.Common.{◌≡◌, ℕ, Bool, cond, if◌then◌else◌, List, [], ◌∷◌, ◌++◌, map, reverse, Option, Some, None, true, false, refl, ap, ◌∙◌, String, string_bytes}
 use Rattle.std.proofs.Math.Path.{fun_ext}
-use Rattle.std.proofs.Math.ListN.{set}
-use Rattle.std.proofs.lemmas.List.{map-append, reverse-append, take_all, take_more, take_more_set}
+use Rattle.std.proofs.lemmas.List.{map-append, reverse-append}
 use Rattle.std.proofs.lemmas.Map.Made.{lookup-map_values}
 use Rattle.std.proofs.lemmas.Map.Text.{hash_map_updates_text, hash_set_updates_text}
 use Rattle.std.specs.HashSet as bag
@@ -19,7 +18,7 @@ use Rattle.c_values.specs.Name.{with_name}
 use Rattle.c_types.specs.declared.scope.Entity as E
 use Rattle.c_types.specs.declared.scope.Entity.TheVariants as V
 use Rattle.c_types.specs.declared.scope.Tag as T
-use Rattle.c_typing.specs.Scope.{Hidden, hidden}
+use Rattle.c_typing.specs.Scope.{Hidden}
 use Rattle.c_types.specs.CodeScope.{blocks_of, entity_of, names_of, tag_of}
 
 pub blocks_behind : (bs : List (HashMap (String Heap) E.Entity (BuildHasherDefault FoldHasher))) (b : HashMap (String Heap) E.Entity (BuildHasherDefault FoldHasher)) → blocks_of (bs ++ (b ∷ [])) ≡ names_of b ∷ blocks_of bs
@@ -51,14 +50,3 @@ names_hidden m n e = fun_ext (λ q. ap (λ es. option_map entity_of (lookup (λ 
     by_cases : (r : Option E.Entity) → option_map entity_of (option_map (λ v. V.Hidden) r) ≡ option_map (λ e. Hidden) (option_map entity_of r)
     by_cases (Some v) = refl
     by_cases None = refl
-
--- the innermost block's names stand for what is hidden
-pub last_hidden : (bs : List (HashMap (String Heap) E.Entity (BuildHasherDefault FoldHasher))) (k : ℕ) (m n : HashMap (String Heap) E.Entity (BuildHasherDefault FoldHasher)) → k ≡ length bs → 0 < k → m ≡ get_or bs (k - 1) m → names_of n ≡ (λ x. option_map (λ e. Hidden) (names_of m x)) → blocks_of (set bs (k - 1) n) ≡ hidden (blocks_of bs)
-last_hidden bs k m n count l e h =
-    let i : k - 1 < length bs = omega arith in
-    let all : length bs ≤ k - 1 + 1 = omega arith in
-    let still : length (set bs (k - 1) n) ≤ k - 1 + 1 = omega (arith, length-set bs (k - 1) n) in
-    let outer = take (k - 1) bs in
-    let before : bs ≡ outer ++ (m ∷ []) = sym (take_all (k - 1 + 1) bs all) ∙ take_more bs (k - 1) m i ∙ ap (λ x. outer ++ (x ∷ [])) (sym e) in
-    let after : set bs (k - 1) n ≡ outer ++ (n ∷ []) = sym (take_all (k - 1 + 1) (set bs (k - 1) n) still) ∙ take_more_set bs (k - 1) n i in
-    ap blocks_of after ∙ blocks_behind outer n ∙ ap (λ f. f ∷ blocks_of outer) h ∙ ap hidden (sym (ap blocks_of before ∙ blocks_behind outer m))

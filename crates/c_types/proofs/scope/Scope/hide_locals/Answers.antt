@@ -1,7 +1,7 @@
 -- The last block is the innermost.
 use Rattle.std.proofs.Common.{ap, rules}
 use Rattle.c_types.specs.CodeScope.{scope_of}
-use Rattle.c_types.proofs.Blocks.{last_hidden}
+use Rattle.c_types.proofs.InnermostBlock.{last_hidden}
 use Rattle.c_types.proofs.scope.Scope.hide_locals.Goals as goal
 
 pub returns-in-Some : goal.returns-in-Some
