@@ -5,4 +5,4 @@ use Rattle.c_values.specs.Layout.{Member}
 use Rattle.c_types.specs.declared.members.Fields.{Fields}
 
 abbrev pub members_of : Fields → List Member
-members_of fs = map member_of fs.members.items
+members_of fs = map member_of fs.members.entries

@@ -1,9 +1,10 @@
 -- What the code's surroundings of a statement, and its groups of a switch, stand for.
-use Rattle.std.specs.Prelude.{List, [], ◌∷◌}
+use Rattle.std.specs.Prelude.{List, [], ◌∷◌, ◌++◌}
 use Rattle.std.specs.Option.{option_map}
 use Rattle.c_values.specs.CodeTypes.{type_of}
 use Rattle.c_types.specs.declared.statements.Around as A
 use Rattle.c_types.specs.declared.switches.Group as G
+use Rattle.c_typing.specs.Checked.{Judgement, pure, ◌>>=◌}
 use Rattle.c_typing.specs.Statements.{Around}
 use Rattle.c_typed.specs.Typed as C
 use Rattle.c_typed.specs.View.{statements_of}
@@ -15,3 +16,7 @@ around_of a = record { result = option_map type_of a.result.now; in_loop = a.in_
 abbrev pub in_front : List G.Group → C.Groups → C.Groups
 in_front [] gs = gs
 in_front (g ∷ rest) gs = C.group g.values.items g.has_default (statements_of g.statements) (in_front rest gs)
+
+-- what is found, behind what is there
+abbrev pub behind : {A : Type 0} → List A → Judgement (List A) → Judgement (List A)
+behind before j = j >>= λ more. pure (before ++ more)

@@ -5,3 +5,4 @@ pub mod CodeTail
 pub mod CodeConstant
 pub mod CodeCalls
 pub mod CodeStatements
+pub mod CodeUnit

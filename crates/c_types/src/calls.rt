@@ -1,13 +1,14 @@
 //! Calls, and what may stand on the right of an assignment, of an initialiser or of a return.
 
-ghost use Rattle.std.specs.Prelude.{◌≡◌, map, IfOk};
+ghost use Rattle.std.specs.Prelude.{◌≡◌, suc, map, string_bytes, IfOk};
 ghost use Rattle.std.specs.Option.{option_copied, option_map};
-ghost use Rattle.c_types.specs.CodeScope.{entity_of};
+ghost use Rattle.c_types.specs.CodeScope.{entity_of, scope_of};
 ghost use Rattle.c_values.specs.CodeTypes.{type_of};
-ghost use Rattle.c_typing.specs.Answers.{RulesAs};
+ghost use Rattle.c_grammar.specs.View.{call_of, exp_of, rhs_of};
+ghost use Rattle.c_typing.specs.Answers.{Answers, RulesAs};
 ghost use Rattle.c_typing.specs.Calls as rules;
 ghost use Rattle.c_types.specs.CodeCalls.{called_of, right_of};
-ghost use Rattle.c_typed.specs.View.{destination_of, statement_of, use_of};
+ghost use Rattle.c_typed.specs.View.{destination_of, expr_of, statement_of, use_of};
 
 use crate::expressions::value;
 use crate::scope::{Entity, Scope};
@@ -38,11 +39,9 @@ pub(crate) enum Right {
 }
 
 /// A right side.
-pub(crate) fn right_side(
-    alloc: Global,
-    right: &Rhs,
-    scope: &mut Scope,
-) -> Result<Right, TypeFault> {
+pub(crate) fn right_side(alloc: Global, right: &Rhs, scope: &mut Scope) -> Result<Right, TypeFault>
+    ensures { Answers right_of (scope_of scope.new) result (rules.right (rhs_of right.now) (scope_of scope.old)) }
+{
     match right {
         Rhs::Value(e) => Ok(Right::Computed(value(alloc, e, scope)?)),
         Rhs::Call(c) => Ok(Right::Resulting(call(alloc, c, scope)?)),
@@ -50,7 +49,9 @@ pub(crate) fn right_side(
 }
 
 /// A call: its arguments, and then the call itself.
-pub(crate) fn call(alloc: Global, call: &Call, scope: &mut Scope) -> Result<Called, TypeFault> {
+pub(crate) fn call(alloc: Global, call: &Call, scope: &mut Scope) -> Result<Called, TypeFault>
+    ensures { Answers called_of (scope_of scope.new) result (rules.call (call_of call.now) (scope_of scope.old)) }
+{
     let arguments = values(alloc, call.arguments.as_slice(), scope)?;
     let called = at_node(
         call.at,
@@ -179,7 +180,10 @@ fn goes_to(wanted: &CType, given: &CType) -> bool
 }
 
 // The expressions in order.
-fn values(alloc: Global, es: &[CExp], scope: &mut Scope) -> Result<Vec<Expr>, TypeFault> {
+fn values(alloc: Global, es: &[CExp], scope: &mut Scope) -> Result<Vec<Expr>, TypeFault>
+    ensures { Answers (λ v. map expr_of v.items) (scope_of scope.new) result
+        (rules.values (map exp_of es.now) (scope_of scope.old)) }
+{
     let mut typed = Vec::new(alloc);
     for e in es {
         typed.push(value(alloc, e, scope)?)?;
@@ -193,7 +197,11 @@ fn call_at(
     function: &str,
     arguments: Vec<Expr>,
     scope: &Scope,
-) -> Result<Called, Refusal> {
+) -> Result<Called, Refusal>
+    ensures value { RulesAs called_of result
+        (rules.called function.now (map expr_of arguments.items) (scope_of scope.now)) }
+    ensures number { IfOk result (λ c. c.number ≡ suc scope.now.progress.calls) }
+{
     let (result, params) = callee(scope.entity(function))?;
     refuse(!scope.file.with_body.contains(function), TypeKind::NoBody)?;
     refuse(arguments.len() != params.len(), TypeKind::Arity)?;
@@ -227,11 +235,16 @@ fn passed(
     layout: &Layout,
     params: &[CType],
     arguments: Vec<Expr>,
-) -> Result<Vec<Expr>, Refusal> {
+) -> Result<Vec<Expr>, Refusal>
+    ensures { RulesAs (λ v. map expr_of v.items) result
+        (rules.passed layout.now (map type_of params.now) (map expr_of arguments.items)) }
+{
     let mut passed = Vec::new(alloc);
-    for (k, e) in arguments.into_iter().enumerate() {
-        if k < params.len() {
-            passed.push(converted(alloc, layout, form_of(&params[k]), e)?)?;
+    let mut rest = params;
+    for e in arguments {
+        if let Some((ty, others)) = rest.split_first() {
+            passed.push(converted(alloc, layout, form_of(ty), e)?)?;
+            rest = others;
         }
     }
     Ok(passed)

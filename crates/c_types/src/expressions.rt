@@ -161,10 +161,8 @@ fn word(alloc: Global, word: &Word, scope: &mut Scope) -> Result<Part, TypeFault
         Word::StructBody(at, tag, body) => {
             scope.mention(alloc, text_of(tag))?;
             let fields = members(alloc, &**body, scope)?;
-            let ty = at_node(
-                *at,
-                scope.struct_body(alloc, text_of(tag), fields.into_members()),
-            )?;
+            let fields = fields.into_members(alloc)?;
+            let ty = at_node(*at, scope.struct_body(alloc, text_of(tag), fields))?;
             Ok(Part::Type(ty))
         }
         Word::EnumTag(at, tag) => {

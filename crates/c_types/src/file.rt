@@ -27,8 +27,15 @@ pub(crate) struct File {
 }
 
 impl File {
+    ghost use Rattle.std.specs.Prelude.{◌≡◌, [], false};
+    ghost use Rattle.std.specs.HashSet.{contains_text};
+    ghost use Rattle.c_types.specs.CodeScope.{file_of};
+
     /// In front of a text with these functions.
-    pub(crate) fn at_beginning(alloc: Global, with_body: HashSet<String>) -> File {
+    pub(crate) fn at_beginning(alloc: Global, with_body: HashSet<String>) -> File
+        ensures { file_of result
+            ≡ record { with_body = λ x. contains_text with_body x; with_body_so_far = λ x. false; globals = [] } }
+    {
         File {
             with_body,
             with_body_so_far: HashSet::new(alloc),

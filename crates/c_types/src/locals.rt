@@ -1,12 +1,20 @@
 //! Locals: each is a scalar, has a name of its own, and begins with a value or with any.
 
-ghost use Rattle.std.specs.Prelude.{◌≡◌, string_bytes, OnOk};
-ghost use Rattle.c_typing.specs.Answers.{RulesAs};
+ghost use Rattle.std.specs.Prelude.{◌≡◌, map, string_bytes, OnOk};
+ghost use Rattle.std.specs.Option.{option_map};
+ghost use Rattle.c_grammar.specs.View.{init_of, local_of, rhs_of};
+ghost use Rattle.c_values.specs.CodeTypes.{type_of};
+ghost use Rattle.c_typing.specs.Answers.{Answers, RulesAs};
+ghost use Rattle.c_types.specs.CodeCalls.{right_of};
 ghost use Rattle.c_types.specs.CodeDeclared.{declared_of};
 ghost use Rattle.c_types.specs.CodeScope.{scope_of};
+ghost use Rattle.c_types.specs.CodeStatements.{behind};
+ghost use Rattle.c_typing.specs.Calls as calls;
 ghost use Rattle.c_typing.specs.Locals as rules;
+ghost use Rattle.c_typed.specs.Typed as C;
+ghost use Rattle.c_typed.specs.View.{statement_of};
 
-use crate::calls::{assigned, right_side};
+use crate::calls::{Right, assigned, right_side};
 use crate::declarators::{Declared, is_incomplete};
 use crate::expressions::{base, declarator};
 use crate::scope::{Entity, Scope};
@@ -16,6 +24,7 @@ use c_typing::fault::{TypeFault, TypeKind};
 use c_typing::rulings::{Refusal, at_node, refuse};
 use c_typing::specifiers::words_start;
 use c_typing::types::{copy_of, form_of, is_scalar, points_to_array};
+use c_values::{CType, Layout};
 use std::alloc::{AllocError, Global};
 
 /// Adds the statements of a declaration of locals.
@@ -24,16 +33,46 @@ pub(crate) fn local(
     local: &Local,
     scope: &mut Scope,
     statements: &mut Vec<Statement>,
-) -> Result<(), TypeFault> {
+) -> Result<(), TypeFault>
+    ensures { Answers (λ _. map statement_of statements.new.items) (scope_of scope.new) result
+        (behind (map statement_of statements.old.items) (rules.local (local_of local.now)) (scope_of scope.old)) }
+{
     let base = base(alloc, &local.words, scope)?;
-    for init in &local.inits {
-        let head = declarator(alloc, &init.declarator, scope, &base.ty)?;
-        statements.push(declared(alloc, head, &init.value, scope)?)?;
-    }
+    inits(alloc, local.inits.as_slice(), scope, &base.ty, statements)?;
     at_node(
         words_start(&local.words),
         refuse(base.is_static || base.is_extern, TypeKind::OutOfSubset),
     )
+}
+
+// Adds the statements of locals of a type.
+fn inits(
+    alloc: Global,
+    inits: &[Init],
+    scope: &mut Scope,
+    ty: &CType,
+    statements: &mut Vec<Statement>,
+) -> Result<(), TypeFault>
+    ensures { Answers (λ _. map statement_of statements.new.items) (scope_of scope.new) result
+        (behind (map statement_of statements.old.items) (rules.inits (type_of ty.now) (map init_of inits.now)) (scope_of scope.old)) }
+{
+    for init in inits {
+        statements.push(initialized(alloc, init, scope, ty)?)?;
+    }
+    Ok(())
+}
+
+// A local of a type.
+fn initialized(
+    alloc: Global,
+    init: &Init,
+    scope: &mut Scope,
+    ty: &CType,
+) -> Result<Statement, TypeFault>
+    ensures { Answers statement_of (scope_of scope.new) result (rules.init (type_of ty.now) (init_of init.now) (scope_of scope.old)) }
+{
+    let head = declarator(alloc, &init.declarator, scope, ty)?;
+    declared(alloc, head, &init.value, scope)
 }
 
 // A local with its value. Its name isn't used in that.
@@ -42,7 +81,10 @@ fn declared(
     head: Declared,
     value: &Option<Rhs>,
     scope: &mut Scope,
-) -> Result<Statement, TypeFault> {
+) -> Result<Statement, TypeFault>
+    ensures { Answers statement_of (scope_of scope.new) result
+        (rules.declared (declared_of head) (option_map rhs_of value.now) (scope_of scope.old)) }
+{
     let own = at_node(head.at, local_name(alloc, &head, &*scope))?;
     add_local(alloc, &head, own.as_str(), scope)?;
     let statement = initial(alloc, &head, own.as_str(), value, scope)?;
@@ -88,15 +130,33 @@ fn initial(
     own: &str,
     value: &Option<Rhs>,
     scope: &mut Scope,
-) -> Result<Statement, TypeFault> {
-    let name = String::from_str(alloc, own)?;
-    let ty = copy_of(alloc, &head.ty)?;
+) -> Result<Statement, TypeFault>
+    ensures { Answers statement_of (scope_of scope.new) result
+        (rules.initial own.now (declared_of head.now) (option_map rhs_of value.now) (scope_of scope.old)) }
+{
     match value {
-        None => Ok(Statement::Declare(name, ty)),
+        None => {
+            let name = String::from_str(alloc, own)?;
+            Ok(Statement::Declare(name, copy_of(alloc, &head.ty)?))
+        }
         Some(source) => {
             let source = right_side(alloc, source, scope)?;
-            let target = Destination::ToLocal(name, ty);
-            at_node(head.at, assigned(alloc, &scope.layout, target, source))
+            at_node(head.at, begins(alloc, &scope.layout, head, own, source))
         }
     }
+}
+
+// The rule of an initialiser.
+fn begins(
+    alloc: Global,
+    layout: &Layout,
+    head: &Declared,
+    own: &str,
+    source: Right,
+) -> Result<Statement, Refusal>
+    ensures { RulesAs statement_of result (calls.assigned layout.now (C.ToLocal own.now (type_of head.now.ty)) (right_of source)) }
+{
+    let name = String::from_str(alloc, own)?;
+    let ty = copy_of(alloc, &head.ty)?;
+    assigned(alloc, layout, Destination::ToLocal(name, ty), source)
 }

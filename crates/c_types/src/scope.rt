@@ -2,6 +2,8 @@
 
 ghost use Rattle.std.specs.Prelude.{◌≡◌, string_bytes, Some, OnOk};
 ghost use Rattle.c_values.specs.Name.{with_name};
+ghost use Rattle.std.specs.Option.{option_map};
+ghost use Rattle.c_typing.specs.Scope.{Hidden};
 ghost use Rattle.c_types.specs.CodeScope.{entity_of, names_of};
 
 use crate::file::File;
@@ -51,17 +53,23 @@ pub(crate) struct Scope {
 }
 
 impl Scope {
-    ghost use Rattle.std.specs.Prelude.{◌≡◌, string_bytes, OnOk};
+    ghost use Rattle.std.specs.Prelude.{◌≡◌, string_bytes, IfOk, OnOk};
+    ghost use Rattle.std.specs.HashSet.{contains_text};
     ghost use Rattle.std.specs.Option.{option_copied, option_map};
-    ghost use Rattle.c_typing.specs.Scope.{closed, declare, entity, is_declared_here, opened};
+    ghost use Rattle.c_values.specs.CodeTypes.{target_of};
+    ghost use Rattle.c_typing.specs.Expressions as expressions;
+    ghost use Rattle.c_typing.specs.Scope.{closed, declare, entity, hide_locals, is_declared_here, opened};
     ghost use Rattle.c_types.specs.CodeScope.{entity_of, scope_of};
+    ghost use Rattle.c_types.specs.CodeUnit.{in_front};
 
     /// In front of a text with these functions that have a body.
     pub(crate) fn of_file(
         alloc: Global,
         target: Target,
         with_body: HashSet<String>,
-    ) -> Result<Scope, LayoutFault> {
+    ) -> Result<Scope, LayoutFault>
+        ensures { IfOk result (λ scope. scope_of scope ≡ in_front (target_of target) (λ x. contains_text with_body x)) }
+    {
         let layout = Layout::build(target, Vec::new(alloc))?;
         let mut blocks = Vec::new(alloc);
         blocks.push(HashMap::new(alloc))?;
@@ -116,7 +124,9 @@ impl Scope {
     }
 
     /// Of what only a value is left, a conversion is noted.
-    pub(crate) fn note(&mut self, has_cast: bool) {
+    pub(crate) fn note(&mut self, has_cast: bool)
+        ensures { scope_of self.new ≡ expressions.note has_cast (scope_of self.old) }
+    {
         self.folds_cast = self.folds_cast || has_cast;
     }
 
@@ -138,9 +148,12 @@ impl Scope {
     }
 
     /// What the innermost block has declared isn't to be named any more, but still has its name.
-    pub(crate) fn hide_locals(&mut self) {
+    #[tactic(auto, using(crate::proofs::Blocks::blocks_behind))]
+    pub(crate) fn hide_locals(&mut self)
+        ensures { scope_of self.new ≡ hide_locals (scope_of self.old) }
+    {
         if let Some(names) = self.blocks.last_mut() {
-            names.retain(hide);
+            hide_all(names);
         }
     }
 }
@@ -158,8 +171,12 @@ fn name_in(
     Ok(())
 }
 
-// Hides a local, and keeps its name.
-fn hide(_: &String, entity: &mut Entity) -> bool {
-    *entity = Entity::Hidden;
-    true
+// Hides what the names stand for, and keeps the names.
+fn hide_all(names: &mut HashMap<String, Entity>)
+    ensures { names_of names.new ≡ λ x. option_map (λ e. Hidden) (names_of names.old x) }
+{
+    names.retain(|_, entity| {
+        *entity = Entity::Hidden;
+        true
+    });
 }

@@ -1,12 +1,13 @@
 //! Struct and enum tags, members and enumerators.
 
-ghost use Rattle.std.specs.Prelude.{◌≡◌, map, IfOk, OnOk, string_bytes};
+ghost use Rattle.std.specs.Prelude.{◌≡◌, ◌+ℤ◌, pos, is_some, map, IfOk, OnOk, Some, string_bytes};
 ghost use Rattle.std.specs.Option.{option_copied};
 ghost use Rattle.c_values.specs.CodeLayout.{struct_def_of, member_of};
 ghost use Rattle.c_values.specs.CodeTypes.{type_of};
 ghost use Rattle.c_typing.specs.Answers.{RulesAs};
 ghost use Rattle.c_types.specs.CodeScope.{scope_of, tag_of};
 ghost use Rattle.c_typing.specs.Declarations as declarations;
+ghost use Rattle.c_typing.specs.Scope.{Enumerator, declare};
 
 use crate::scope::{Entity, Scope, Tag};
 use c_typing::fault::TypeKind;
@@ -23,6 +24,15 @@ impl Scope {
                 Tag::Struct => false,
                 Tag::Enum => true,
             },
+            None => false,
+        }
+    }
+
+    fn has_tag(&self, tag: &str) -> bool
+        ensures { result ≡ is_some ((scope_of self.now).tags tag.now) }
+    {
+        match self.tags.get(tag) {
+            Some(_) => true,
             None => false,
         }
     }
@@ -139,10 +149,17 @@ impl Scope {
     pub(crate) fn enum_body(&mut self, alloc: Global, tag: Option<&str>) -> Result<CType, Refusal>
         ensures { RulesAs (λ t. (type_of t, scope_of self.new)) result (declarations.enum_body (option_copied tag.entry) (scope_of self.old)) }
     {
-        if let Some(tag) = tag {
-            refuse(self.tags.contains_key(tag), TypeKind::Twice)?;
-            self.set_tag(alloc, tag, Tag::Enum)?;
+        match tag {
+            Some(tag) => self.tagged_enum_body(alloc, tag),
+            None => Ok(CType::Int(IntType::Int)),
         }
+    }
+
+    fn tagged_enum_body(&mut self, alloc: Global, tag: &str) -> Result<CType, Refusal>
+        ensures { RulesAs (λ t. (type_of t, scope_of self.new)) result (declarations.enum_body (Some tag.now) (scope_of self.old)) }
+    {
+        refuse(self.has_tag(tag), TypeKind::Twice)?;
+        self.set_tag(alloc, tag, Tag::Enum)?;
         Ok(CType::Int(IntType::Int))
     }
 
@@ -160,11 +177,21 @@ impl Scope {
             !is_of_type(self.layout.target(), IntType::Int, value),
             TypeKind::Mismatch,
         )?;
-        let name = String::from_str(alloc, name)?;
-        self.declare(name, Entity::Enumerator(value))?;
-        match number_op(NumberOp::Add, value, Number::new(false, 1)) {
-            Some(next) => Ok(next),
-            None => Err(Refusal::Memory),
-        }
+        self.add_enumerator(alloc, name, value)?;
+        Ok(next_value(value)?)
     }
+
+    fn add_enumerator(&mut self, alloc: Global, name: &str, value: Number) -> Result<(), AllocError>
+        ensures { OnOk result (scope_of self.new ≡ declare name.now (Enumerator value) (scope_of self.old)) }
+    {
+        let name = String::from_str(alloc, name)?;
+        self.declare(name, Entity::Enumerator(value))
+    }
+}
+
+// The value of the next enumerator. One behind an int has room.
+fn next_value(value: Number) -> Result<Number, AllocError>
+    ensures { IfOk result (λ next. next ≡ value +ℤ pos 1) }
+{
+    number_op(NumberOp::Add, value, Number::new(false, 1)).ok_or(AllocError)
 }
