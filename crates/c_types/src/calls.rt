@@ -2,9 +2,10 @@
 
 ghost use Rattle.std.specs.Prelude.{◌≡◌, map, IfOk};
 ghost use Rattle.std.specs.Option.{option_copied, option_map};
-ghost use Rattle.c_types.specs.CodeScope.{entity_of};
+ghost use Rattle.c_grammar.specs.View as view;
+ghost use Rattle.c_types.specs.CodeScope.{entity_of, scope_of};
 ghost use Rattle.c_values.specs.CodeTypes.{type_of};
-ghost use Rattle.c_typing.specs.Answers.{RulesAs};
+ghost use Rattle.c_typing.specs.Answers.{Answers, RulesAs};
 ghost use Rattle.c_typing.specs.Calls as rules;
 ghost use Rattle.c_types.specs.CodeCalls.{called_of, right_of};
 ghost use Rattle.c_typed.specs.View.{destination_of, statement_of, use_of};
@@ -42,7 +43,10 @@ pub(crate) fn right_side(
     alloc: Global,
     right: &Rhs,
     scope: &mut Scope,
-) -> Result<Right, TypeFault> {
+) -> Result<Right, TypeFault>
+    ensures { Answers right_of (scope_of scope.new) result
+        (rules.right (view.rhs_of right.now) (scope_of scope.old)) }
+{
     match right {
         Rhs::Value(e) => Ok(Right::Computed(value(alloc, e, scope)?)),
         Rhs::Call(c) => Ok(Right::Resulting(call(alloc, c, scope)?)),
@@ -50,7 +54,10 @@ pub(crate) fn right_side(
 }
 
 /// A call: its arguments, and then the call itself.
-pub(crate) fn call(alloc: Global, call: &Call, scope: &mut Scope) -> Result<Called, TypeFault> {
+pub(crate) fn call(alloc: Global, call: &Call, scope: &mut Scope) -> Result<Called, TypeFault>
+    ensures { Answers called_of (scope_of scope.new) result
+        (rules.call (view.call_of call.now) (scope_of scope.old)) }
+{
     let arguments = values(alloc, call.arguments.as_slice(), scope)?;
     let called = at_node(
         call.at,

@@ -1,7 +1,10 @@
 //! Locals: each is a scalar, has a name of its own, and begins with a value or with any.
 
-ghost use Rattle.std.specs.Prelude.{◌≡◌, string_bytes, OnOk};
-ghost use Rattle.c_typing.specs.Answers.{RulesAs};
+ghost use Rattle.std.specs.Prelude.{◌≡◌, map, string_bytes, OnOk};
+ghost use Rattle.c_grammar.specs.View as view;
+ghost use Rattle.c_types.specs.CodeStatements.{behind};
+ghost use Rattle.c_typed.specs.View.{statement_of};
+ghost use Rattle.c_typing.specs.Answers.{Answers, RulesAs};
 ghost use Rattle.c_types.specs.CodeDeclared.{declared_of};
 ghost use Rattle.c_types.specs.CodeScope.{scope_of};
 ghost use Rattle.c_typing.specs.Locals as rules;
@@ -24,7 +27,10 @@ pub(crate) fn local(
     local: &Local,
     scope: &mut Scope,
     statements: &mut Vec<Statement>,
-) -> Result<(), TypeFault> {
+) -> Result<(), TypeFault>
+    ensures { Answers (λ _. map statement_of statements.new.items) (scope_of scope.new) result
+        (behind (map statement_of statements.old.items) (rules.local (view.local_of local.now)) (scope_of scope.old)) }
+{
     let base = base(alloc, &local.words, scope)?;
     for init in &local.inits {
         let head = declarator(alloc, &init.declarator, scope, &base.ty)?;

@@ -51,17 +51,23 @@ pub(crate) struct Scope {
 }
 
 impl Scope {
-    ghost use Rattle.std.specs.Prelude.{◌≡◌, string_bytes, OnOk};
+    ghost use Rattle.std.specs.Prelude.{◌≡◌, string_bytes, IfOk, OnOk};
+    ghost use Rattle.std.specs.HashSet.{contains_text};
     ghost use Rattle.std.specs.Option.{option_copied, option_map};
-    ghost use Rattle.c_typing.specs.Scope.{closed, declare, entity, is_declared_here, opened};
+    ghost use Rattle.c_typing.specs.Scope.{closed, declare, entity, hide_locals, is_declared_here, opened};
+    ghost use Rattle.c_values.specs.CodeTypes.{target_of};
+    ghost use Rattle.c_typing.specs.Expressions.{note};
     ghost use Rattle.c_types.specs.CodeScope.{entity_of, scope_of};
+    ghost use Rattle.c_types.specs.CodeUnit.{in_front};
 
     /// In front of a text with these functions that have a body.
     pub(crate) fn of_file(
         alloc: Global,
         target: Target,
         with_body: HashSet<String>,
-    ) -> Result<Scope, LayoutFault> {
+    ) -> Result<Scope, LayoutFault>
+        ensures { IfOk result (λ s. scope_of s ≡ in_front (target_of target) (λ x. contains_text with_body x)) }
+    {
         let layout = Layout::build(target, Vec::new(alloc))?;
         let mut blocks = Vec::new(alloc);
         blocks.push(HashMap::new(alloc))?;
@@ -116,7 +122,9 @@ impl Scope {
     }
 
     /// Of what only a value is left, a conversion is noted.
-    pub(crate) fn note(&mut self, has_cast: bool) {
+    pub(crate) fn note(&mut self, has_cast: bool)
+        ensures { scope_of self.new ≡ note has_cast (scope_of self.old) }
+    {
         self.folds_cast = self.folds_cast || has_cast;
     }
 
@@ -138,7 +146,9 @@ impl Scope {
     }
 
     /// What the innermost block has declared isn't to be named any more, but still has its name.
-    pub(crate) fn hide_locals(&mut self) {
+    pub(crate) fn hide_locals(&mut self)
+        ensures { scope_of self.new ≡ hide_locals (scope_of self.old) }
+    {
         if let Some(names) = self.blocks.last_mut() {
             names.retain(hide);
         }

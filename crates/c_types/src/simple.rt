@@ -1,5 +1,11 @@
 //! Assignments and calls as statements.
 
+ghost use Rattle.c_grammar.specs.View as view;
+ghost use Rattle.c_typing.specs.Answers.{Answers};
+ghost use Rattle.c_types.specs.CodeScope.{scope_of};
+ghost use Rattle.c_typing.specs.Simple as rules;
+ghost use Rattle.c_typed.specs.View.{statement_of};
+
 use crate::calls::{Right, assigned, call, calls_alone, right_side};
 use crate::expressions::{first, place, value};
 use crate::scope::Scope;
@@ -20,7 +26,10 @@ pub(crate) fn simple(
     alloc: Global,
     simple: &Simple,
     scope: &mut Scope,
-) -> Result<Statement, TypeFault> {
+) -> Result<Statement, TypeFault>
+    ensures { Answers statement_of (scope_of scope.new) result
+        (rules.simple (view.simple_of simple.now) (scope_of scope.old)) }
+{
     match simple {
         Simple::Assign(target, source) => assignment(alloc, target, source, scope),
         Simple::Update(op, target, operand) => update(alloc, *op, target, operand, scope),

@@ -5,6 +5,8 @@ ghost use Rattle.c_values.specs.CodeTypes.{type_of};
 ghost use Rattle.c_values.specs.Types as types;
 ghost use Rattle.c_typed.specs.Cast as casts;
 ghost use Rattle.c_typing.specs.CodeForm.{form_type};
+ghost use Rattle.c_typing.specs.CodeOperand.{operand_of};
+ghost use Rattle.c_typing.specs.Operand as operands;
 ghost use Rattle.c_typed.specs.View.{expr_of, place_of, path_of};
 
 use crate::operands::{Operand, type_of};
@@ -13,7 +15,9 @@ use c_typed::tree::{Expr, Path, Place};
 use c_values::CType;
 
 /// Whether there is such a conversion in an operand.
-pub fn operand_has_cast(operand: &Operand) -> bool {
+pub fn operand_has_cast(operand: &Operand) -> bool
+    ensures { result ≡ operands.operand_has_cast (operand_of operand.now) }
+{
     match operand {
         Operand::Valued(e) => has_cast(e),
         Operand::Variable(_, _) => false,

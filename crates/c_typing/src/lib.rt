@@ -6,7 +6,7 @@ pub mod casts;
 pub mod constants;
 pub mod copies;
 pub mod fault;
-mod folding;
+pub mod folding;
 pub mod integers;
 pub mod operands;
 pub mod operators;
