@@ -5,3 +5,8 @@ pub mod CodeTail
 pub mod CodeConstant
 pub mod CodeCalls
 pub mod CodeStatements
+pub mod CodeKeys
+pub mod CodeLabels
+pub mod CodeGlobals
+pub mod CodeUnit
+pub mod CodeValues
