@@ -1,5 +1,5 @@
 -- One group more behind others, and the labels of a group.
-use Rattle.std.proofs.Common.{◌≡◌, ℕ, Bool, true, false, ◌||◌, List, [], ◌∷◌, ◌++◌, refl, sym, ap, ◌∙◌, append_assoc}
+use Rattle.std.proofs.Common.{◌≡◌, ℕ, Bool, true, false, ◌||◌, List, [], ◌∷◌, ◌++◌, refl, sym, ap, ap₂, ◌∙◌, append_assoc}
 use Rattle.c_values.specs.Types.{IntType}
 use Rattle.c_grammar.specs.Tree as tree
 use Rattle.c_typing.specs.declared.fault.TypeFault.{TypeFault}
@@ -15,7 +15,7 @@ use Rattle.c_types.specs.CodeLabels.{joined, labels_of}
 use Rattle.c_types.specs.CodeStatements.{in_front, in_groups}
 use Rattle.c_types.proofs.Lists.{in_front_behind}
 
-or_assoc : (a b c : Bool) → (a || b) || c ≡ a || (b || c)
+or_assoc : (a b c : Bool) → ((a || b) || c) ≡ (a || (b || c))
 or_assoc true b c = refl
 or_assoc false b c = refl
 
@@ -32,10 +32,7 @@ label_joined i seen found l ls s t a h =
     ∙ by_cases (labels i (both seen a) ls t)
   where
     by_cases : (c : Checked (Labels × Scope)) → then (then c (λ b. pure (both a b))) (λ all u. Good ((both seen all, both found all), u)) ≡ then c (λ b u. Good ((both (both seen a) b, both (both found a) b), u))
-    by_cases (Good p) = ap (λ (q : Labels × Labels). Good (q, p.1)) (pairs (sym (both_assoc seen a p.0)) (sym (both_assoc found a p.0)))
-      where
-        pairs : {x y z w : Labels} → x ≡ y → z ≡ w → (x, z) ≡ (y, w)
-        pairs e f = cc
+    by_cases (Good p) = ap₂ (λ x y. Good ((x, y), p.1)) (sym (both_assoc seen a p.0)) (sym (both_assoc found a p.0))
     by_cases (Bad at kind) = refl
 
 -- the labels that were found

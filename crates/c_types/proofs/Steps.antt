@@ -9,7 +9,9 @@ use Rattle.c_typing.specs.declared.rulings.Refusal.TheVariants.{Kind, Memory as 
 use Rattle.c_typing.specs.Answers.{Answers, IsFaultOf, IsRefusalOf, RulesAs, fault_at}
 use Rattle.c_typing.specs.Checked.{Checked, Good, Bad, Judgement, Ruling, Ruled, Refused, pure, changed, in_block, ruled, then, ◌>>=◌}
 use Rattle.c_typing.specs.Scope.{Scope, opened, closed}
-use Rattle.c_types.specs.CodeStatements.{behind}
+use Rattle.c_typing.specs.Statements.{listed}
+use Rattle.c_typed.specs.Typed as C
+use Rattle.c_types.specs.CodeStatements.{as_block, as_list, behind}
 
 -- behind a good part
 pub behind_good : {A B : Type 0} (c : Checked (A × Scope)) (a : A) (s : Scope) (f : A → Judgement B) → c ≡ Good (a, s) → then c f ≡ f a s
@@ -94,3 +96,18 @@ block_good j s o t u a begins h ends =
 pub block_fault : {A : Type 0} (e : TypeFault) (j : Judgement A) (s o : Scope) → o ≡ opened s → IsFaultOf e (j o) → IsFaultOf e (in_block j s)
 block_fault (BadNode at kind) j s o begins h = ap (λ x. then (j x) (λ b. changed closed b)) (sym begins) ∙ ap (λ c. then c (λ b. changed closed b)) h
 block_fault Memory j s o begins h = tt
+
+-- statements that are found behind none, as a list and as a block
+pub list_good : (j : Judgement (List C.Statement)) (s t : Scope) (ss : List C.Statement) (x : C.Statements) → behind [] j s ≡ Good (ss, t) → x ≡ listed ss → as_list j s ≡ Good (x, t)
+list_good j s t ss x h is = ap (λ c. then c (λ ys. pure (listed ys))) (sym (behind_none j s) ∙ h) ∙ ap (λ y. Good (y, t)) (sym is)
+
+pub list_fault : (e : TypeFault) (j : Judgement (List C.Statement)) (s : Scope) → IsFaultOf e (behind [] j s) → IsFaultOf e (as_list j s)
+list_fault e j s h = fault_first e (j s) (λ ys. pure (listed ys)) (fault_along e (j s) (behind [] j s) (sym (behind_none j s)) h)
+
+pub listed_block : (j : Judgement (List C.Statement)) (s o t u : Scope) (ss : List C.Statement) (x : C.Statement) → o ≡ opened s → behind [] j o ≡ Good (ss, t) → u ≡ closed t → x ≡ C.Block (listed ss) → as_block j s ≡ Good (x, u)
+listed_block j s o t u ss x begins h ends is =
+    ap (λ c. then c (λ ys. pure (C.Block (listed ys)))) (block_good j s o t u ss begins (sym (behind_none j o) ∙ h) ends) ∙ ap (λ y. Good (y, u)) (sym is)
+
+pub listed_block_fault : (e : TypeFault) (j : Judgement (List C.Statement)) (s o : Scope) → o ≡ opened s → IsFaultOf e (behind [] j o) → IsFaultOf e (as_block j s)
+listed_block_fault e j s o begins h =
+    fault_first e (in_block j s) (λ ys. pure (C.Block (listed ys))) (block_fault e j s o begins (fault_along e (j o) (behind [] j o) (sym (behind_none j o)) h))

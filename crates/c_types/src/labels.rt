@@ -5,7 +5,6 @@ ghost use Rattle.c_values.specs.CodeTypes.{int_type_of};
 ghost use Rattle.c_values.specs.Types.{Integer};
 ghost use Rattle.c_grammar.specs.View.{label_of};
 ghost use Rattle.c_typing.specs.Answers.{Answers, RulesAs};
-ghost use Rattle.c_typing.specs.Checked.{pure, ◌>>=◌};
 ghost use Rattle.c_types.specs.CodeScope.{scope_of};
 ghost use Rattle.c_types.specs.CodeKeys.{Finds, Notes, key_of};
 ghost use Rattle.c_types.specs.CodeLabels.{found_of, joined, labels_of};
@@ -89,6 +88,7 @@ impl Seen {
     }
 
     // Adds a label.
+    #[tactic(auto, using(crate::proofs::Keys::finds_more))]
     fn add(&mut self, found: Found) -> Result<(), AllocError>
         requires { Finds self.old.known self.old.labels.values.items }
         ensures added { OnOk result (labels_of self.new.labels ≡ rules.both (labels_of self.old.labels) (found_of found)) }
@@ -124,6 +124,7 @@ fn key(n: Number) -> (bool, u128)
 }
 
 // The keys with that of a label.
+#[tactic(auto, using(crate::proofs::Keys::noted))]
 fn note(found: Found, known: &mut HashSet<(bool, u128)>) -> Result<(), AllocError>
     ensures { OnOk result (Notes (found_of found).values known.old known.new) }
 {

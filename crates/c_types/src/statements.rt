@@ -6,10 +6,9 @@ ghost use Rattle.c_values.specs.CodeTypes.{type_of};
 ghost use Rattle.c_grammar.specs.Tree as tree;
 ghost use Rattle.c_grammar.specs.View as view;
 ghost use Rattle.c_typing.specs.Answers.{Answers, RulesAs};
-ghost use Rattle.c_typing.specs.Checked.{in_block, pure, ◌>>=◌};
 ghost use Rattle.c_types.specs.CodeCalls.{right_of};
 ghost use Rattle.c_types.specs.CodeScope.{scope_of};
-ghost use Rattle.c_types.specs.CodeStatements.{around_of, behind};
+ghost use Rattle.c_types.specs.CodeStatements.{around_of, as_block, as_list, behind};
 ghost use Rattle.c_typing.specs.Statements as rules;
 ghost use Rattle.c_typed.specs.Typed as C;
 ghost use Rattle.c_typed.specs.View.{expr_of, statement_of, statements_of, test_of};
@@ -87,7 +86,7 @@ fn block_statement(
     around: Around<'_>,
 ) -> Result<Statement, TypeFault>
     ensures { Answers statement_of (scope_of scope.new) result
-        ((in_block (rules.items (around_of around.entry) (view.items_of block.now)) >>= λ ss. pure (C.Block (rules.listed ss))) (scope_of scope.old)) }
+        (as_block (rules.items (around_of around.entry) (view.items_of block.now)) (scope_of scope.old)) }
 {
     scope.open_block(alloc)?;
     let mut statements = Vec::new(alloc);
@@ -111,7 +110,7 @@ pub(crate) fn items(
     around: Around<'_>,
 ) -> Result<Statements, TypeFault>
     ensures { Answers statements_of (scope_of scope.new) result
-        ((rules.items (around_of around.entry) (view.items_of items.now) >>= λ ss. pure (rules.listed ss)) (scope_of scope.old)) }
+        (as_list (rules.items (around_of around.entry) (view.items_of items.now)) (scope_of scope.old)) }
 {
     let mut statements = Vec::new(alloc);
     more_items(alloc, items, scope, around, &mut statements)?;
@@ -179,6 +178,7 @@ fn continues(around: Around<'_>) -> Result<Statement, Refusal>
     Ok(Statement::Continue)
 }
 
+#[tactic(auto, using(crate::proofs::Steps::answers_behind, crate::proofs::Steps::node_answers))]
 fn return_statement(
     alloc: Global,
     source: &Option<Rhs>,
@@ -232,6 +232,7 @@ fn is_test(test: &Expr) -> Result<(), Refusal>
 }
 
 #[cycle(block)]
+#[tactic(auto, using(crate::proofs::Steps::answers_behind, crate::proofs::Steps::node_answers))]
 fn if_statement(
     alloc: Global,
     test: &CExp,
@@ -249,6 +250,7 @@ fn if_statement(
 }
 
 #[cycle(block)]
+#[tactic(auto, using(crate::proofs::Steps::answers_behind, crate::proofs::Steps::node_answers))]
 fn if_else_statement(
     alloc: Global,
     test: &CExp,
@@ -278,6 +280,7 @@ fn choice(alloc: Global, test: Expr, yes: Statement, no: Statement) -> Result<St
 }
 
 #[cycle(block)]
+#[tactic(auto, using(crate::proofs::Steps::answers_behind, crate::proofs::Steps::node_answers))]
 fn while_statement(
     alloc: Global,
     test: &CExp,
@@ -303,6 +306,7 @@ fn while_of(alloc: Global, test: Expr, body: Statement) -> Result<Statement, Ref
 }
 
 #[cycle(block)]
+#[tactic(auto, using(crate::proofs::Steps::answers_behind, crate::proofs::Steps::node_answers))]
 fn do_statement(
     alloc: Global,
     body: &Stmt,
@@ -369,7 +373,7 @@ fn for_statement(
 
 fn for_start(alloc: Global, start: &Start, scope: &mut Scope) -> Result<Statements, TypeFault>
     ensures { Answers statements_of (scope_of scope.new) result
-        ((rules.start (view.start_of start.now) >>= λ ss. pure (rules.listed ss)) (scope_of scope.old)) }
+        (as_list (rules.start (view.start_of start.now)) (scope_of scope.old)) }
 {
     let mut statements = Vec::new(alloc);
     match start {

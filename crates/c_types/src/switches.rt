@@ -1,14 +1,13 @@
 //! Switches.
 
-ghost use Rattle.std.specs.Prelude.{◌≡◌, List, ◌∷◌, IfOk};
+ghost use Rattle.std.specs.Prelude.{◌≡◌, List, IfOk};
 ghost use Rattle.c_values.specs.CodeTypes.{int_type_of};
 ghost use Rattle.c_grammar.specs.Tree as tree;
 ghost use Rattle.c_grammar.specs.View.{exp_of, groups_of as plain_groups_of, items_of, stmt_of};
 ghost use Rattle.c_typing.specs.Answers.{Answers, RulesAs};
-ghost use Rattle.c_typing.specs.Checked.{pure, ◌>>=◌};
 ghost use Rattle.c_typing.specs.CodeForm.{form_type};
 ghost use Rattle.c_types.specs.CodeScope.{scope_of};
-ghost use Rattle.c_types.specs.CodeStatements.{around_of, in_front};
+ghost use Rattle.c_types.specs.CodeStatements.{around_of, group_listed, in_front};
 ghost use Rattle.c_typing.specs.Statements as rules;
 ghost use Rattle.c_typed.specs.Typed as C;
 ghost use Rattle.c_typed.specs.View.{expr_of, groups_of, statement_of, statements_of};
@@ -157,7 +156,7 @@ fn group_statements(
     around: Around<'_>,
 ) -> Result<Statements, TypeFault>
     ensures { Answers statements_of (scope_of scope.new) result
-        ((rules.statement (around_of around.entry) (stmt_of first.now) >>= λ x. rules.items (around_of around.entry) (items_of others.now) >>= λ ts. pure (rules.listed (x ∷ ts))) (scope_of scope.old)) }
+        (group_listed (around_of around.entry) (stmt_of first.now) (items_of others.now) (scope_of scope.old)) }
 {
     let mut statements = Vec::new(alloc);
     statements.push(statement(alloc, first, scope, around)?)?;
