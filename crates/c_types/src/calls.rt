@@ -39,11 +39,7 @@ pub(crate) enum Right {
 }
 
 /// A right side.
-pub(crate) fn right_side(
-    alloc: Global,
-    right: &Rhs,
-    scope: &mut Scope,
-) -> Result<Right, TypeFault>
+pub(crate) fn right_side(alloc: Global, right: &Rhs, scope: &mut Scope) -> Result<Right, TypeFault>
     ensures { Answers right_of (scope_of scope.new) result
         (rules.right (view.rhs_of right.now) (scope_of scope.old)) }
 {

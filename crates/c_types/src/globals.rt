@@ -327,12 +327,7 @@ fn constant_expression(alloc: Global, e: &CExp, scope: &mut Scope) -> Result<Exp
 }
 
 // The initialiser of a global: a constant.
-fn initialised(
-    alloc: Global,
-    head: &Declared,
-    e: &CExp,
-    scope: &mut Scope,
-) -> Result<(), TypeFault>
+fn initialised(alloc: Global, head: &Declared, e: &CExp, scope: &mut Scope) -> Result<(), TypeFault>
     ensures { Answers (λ _. tt) (scope_of scope.new) result
         (rules.initialised head.now.at (string_bytes head.now.name) (type_of head.now.ty) (Some (exp_of e.now)) (scope_of scope.old)) }
 {
@@ -343,19 +338,11 @@ fn initialised(
 }
 
 // The rule of an initialiser: it is the only one, and goes to the type of its global.
-fn initial_value(
-    alloc: Global,
-    head: &Declared,
-    e: Expr,
-    scope: &Scope,
-) -> Result<Number, Refusal>
+fn initial_value(alloc: Global, head: &Declared, e: Expr, scope: &Scope) -> Result<Number, Refusal>
     ensures { RulesAs (λ n. n) result
         (rules.initial_rule (string_bytes head.now.name) (type_of head.now.ty) (expr_of e) (scope_of scope.now)) }
 {
-    refuse(
-        is_initialised(scope, head.name.as_str()),
-        TypeKind::Twice,
-    )?;
+    refuse(is_initialised(scope, head.name.as_str()), TypeKind::Twice)?;
     let e = converted(alloc, &scope.layout, form_of(&head.ty), e)?;
     match constant_value(&scope.layout, &e) {
         Some(value) => Ok(value),

@@ -51,11 +51,11 @@ impl Labels {
     }
 
     // Adds a label.
-    fn add(&mut self, found: Found) -> Result<(), AllocError>
-        ensures { OnOk result (labels_of self.new ≡ rules.both (labels_of self.old) (found_of found)) }
+    fn add(&mut self, found: &Found) -> Result<(), AllocError>
+        ensures { OnOk result (labels_of self.new ≡ rules.both (labels_of self.old) (found_of found.now)) }
     {
         match found {
-            Found::Case(n) => self.values.push(n)?,
+            Found::Case(n) => self.values.push(*n)?,
             Found::Default => self.has_default = true,
         }
         Ok(())
@@ -89,9 +89,9 @@ impl Seen {
 
     // Adds a label.
     #[tactic(auto, using(crate::proofs::Keys::finds_more))]
-    fn add(&mut self, found: Found) -> Result<(), AllocError>
+    fn add(&mut self, found: &Found) -> Result<(), AllocError>
         requires { Finds self.old.known self.old.labels.values.items }
-        ensures added { OnOk result (labels_of self.new.labels ≡ rules.both (labels_of self.old.labels) (found_of found)) }
+        ensures added { OnOk result (labels_of self.new.labels ≡ rules.both (labels_of self.old.labels) (found_of found.now)) }
         ensures finds { OnOk result (Finds self.new.known self.new.labels.values.items) }
     {
         note(found, &mut self.known)?;
@@ -125,11 +125,11 @@ fn key(n: Number) -> (bool, u128)
 
 // The keys with that of a label.
 #[tactic(auto, using(crate::proofs::Keys::noted))]
-fn note(found: Found, known: &mut HashSet<(bool, u128)>) -> Result<(), AllocError>
-    ensures { OnOk result (Notes (found_of found).values known.old known.new) }
+fn note(found: &Found, known: &mut HashSet<(bool, u128)>) -> Result<(), AllocError>
+    ensures { OnOk result (Notes (found_of found.now).values known.old known.new) }
 {
     if let Found::Case(n) = found {
-        known.insert(key(n))?;
+        known.insert(key(*n))?;
     }
     Ok(())
 }
@@ -153,8 +153,8 @@ pub(crate) fn group_labels(
     let mut rest = others;
     loop {
         let found = label_found(alloc, label, scope, ty, &*seen)?;
-        seen.add(found)?;
-        labels.add(found)?;
+        seen.add(&found)?;
+        labels.add(&found)?;
         match rest.split_first() {
             Some((next, more)) => {
                 label = next;

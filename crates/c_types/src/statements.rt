@@ -325,7 +325,12 @@ fn do_statement(
 }
 
 // The rule of a do-while.
-fn do_while_of(alloc: Global, number: u64, body: Statement, test: Expr) -> Result<Statement, Refusal>
+fn do_while_of(
+    alloc: Global,
+    number: u64,
+    body: Statement,
+    test: Expr,
+) -> Result<Statement, Refusal>
     ensures { RulesAs statement_of result (rules.tested (expr_of test) (C.DoWhile number (statement_of body) (expr_of test))) }
 {
     is_test(&test)?;
@@ -394,11 +399,7 @@ fn for_test(alloc: Global, test: &Option<CExp>, scope: &mut Scope) -> Result<Tes
     }
 }
 
-fn for_step(
-    alloc: Global,
-    step: &Option<Simple>,
-    scope: &mut Scope,
-) -> Result<Statement, TypeFault>
+fn for_step(alloc: Global, step: &Option<Simple>, scope: &mut Scope) -> Result<Statement, TypeFault>
     ensures { Answers statement_of (scope_of scope.new) result
         (rules.loop_step (option_map view.simple_of step.now) (scope_of scope.old)) }
 {

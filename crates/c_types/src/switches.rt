@@ -80,12 +80,7 @@ fn switch_type(operand: Form<'_>) -> IntType
 }
 
 // The rule of a switch: its operand is an integer, and is promoted.
-fn switched(
-    alloc: Global,
-    number: u64,
-    operand: Expr,
-    groups: Groups,
-) -> Result<Statement, Refusal>
+fn switched(alloc: Global, number: u64, operand: Expr, groups: Groups) -> Result<Statement, Refusal>
     ensures { RulesAs statement_of result
         (rules.switches number (expr_of operand) (C.type_of (expr_of operand)) (groups_of groups)) }
 {

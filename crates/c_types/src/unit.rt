@@ -119,11 +119,7 @@ fn external_typed(
 }
 
 // The text is at its end.
-fn typed_unit(
-    alloc: Global,
-    scope: Scope,
-    functions: Vec<TypedFn>,
-) -> Result<TypedUnit, AllocError>
+fn typed_unit(alloc: Global, scope: Scope, functions: Vec<TypedFn>) -> Result<TypedUnit, AllocError>
     ensures { IfOk result (λ u. unit_of u ≡ rules.unit_in (map function_of functions.items) (scopes.scope_of scope)) }
 {
     let Scope { layout, file, .. } = scope;
