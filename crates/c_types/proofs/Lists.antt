@@ -13,6 +13,6 @@ onto_behind [] s ts = refl
 onto_behind (x ∷ ss) s ts = ap (C.next (statement_of x)) (onto_behind ss s ts)
 
 -- the last group is in front of what follows
-pub in_front_behind : (gs : List G.Group) (g : G.Group) (rest : C.Groups) → in_front (gs ++ (g ∷ [])) rest ≡ in_front gs (C.group g.values.items g.has_default (statements_of g.statements) rest)
+pub in_front_behind : (gs : List G.Group) (g : G.Group) (rest : C.Groups) → in_front (gs ++ (g ∷ [])) rest ≡ in_front gs (C.group g.labels.values.items g.labels.has_default (statements_of g.statements) rest)
 in_front_behind [] g rest = refl
-in_front_behind (h ∷ gs) g rest = ap (C.group h.values.items h.has_default (statements_of h.statements)) (in_front_behind gs g rest)
+in_front_behind (h ∷ gs) g rest = ap (C.group h.labels.values.items h.labels.has_default (statements_of h.statements)) (in_front_behind gs g rest)

@@ -6,3 +6,7 @@ pub mod CodeConstant
 pub mod CodeCalls
 pub mod CodeStatements
 pub mod CodeUnit
+pub mod CodeKeys
+pub mod CodeLabels
+pub mod CodeGlobals
+pub mod CodeValues

@@ -6,10 +6,13 @@ ghost use Rattle.std.specs.HashSet.{contains_text};
 ghost use Rattle.c_values.specs.Name.{with_name};
 ghost use Rattle.std.specs.Option.{option_copied, option_map};
 ghost use Rattle.c_values.specs.CodeTypes.{type_of};
-ghost use Rattle.c_typing.specs.Answers.{RulesAs};
+ghost use Rattle.c_grammar.specs.View.{declarator_of, items_of, param_of, words_of};
+ghost use Rattle.c_typing.specs.Answers.{Answers, RulesAs};
+ghost use Rattle.c_typing.specs.Checked.{in_block};
 ghost use Rattle.c_types.specs.CodeDeclared.{declared_of, parameter_of};
 ghost use Rattle.c_types.specs.CodeScope.{entity_of, scope_of};
 ghost use Rattle.c_typing.specs.Functions as rules;
+ghost use Rattle.c_typed.specs.View.{function_of, statements_of, variable_of};
 
 use crate::calls::copy_of_result;
 use crate::declarators::Declared;
@@ -26,7 +29,6 @@ use c_typing::types::{copy_of, form_of, is_same, is_scalar, points_to_array};
 use c_values::CType;
 use std::alloc::{AllocError, Global};
 use std::collections::HashSet;
-use std::mem;
 
 /// A function with its body: its parameters, its declarator, its block.
 pub(crate) fn function(
@@ -36,7 +38,10 @@ pub(crate) fn function(
     params: &[Param],
     block: &Items,
     scope: &mut Scope,
-) -> Result<TypedFn, TypeFault> {
+) -> Result<TypedFn, TypeFault>
+    ensures { Answers function_of (scope_of scope.new) result
+        (rules.function (words_of words.now) (declarator_of head.now) (map param_of params.now) (items_of block.now) (scope_of scope.old)) }
+{
     scope.folds_cast = false;
     let base = base(alloc, words, scope)?;
     let head = declarator(alloc, head, scope, &base.ty)?;
@@ -47,11 +52,25 @@ pub(crate) fn function(
     add_function(alloc, name.as_str(), &result, params.as_slice(), scope)?;
     add_body(name.clone()?, scope)?;
     let body = body(alloc, block, scope, &result, params.as_slice())?;
+    Ok(finished(alloc, name, result, params.as_slice(), body, &*scope)?)
+}
+
+// The function at the end of its body.
+fn finished(
+    alloc: Global,
+    name: String,
+    ty: Option<CType>,
+    params: &[Parameter],
+    body: Statements,
+    scope: &Scope,
+) -> Result<TypedFn, AllocError>
+    ensures { IfOk result (λ f. function_of f ≡ rules.function_of (string_bytes name) (option_map type_of ty) (map parameter_of params.now) (statements_of body) (scope_of scope.now)) }
+{
     Ok(TypedFn {
         name,
-        result,
-        params: variables(alloc, params.as_slice())?,
-        locals: taken_locals(alloc, scope),
+        result: ty,
+        params: variables(alloc, params)?,
+        locals: copy_of_variables(alloc, scope.progress.locals.as_slice())?,
         folds_cast: scope.folds_cast,
         body,
     })
@@ -63,7 +82,10 @@ pub(crate) fn parameters_in_block(
     params: &[Param],
     scope: &mut Scope,
     has_body: bool,
-) -> Result<Vec<Parameter>, TypeFault> {
+) -> Result<Vec<Parameter>, TypeFault>
+    ensures { Answers (λ ps. map parameter_of ps.items) (scope_of scope.new) result
+        (in_block (rules.parameters has_body (map param_of params.now)) (scope_of scope.old)) }
+{
     scope.open_block(alloc)?;
     let params = parameters(alloc, params, scope, has_body)?;
     scope.close_block();
@@ -196,8 +218,8 @@ fn add_body(name: String, scope: &mut Scope) -> Result<(), AllocError>
     Ok(())
 }
 
-// Adds a name to others.
-fn note(name: String, names: &mut HashSet<String>) -> Result<(), AllocError>
+/// Adds a name to others.
+pub(crate) fn note(name: String, names: &mut HashSet<String>) -> Result<(), AllocError>
     ensures { OnOk result ((λ q. contains_text names.new q) ≡ with_name (string_bytes name) true (λ q. contains_text names.old q)) }
 {
     names.insert(name)?;
@@ -211,7 +233,10 @@ fn body(
     scope: &mut Scope,
     ty: &Option<CType>,
     params: &[Parameter],
-) -> Result<Statements, TypeFault> {
+) -> Result<Statements, TypeFault>
+    ensures { Answers statements_of (scope_of scope.new) result
+        (rules.body (option_map type_of ty.now) (map parameter_of params.now) (items_of block.now) (scope_of scope.old)) }
+{
     scope.open_block(alloc)?;
     enter(alloc, params, scope)?;
     let around = Around {
@@ -273,7 +298,22 @@ fn add_name(param: &Parameter, names: &mut Vec<String>) -> Result<(), AllocError
     }
 }
 
-// The locals of the body that ends.
-fn taken_locals(alloc: Global, scope: &mut Scope) -> Vec<Variable> {
-    mem::replace(&mut scope.progress.locals, Vec::new(alloc))
+// A copy of variables.
+fn copy_of_variables(alloc: Global, variables: &[Variable]) -> Result<Vec<Variable>, AllocError>
+    ensures { IfOk result (λ copy. map variable_of copy.items ≡ map variable_of variables.now) }
+{
+    let mut copy = Vec::new(alloc);
+    for variable in variables {
+        copy.push(copy_of_variable(alloc, variable)?)?;
+    }
+    Ok(copy)
+}
+
+fn copy_of_variable(alloc: Global, variable: &Variable) -> Result<Variable, AllocError>
+    ensures { IfOk result (λ copy. variable_of copy ≡ variable_of variable.now) }
+{
+    Ok(Variable {
+        name: variable.name.clone()?,
+        ty: copy_of(alloc, &variable.ty)?,
+    })
 }

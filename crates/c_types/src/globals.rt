@@ -1,12 +1,17 @@
 //! Declarations outside functions: globals, prototypes and typedefs.
 
-ghost use Rattle.std.specs.Prelude.{◌≡◌};
+ghost use Rattle.std.specs.Prelude.{◌≡◌, map, string_bytes, Some, IfOk, OnOk};
 ghost use Rattle.std.specs.Option.{option_copied, option_map};
 ghost use Rattle.c_values.specs.CodeTypes.{type_of};
-ghost use Rattle.c_typing.specs.Answers.{RulesAs};
-ghost use Rattle.c_types.specs.CodeDeclared.{declared_of};
+ghost use Rattle.c_grammar.specs.View.{exp_of, param_of, top_of, words_of};
+ghost use Rattle.c_typing.specs.Answers.{Answers, RulesAs};
+ghost use Rattle.c_typing.specs.CodeWords.{base_of};
+ghost use Rattle.c_types.specs.CodeDeclared.{declared_of, parameter_of};
 ghost use Rattle.c_types.specs.CodeScope.{entity_of, scope_of};
+ghost use Rattle.c_types.specs.CodeGlobals.{global_at, globals_of};
+ghost use Rattle.c_typing.specs.File.{global_named, with_global};
 ghost use Rattle.c_typing.specs.Globals as rules;
+ghost use Rattle.c_typed.specs.View.{expr_of};
 
 use crate::declarators::{Declared, has_incomplete_elements, is_incomplete, is_large};
 use crate::expressions::{base, declarator, first, value};
@@ -24,6 +29,7 @@ use c_typing::rulings::{Refusal, at_node, refuse};
 use c_typing::specifiers::Base;
 use c_typing::types::{copy_of, form_of, is_same, points_to_array};
 use c_values::{CType, Number};
+use indexmap::IndexMap;
 use std::alloc::{AllocError, Global};
 
 /// A declaration outside functions.
@@ -33,10 +39,28 @@ pub(crate) fn declaration(
     tops: &[Top],
     scope: &mut Scope,
     is_typedef: bool,
-) -> Result<(), TypeFault> {
+) -> Result<(), TypeFault>
+    ensures { Answers (λ _. tt) (scope_of scope.new) result
+        (rules.declaration is_typedef (words_of words.now) (map top_of tops.now) (scope_of scope.old)) }
+{
     let base = base(alloc, words, scope)?;
-    for top in tops {
-        top_declared(alloc, top, scope, is_typedef, &base)?;
+    tops_declared(alloc, tops, scope, is_typedef, &base)
+}
+
+fn tops_declared(
+    alloc: Global,
+    tops: &[Top],
+    scope: &mut Scope,
+    is_typedef: bool,
+    base: &Base,
+) -> Result<(), TypeFault>
+    ensures { Answers (λ _. tt) (scope_of scope.new) result
+        (rules.tops is_typedef (base_of base.now) (map top_of tops.now) (scope_of scope.old)) }
+{
+    let mut rest = tops;
+    while let Some((top, more)) = rest.split_first() {
+        top_declared(alloc, top, scope, is_typedef, base)?;
+        rest = more;
     }
     Ok(())
 }
@@ -47,11 +71,16 @@ fn top_declared(
     scope: &mut Scope,
     is_typedef: bool,
     base: &Base,
-) -> Result<(), TypeFault> {
+) -> Result<(), TypeFault>
+    ensures { Answers (λ _. tt) (scope_of scope.new) result
+        (rules.top is_typedef (base_of base.now) (top_of top.now) (scope_of scope.old)) }
+{
     let head = declarator(alloc, &top.declarator, scope, &base.ty)?;
     let params = prototype_parameters(alloc, &top.parameters, scope)?;
+    if is_typedef {
+        return typedef(alloc, head, params, &top.value, scope);
+    }
     match params {
-        _ if is_typedef => typedef(alloc, head, params.is_some(), &top.value, scope),
         None => global(alloc, head, &top.value, scope, base.is_extern),
         Some(params) => prototype(alloc, head, params, &top.value, scope),
     }
@@ -61,7 +90,10 @@ fn prototype_parameters(
     alloc: Global,
     params: &Option<Vec<Param>>,
     scope: &mut Scope,
-) -> Result<Option<Vec<Parameter>>, TypeFault> {
+) -> Result<Option<Vec<Parameter>>, TypeFault>
+    ensures { Answers (λ ps. option_map (λ qs. map parameter_of qs.items) ps) (scope_of scope.new) result
+        (rules.prototype_parameters (option_map (λ ps. map param_of ps.items) params.now) (scope_of scope.old)) }
+{
     match params {
         None => Ok(None),
         Some(params) => {
@@ -74,14 +106,25 @@ fn prototype_parameters(
 fn typedef(
     alloc: Global,
     head: Declared,
-    of_function: bool,
+    params: Option<Vec<Parameter>>,
     value: &Option<CExp>,
     scope: &mut Scope,
-) -> Result<(), TypeFault> {
+) -> Result<(), TypeFault>
+    ensures { Answers (λ _. tt) (scope_of scope.new) result
+        (rules.typedef (declared_of head) (option_map (λ qs. map parameter_of qs.items) params) (option_map exp_of value.now) (scope_of scope.old)) }
+{
     let at = head.at;
-    at_node(at, is_typedef(&head, of_function, &*scope))?;
-    let _ = scope.typedefs.insert(head.name, head.ty)?;
+    at_node(at, is_typedef(&head, params.is_some(), &*scope))?;
+    add_typedef(head, scope)?;
     uninitialised(alloc, value, scope, at)
+}
+
+// Lets a name stand for a type.
+fn add_typedef(head: Declared, scope: &mut Scope) -> Result<(), AllocError>
+    ensures { OnOk result (scope_of scope.new ≡ rules.add_typedef (string_bytes head.name) (type_of head.ty) (scope_of scope.old)) }
+{
+    let _ = scope.typedefs.insert(head.name, head.ty)?;
+    Ok(())
 }
 
 // The rule of the declarator of a typedef. One of a function has no place in the subset.
@@ -110,7 +153,10 @@ fn prototype(
     params: Vec<Parameter>,
     value: &Option<CExp>,
     scope: &mut Scope,
-) -> Result<(), TypeFault> {
+) -> Result<(), TypeFault>
+    ensures { Answers (λ _. tt) (scope_of scope.new) result
+        (rules.prototype (declared_of head) (map parameter_of params.items) (option_map exp_of value.now) (scope_of scope.old)) }
+{
     let at = head.at;
     at_node(at, is_function(&head, params.as_slice(), &*scope))?;
     let Declared { name, ty, .. } = head;
@@ -125,7 +171,10 @@ fn uninitialised(
     initialiser: &Option<CExp>,
     scope: &mut Scope,
     at: usize,
-) -> Result<(), TypeFault> {
+) -> Result<(), TypeFault>
+    ensures { Answers (λ _. tt) (scope_of scope.new) result
+        (rules.uninitialised at (option_map exp_of initialiser.now) (scope_of scope.old)) }
+{
     match initialiser {
         None => Ok(()),
         Some(e) => {
@@ -141,7 +190,10 @@ fn global(
     value: &Option<CExp>,
     scope: &mut Scope,
     is_extern: bool,
-) -> Result<(), TypeFault> {
+) -> Result<(), TypeFault>
+    ensures { Answers (λ _. tt) (scope_of scope.new) result
+        (rules.global is_extern (declared_of head) (option_map exp_of value.now) (scope_of scope.old)) }
+{
     at_node(head.at, is_global(&head, is_extern, &*scope))?;
     add_global(alloc, &head, scope, is_extern)?;
     match value {
@@ -151,13 +203,15 @@ fn global(
 }
 
 // The rule of the declarator of a global: its declarations have one type, and one at most is without `extern`.
-fn is_global(head: &Declared, is_extern: bool, scope: &Scope) -> Result<(), Refusal> {
+fn is_global(head: &Declared, is_extern: bool, scope: &Scope) -> Result<(), Refusal>
+    ensures { RulesAs (λ _. type_of head.now.ty) result
+        (rules.global_rule is_extern (declared_of head.now) (scope_of scope.now)) }
+{
     let name = head.name.as_str();
-    let global = scope.file.globals.get(name);
     refuse(
         scope.typedefs.contains_key(name)
             || !has_type(&head.ty, scope.entity(name))
-            || !is_extern && is_defined(global),
+            || !is_extern && is_defined(scope, name),
         TypeKind::Twice,
     )?;
     refuse(is_incomplete(&scope.layout, &head.ty), TypeKind::Incomplete)?;
@@ -178,15 +232,21 @@ fn has_type(ty: &CType, entity: Option<&Entity>) -> bool
     }
 }
 
-fn is_defined(global: Option<&GlobalSoFar>) -> bool {
-    match global {
+// Whether a declaration of the global without `extern` stood.
+fn is_defined(scope: &Scope, name: &str) -> bool
+    ensures { result ≡ rules.is_defined (global_named (scope_of scope.now).file.globals name.now) }
+{
+    match scope.file.globals.get(name) {
         None => false,
         Some(global) => global.is_defined,
     }
 }
 
-fn is_initialised(global: Option<&GlobalSoFar>) -> bool {
-    match global {
+// Whether the global has an initialiser.
+fn is_initialised(scope: &Scope, name: &str) -> bool
+    ensures { result ≡ rules.is_initialised (global_named (scope_of scope.now).file.globals name.now) }
+{
+    match scope.file.globals.get(name) {
         None => false,
         Some(global) => global.initial.is_some(),
     }
@@ -198,33 +258,62 @@ fn add_global(
     head: &Declared,
     scope: &mut Scope,
     is_extern: bool,
-) -> Result<(), AllocError> {
-    let name = head.name.as_str();
-    let before = scope.file.globals.get(name);
-    let is_defined = is_defined(before) || !is_extern;
-    let initial = initial_of(before);
-    let global = GlobalSoFar {
-        ty: copy_of(alloc, &head.ty)?,
-        is_defined,
-        initial,
-    };
-    let _ = scope
-        .file
-        .globals
-        .insert(String::from_str(alloc, name)?, global)?;
+) -> Result<(), AllocError>
+    ensures { OnOk result (scope_of scope.new ≡ rules.add_global is_extern (string_bytes head.now.name) (type_of head.now.ty) (scope_of scope.old)) }
+{
+    let global = declared_global(alloc, head, &*scope, is_extern)?;
+    put_global(head.name.clone()?, global, scope)?;
     let ty = copy_of(alloc, &head.ty)?;
-    scope.declare(String::from_str(alloc, name)?, Entity::Global(ty))
+    scope.declare(head.name.clone()?, Entity::Global(ty))
 }
 
-fn initial_of(global: Option<&GlobalSoFar>) -> Option<Number> {
-    match global {
-        None => None,
-        Some(global) => global.initial,
+// A global behind one of its declarations.
+fn declared_global(
+    alloc: Global,
+    head: &Declared,
+    scope: &Scope,
+    is_extern: bool,
+) -> Result<GlobalSoFar, AllocError>
+    ensures { IfOk result (λ g. global_at (string_bytes head.now.name) g ≡ rules.declared_global is_extern (string_bytes head.now.name) (type_of head.now.ty)
+        (global_named (scope_of scope.now).file.globals (string_bytes head.now.name))) }
+{
+    match scope.file.globals.get(head.name.as_str()) {
+        None => Ok(GlobalSoFar {
+            ty: copy_of(alloc, &head.ty)?,
+            is_defined: !is_extern,
+            initial: None,
+        }),
+        Some(before) => Ok(GlobalSoFar {
+            ty: copy_of(alloc, &before.ty)?,
+            is_defined: before.is_defined || !is_extern,
+            initial: before.initial,
+        }),
     }
 }
 
+// Puts a global in the place of that of its name, or behind the others.
+fn put_global(name: String, global: GlobalSoFar, scope: &mut Scope) -> Result<(), AllocError>
+    ensures { OnOk result (scope_of scope.new ≡ rules.put_global (global_at (string_bytes name) global) (scope_of scope.old)) }
+{
+    put(name, global, &mut scope.file.globals)
+}
+
+fn put(
+    name: String,
+    global: GlobalSoFar,
+    globals: &mut IndexMap<String, GlobalSoFar>,
+) -> Result<(), AllocError>
+    ensures { OnOk result (globals_of globals.new ≡ with_global (global_at (string_bytes name) global) (globals_of globals.old)) }
+{
+    let _ = globals.insert(name, global)?;
+    Ok(())
+}
+
 // A constant expression, as an expression.
-fn constant_expression(alloc: Global, e: &CExp, scope: &mut Scope) -> Result<Expr, TypeFault> {
+fn constant_expression(alloc: Global, e: &CExp, scope: &mut Scope) -> Result<Expr, TypeFault>
+    ensures { Answers expr_of (scope_of scope.new) result
+        (rules.constant_expression (exp_of e.now) (scope_of scope.old)) }
+{
     let typed = value(alloc, e, scope)?;
     at_node(
         first(e),
@@ -238,27 +327,22 @@ fn constant_expression(alloc: Global, e: &CExp, scope: &mut Scope) -> Result<Exp
 }
 
 // The initialiser of a global: a constant.
-fn initialised(
-    alloc: Global,
-    head: &Declared,
-    e: &CExp,
-    scope: &mut Scope,
-) -> Result<(), TypeFault> {
+fn initialised(alloc: Global, head: &Declared, e: &CExp, scope: &mut Scope) -> Result<(), TypeFault>
+    ensures { Answers (λ _. tt) (scope_of scope.new) result
+        (rules.initialised head.now.at (string_bytes head.now.name) (type_of head.now.ty) (Some (exp_of e.now)) (scope_of scope.old)) }
+{
     let e = constant_expression(alloc, e, scope)?;
     let value = at_node(head.at, initial_value(alloc, head, e, &*scope))?;
-    set_initial(head.name.as_str(), value, scope);
+    set_initial(alloc, &head.name, value, scope)?;
     Ok(())
 }
 
 // The rule of an initialiser: it is the only one, and goes to the type of its global.
-fn initial_value(
-    alloc: Global,
-    head: &Declared,
-    e: Expr,
-    scope: &Scope,
-) -> Result<Number, Refusal> {
-    let global = scope.file.globals.get(head.name.as_str());
-    refuse(is_initialised(global), TypeKind::Twice)?;
+fn initial_value(alloc: Global, head: &Declared, e: Expr, scope: &Scope) -> Result<Number, Refusal>
+    ensures { RulesAs (λ n. n) result
+        (rules.initial_rule (string_bytes head.now.name) (type_of head.now.ty) (expr_of e) (scope_of scope.now)) }
+{
+    refuse(is_initialised(scope, head.name.as_str()), TypeKind::Twice)?;
     let e = converted(alloc, &scope.layout, form_of(&head.ty), e)?;
     match constant_value(&scope.layout, &e) {
         Some(value) => Ok(value),
@@ -266,8 +350,35 @@ fn initial_value(
     }
 }
 
-fn set_initial(name: &str, value: Number, scope: &mut Scope) {
-    if let Some(global) = scope.file.globals.get_mut(name) {
-        global.initial = Some(value);
+fn set_initial(
+    alloc: Global,
+    name: &String,
+    value: Number,
+    scope: &mut Scope,
+) -> Result<(), AllocError>
+    ensures { OnOk result (scope_of scope.new ≡ rules.set_initial (string_bytes name.now) value (scope_of scope.old)) }
+{
+    match with_initial(alloc, name.as_str(), value, &*scope)? {
+        None => Ok(()),
+        Some(global) => put_global(name.clone()?, global, scope),
+    }
+}
+
+// The global of a name with its value.
+fn with_initial(
+    alloc: Global,
+    name: &str,
+    value: Number,
+    scope: &Scope,
+) -> Result<Option<GlobalSoFar>, AllocError>
+    ensures { IfOk result (λ g. option_map (global_at name.now) g ≡ option_map (λ h. record h { initial = Some value }) (global_named (scope_of scope.now).file.globals name.now)) }
+{
+    match scope.file.globals.get(name) {
+        None => Ok(None),
+        Some(global) => Ok(Some(GlobalSoFar {
+            ty: copy_of(alloc, &global.ty)?,
+            is_defined: global.is_defined,
+            initial: Some(value),
+        })),
     }
 }

@@ -8,6 +8,7 @@ mod expressions;
 mod file;
 mod functions;
 mod globals;
+mod labels;
 mod locals;
 mod members;
 mod nodes;

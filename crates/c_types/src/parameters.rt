@@ -1,9 +1,9 @@
 //! Parameters: scalars; an array among them is a pointer.
 
 ghost use Rattle.std.specs.Prelude.{◌≡◌, ◌∷◌, ◌++◌, [], map, string_bytes, IfOk, OnOk};
-ghost use Rattle.c_typing.specs.Answers.{RulesAs};
+ghost use Rattle.c_typing.specs.Answers.{Answers, RulesAs};
 ghost use Rattle.std.specs.Option.{option_map};
-ghost use Rattle.c_grammar.specs.View.{words_of};
+ghost use Rattle.c_grammar.specs.View.{bracket_of, param_of, words_of};
 ghost use Rattle.c_values.specs.CodeTypes.{type_of};
 ghost use Rattle.c_types.specs.CodeDeclared.{parameter_of};
 ghost use Rattle.c_types.specs.CodeScope.{scope_of};
@@ -35,14 +35,37 @@ pub(crate) fn parameters(
     params: &[Param],
     scope: &mut Scope,
     has_body: bool,
-) -> Result<Vec<Parameter>, TypeFault> {
+) -> Result<Vec<Parameter>, TypeFault>
+    ensures { Answers (λ ps. map parameter_of ps.items) (scope_of scope.new) result
+        (rules.parameters has_body (map param_of params.now) (scope_of scope.old)) }
+{
     let mut typed = Vec::new(alloc);
-    for param in params {
-        let parameter = typed_parameter(alloc, param, scope, has_body)?;
-        add_parameter(alloc, &parameter, scope)?;
-        typed.push(parameter)?;
+    let mut rest = params;
+    while let Some((param, more)) = rest.split_first() {
+        typed.push(typed_parameter(alloc, param, scope, has_body)?)?;
+        rest = more;
     }
     Ok(typed)
+}
+
+fn typed_parameter(
+    alloc: Global,
+    param: &Param,
+    scope: &mut Scope,
+    has_body: bool,
+) -> Result<Parameter, TypeFault>
+    ensures { Answers parameter_of (scope_of scope.new) result
+        (rules.parameter has_body (param_of param.now) (scope_of scope.old)) }
+{
+    let base = base(alloc, &param.words, scope)?;
+    let ty = pointers(alloc, param.stars.len(), base.ty)?;
+    let ty = bracketed(alloc, &param.bracket, scope, ty)?;
+    let parameter = at_node(
+        parameter_start(param),
+        parameter_of(alloc, &param.name, ty, &*scope, has_body),
+    )?;
+    add_parameter(alloc, &parameter, scope)?;
+    Ok(parameter)
 }
 
 /// Declares a parameter that has a name.
@@ -61,28 +84,16 @@ pub(crate) fn add_parameter(
     Ok(())
 }
 
-fn typed_parameter(
-    alloc: Global,
-    param: &Param,
-    scope: &mut Scope,
-    has_body: bool,
-) -> Result<Parameter, TypeFault> {
-    let base = base(alloc, &param.words, scope)?;
-    let ty = pointers(alloc, param.stars.len(), base.ty)?;
-    let ty = bracketed(alloc, &param.bracket, scope, ty)?;
-    at_node(
-        parameter_start(param),
-        parameter_of(alloc, &param.name, ty, &*scope, has_body),
-    )
-}
-
 // The type that a parameter is written with. An array without a length is written as one of one element.
 fn bracketed(
     alloc: Global,
     bracket: &Bracket,
     scope: &mut Scope,
     ty: CType,
-) -> Result<CType, TypeFault> {
+) -> Result<CType, TypeFault>
+    ensures { Answers type_of (scope_of scope.new) result
+        (rules.bracketed (type_of ty) (bracket_of bracket.now) (scope_of scope.old)) }
+{
     match bracket {
         Bracket::None => Ok(ty),
         Bracket::Open => Ok(CType::Array(Box::new(alloc, ty)?, 1)),
@@ -94,7 +105,9 @@ fn bracketed(
 }
 
 // The offset of a parameter: its first star, or its name; one with neither begins with its words.
-fn parameter_start(param: &Param) -> usize {
+fn parameter_start(param: &Param) -> usize
+    ensures { result ≡ rules.parameter_start (words_of param.now.words) param.now.stars.items (option_map (λ n. (n.0, string_bytes n.1)) param.now.name) }
+{
     match param.stars.first() {
         Some(star) => *star,
         None => match &param.name {

@@ -1,32 +1,32 @@
 //! Switches.
 
-ghost use Rattle.std.specs.Prelude.{◌≡◌, IfOk};
+ghost use Rattle.std.specs.Prelude.{◌≡◌, List, IfOk};
 ghost use Rattle.c_values.specs.CodeTypes.{int_type_of};
-ghost use Rattle.c_grammar.specs.View.{items_of, label_of, stmt_of};
-ghost use Rattle.c_typing.specs.Answers.{Answers};
+ghost use Rattle.c_grammar.specs.Tree as tree;
+ghost use Rattle.c_grammar.specs.View.{exp_of, groups_of as plain_groups_of, items_of, stmt_of};
+ghost use Rattle.c_typing.specs.Answers.{Answers, RulesAs};
 ghost use Rattle.c_typing.specs.CodeForm.{form_type};
 ghost use Rattle.c_types.specs.CodeScope.{scope_of};
-ghost use Rattle.c_types.specs.CodeStatements.{around_of, in_front};
+ghost use Rattle.c_types.specs.CodeStatements.{around_of, group_listed, in_front};
 ghost use Rattle.c_typing.specs.Statements as rules;
 ghost use Rattle.c_typed.specs.Typed as C;
-ghost use Rattle.c_typed.specs.View.{groups_of};
+ghost use Rattle.c_typed.specs.View.{expr_of, groups_of, statement_of, statements_of};
 
-use crate::expressions::{integer_constant, value};
+use crate::expressions::value;
+use crate::labels::{Labels, Seen, group_labels, label_start};
 use crate::scope::Scope;
 use crate::statements::{Around, listed, more_items, statement};
-use c_grammar::tree::{self, CExp, Items, Label, Stmt};
+use c_grammar::tree::{self, CExp, Items, Stmt};
 use c_typed::tree::{Expr, Groups, Statement, Statements};
 use c_typing::fault::{TypeFault, TypeKind};
-use c_typing::folding::number_at;
 use c_typing::integers::promoted;
 use c_typing::operands::type_of;
 use c_typing::operators::to_integer;
 use c_typing::progress::following;
 use c_typing::rulings::{Refusal, at_node, refuse};
 use c_typing::types::Form;
-use c_values::{CType, IntType, Number};
+use c_values::IntType;
 use std::alloc::{AllocError, Global};
-use std::collections::HashSet;
 
 /// A switch.
 #[cycle(block)]
@@ -37,7 +37,10 @@ pub(crate) fn switch(
     scope: &mut Scope,
     around: Around<'_>,
     at: usize,
-) -> Result<Statement, TypeFault> {
+) -> Result<Statement, TypeFault>
+    ensures { Answers statement_of (scope_of scope.new) result
+        (rules.statement (around_of around.entry) (tree.Switch at (exp_of operand.now) (plain_groups_of groups.now)) (scope_of scope.old)) }
+{
     let number = switch_number(scope)?;
     let operand = value(alloc, operand, scope)?;
     scope.open_block(alloc)?;
@@ -77,12 +80,10 @@ fn switch_type(operand: Form<'_>) -> IntType
 }
 
 // The rule of a switch: its operand is an integer, and is promoted.
-fn switched(
-    alloc: Global,
-    number: u64,
-    operand: Expr,
-    groups: Groups,
-) -> Result<Statement, Refusal> {
+fn switched(alloc: Global, number: u64, operand: Expr, groups: Groups) -> Result<Statement, Refusal>
+    ensures { RulesAs statement_of result
+        (rules.switches number (expr_of operand) (C.type_of (expr_of operand)) (groups_of groups)) }
+{
     match type_of(&operand) {
         Form::Integer(ty) => {
             let ty = promoted(ty);
@@ -96,18 +97,10 @@ fn switched(
     }
 }
 
-// The labels of a switch so far, by their values.
-#[derive(Drop)]
-struct Labels {
-    values: HashSet<(bool, u128)>,
-    has_default: bool,
-}
-
-// The labels of a group, by their values, and its statements.
+// A group of a switch.
 #[derive(Drop)]
 struct Group {
-    values: Vec<Number>,
-    has_default: bool,
+    labels: Labels,
     statements: Statements,
 }
 
@@ -119,37 +112,34 @@ fn groups_at(
     scope: &mut Scope,
     around: Around<'_>,
     ty: IntType,
-) -> Result<Groups, TypeFault> {
-    let mut seen = Labels {
-        values: HashSet::new(alloc),
-        has_default: false,
-    };
+) -> Result<Groups, TypeFault>
+    ensures { Answers groups_of (scope_of scope.new) result
+        (rules.groups (around_of around.entry) (int_type_of ty) rules.no_labels (plain_groups_of groups.now) (scope_of scope.old)) }
+{
+    let mut seen = Seen::none(alloc);
     let mut typed = Vec::new(alloc);
     let mut rest = groups;
-    while let tree::Groups::More(label, labels, first, others, more) = rest {
-        let mut group = Group {
-            values: Vec::new(alloc),
-            has_default: false,
-            statements: Statements::None,
-        };
-        add_label(alloc, label, scope, ty, &mut seen, &mut group)?;
-        for label in labels {
-            add_label(alloc, label, scope, ty, &mut seen, &mut group)?;
-        }
-        group.statements = group_statements(alloc, first, others, scope, around)?;
-        let is_last = matches!(**more, tree::Groups::None);
-        at_node(
-            label_start(label),
-            refuse(
-                !(is_last || ends_by_jump(first, others)),
-                TypeKind::FallThrough,
-            ),
-        )?;
+    while let tree::Groups::More(label, others, first, more, groups) = rest {
+        let labels = group_labels(alloc, label, others.as_slice(), scope, ty, &mut seen)?;
+        let statements = group_statements(alloc, first, more, scope, around)?;
+        at_node(label_start(label), is_separate(groups, first, more))?;
         scope.hide_locals();
-        typed.push(group)?;
-        rest = &**more;
+        typed.push(Group { labels, statements })?;
+        rest = &**groups;
     }
     Ok(grouped(alloc, typed)?)
+}
+
+// The rule of a group: one that isn't the last ends by a jump.
+fn is_separate(groups: &tree::Groups, first: &Stmt, more: &Items) -> Result<(), Refusal>
+    ensures { (ss : List C.Statement) → RulesAs (λ _. ss) result
+        (rules.separate (rules.is_last (plain_groups_of groups.now)) (rules.ends_by_jump (rules.is_jump (stmt_of first.now)) (items_of more.now)) ss) }
+{
+    let is_last = matches!(groups, tree::Groups::None);
+    refuse(
+        !(is_last || ends_by_jump(first, more)),
+        TypeKind::FallThrough,
+    )
 }
 
 #[cycle(block)]
@@ -159,7 +149,10 @@ fn group_statements(
     others: &Items,
     scope: &mut Scope,
     around: Around<'_>,
-) -> Result<Statements, TypeFault> {
+) -> Result<Statements, TypeFault>
+    ensures { Answers statements_of (scope_of scope.new) result
+        (group_listed (around_of around.entry) (stmt_of first.now) (items_of others.now) (scope_of scope.old)) }
+{
     let mut statements = Vec::new(alloc);
     statements.push(statement(alloc, first, scope, around)?)?;
     more_items(alloc, others, scope, around, &mut statements)?;
@@ -173,51 +166,12 @@ fn grouped(alloc: Global, mut groups: Vec<Group>) -> Result<Groups, AllocError>
 {
     let mut list = Groups::None;
     while let Some(group) = groups.pop() {
-        let Group {
-            values,
-            has_default,
-            statements,
-        } = group;
+        let Group { labels, statements } = group;
         let statements = Box::new(alloc, statements)?;
         let others = Box::new(alloc, list)?;
-        list = Groups::Next(values, has_default, statements, others);
+        list = Groups::Next(labels.values, labels.has_default, statements, others);
     }
     Ok(list)
-}
-
-// A label behind those seen: no value, and no `default`, comes twice.
-fn add_label(
-    alloc: Global,
-    label: &Label,
-    scope: &mut Scope,
-    ty: IntType,
-    seen: &mut Labels,
-    group: &mut Group,
-) -> Result<(), TypeFault> {
-    match label {
-        Label::Case(at, e) => {
-            let value = integer_constant(alloc, e, scope)?;
-            let value = number_at(&scope.layout, &CType::Int(ty), value);
-            let is_new = seen.values.insert((value.negative(), value.magnitude()))?;
-            at_node(*at, refuse(!is_new, TypeKind::Twice))?;
-            group.values.push(value)?;
-        }
-        Label::Default(at) => {
-            at_node(*at, refuse(seen.has_default, TypeKind::Twice))?;
-            seen.has_default = true;
-            group.has_default = true;
-        }
-    }
-    Ok(())
-}
-
-// The offset of a label.
-fn label_start(label: &Label) -> usize
-    ensures { result ≡ rules.label_at (label_of label.now) }
-{
-    match label {
-        Label::Case(at, _) | Label::Default(at) => *at,
-    }
 }
 
 // Whether a group's last statement is itself a jump.

@@ -1,7 +1,26 @@
 //! Texts: their functions and declarations in order.
 
+ghost use Rattle.std.specs.Prelude.{◌≡◌, ◌∷◌, [], ◌||◌, map, string_bytes, IfOk, IfErr, OnOk};
+ghost use Rattle.std.specs.List.{filter_map};
+ghost use Rattle.std.specs.HashSet.{contains_text};
+ghost use Rattle.c_values.specs.Name.{Name, is_among};
+ghost use Rattle.c_values.specs.CodeTypes.{target_of, type_of};
+ghost use Rattle.c_values.specs.CodeLayout as layouts;
+ghost use Rattle.c_values.specs.Layout.{scalar_width};
+ghost use Rattle.c_values.specs.Word as words;
+ghost use Rattle.c_values.specs.CodeValue.{value_of};
+ghost use Rattle.c_values.specs.Value.{Bits};
+ghost use Rattle.c_grammar.specs.View.{decl_of, unit_of as text_of};
+ghost use Rattle.c_typing.specs.Answers.{Answers};
+ghost use Rattle.c_types.specs.CodeGlobals.{global_at};
+ghost use Rattle.c_types.specs.CodeScope as scopes;
+ghost use Rattle.c_types.specs.CodeStatements.{behind};
+ghost use Rattle.c_types.specs.CodeUnit.{IsBadText, in_front};
+ghost use Rattle.c_typing.specs.Unit as rules;
+ghost use Rattle.c_typed.specs.View.{function_of, unit_of};
+
 use crate::file::GlobalSoFar;
-use crate::functions::function;
+use crate::functions::{function, note};
 use crate::globals::declaration;
 use crate::scope::Scope;
 use crate::zeros::zeros;
@@ -17,18 +36,20 @@ use std::collections::HashSet;
 ///
 /// - `Bad` where a node isn't typed: the first such in postorder, each after its parts, and what is wrong with it.
 /// - `Memory` where there is no memory.
-pub fn check_unit(alloc: Global, target: Target, unit: &Unit) -> Result<TypedUnit, TypeFault> {
+pub fn check_unit(alloc: Global, target: Target, unit: &Unit) -> Result<TypedUnit, TypeFault>
+    ensures typed { IfOk result (λ u. rules.IsTyped (target_of target) (text_of unit.now) (unit_of u)) }
+    ensures first_bad { IfErr result (IsBadText (target_of target) (text_of unit.now)) }
+{
     let with_body = bodies(alloc, unit.externals.as_slice())?;
-    let mut scope = scope_of(alloc, target, with_body)?;
-    let mut functions = Vec::new(alloc);
-    for external in &unit.externals {
-        external_typed(alloc, external, &mut scope, &mut functions)?;
-    }
-    typed_unit(alloc, scope, functions)
+    let mut scope = beginning(alloc, target, with_body)?;
+    let functions = externals_typed(alloc, unit.externals.as_slice(), &mut scope)?;
+    Ok(typed_unit(alloc, scope, functions)?)
 }
 
 // In front of a text with these functions that have a body. A layout without structs needs memory alone.
-fn scope_of(alloc: Global, target: Target, with_body: HashSet<String>) -> Result<Scope, TypeFault> {
+fn beginning(alloc: Global, target: Target, with_body: HashSet<String>) -> Result<Scope, TypeFault>
+    ensures { IfOk result (λ s. scopes.scope_of s ≡ in_front (target_of target) (λ x. contains_text with_body x)) }
+{
     match Scope::of_file(alloc, target, with_body) {
         Ok(scope) => Ok(scope),
         Err(_) => Err(TypeFault::Memory),
@@ -36,14 +57,44 @@ fn scope_of(alloc: Global, target: Target, with_body: HashSet<String>) -> Result
 }
 
 // The names of the functions that have a body.
-fn bodies(alloc: Global, externals: &[Decl]) -> Result<HashSet<String>, AllocError> {
+fn bodies(alloc: Global, externals: &[Decl]) -> Result<HashSet<String>, AllocError>
+    ensures { IfOk result (λ names. (x : Name) → contains_text names x ≡ is_among x (filter_map rules.body_name (map decl_of externals.now))) }
+{
     let mut names = HashSet::new(alloc);
-    for external in externals {
-        if let Decl::Function(_, Declarator::Declare(_, _, name, _), _, _) = external {
-            names.insert(name.clone()?)?;
-        }
+    let mut rest = externals;
+    while let Some((external, more)) = rest.split_first() {
+        add_body_name(external, &mut names)?;
+        rest = more;
     }
     Ok(names)
+}
+
+// Adds the name of a function that has a body.
+fn add_body_name(external: &Decl, names: &mut HashSet<String>) -> Result<(), AllocError>
+    ensures { OnOk result ((x : Name) → contains_text names.new x ≡ (is_among x (filter_map rules.body_name (decl_of external.now ∷ [])) || contains_text names.old x)) }
+{
+    match external {
+        Decl::Function(_, Declarator::Declare(_, _, name, _), _, _) => note(name.clone()?, names),
+        Decl::Declaration(_, _, _) => Ok(()),
+    }
+}
+
+// The functions of a text.
+fn externals_typed(
+    alloc: Global,
+    externals: &[Decl],
+    scope: &mut Scope,
+) -> Result<Vec<TypedFn>, TypeFault>
+    ensures { Answers (λ fs. map function_of fs.items) (scopes.scope_of scope.new) result
+        (rules.externals (map decl_of externals.now) (scopes.scope_of scope.old)) }
+{
+    let mut functions = Vec::new(alloc);
+    let mut rest = externals;
+    while let Some((external, more)) = rest.split_first() {
+        external_typed(alloc, external, scope, &mut functions)?;
+        rest = more;
+    }
+    Ok(functions)
 }
 
 fn external_typed(
@@ -51,7 +102,10 @@ fn external_typed(
     external: &Decl,
     scope: &mut Scope,
     functions: &mut Vec<TypedFn>,
-) -> Result<(), TypeFault> {
+) -> Result<(), TypeFault>
+    ensures { Answers (λ _. map function_of functions.new.items) (scopes.scope_of scope.new) result
+        (behind (map function_of functions.old.items) (rules.external (decl_of external.now)) (scopes.scope_of scope.old)) }
+{
     match external {
         Decl::Function(words, head, params, block) => {
             let typed = function(alloc, words, head, params.as_slice(), block, scope)?;
@@ -65,11 +119,9 @@ fn external_typed(
 }
 
 // The text is at its end.
-fn typed_unit(
-    alloc: Global,
-    scope: Scope,
-    functions: Vec<TypedFn>,
-) -> Result<TypedUnit, TypeFault> {
+fn typed_unit(alloc: Global, scope: Scope, functions: Vec<TypedFn>) -> Result<TypedUnit, AllocError>
+    ensures { IfOk result (λ u. unit_of u ≡ rules.unit_in (map function_of functions.items) (scopes.scope_of scope)) }
+{
     let Scope { layout, file, .. } = scope;
     let mut globals = Vec::new(alloc);
     for (name, global) in file.globals {
@@ -87,7 +139,9 @@ fn global_var(
     layout: &Layout,
     name: String,
     global: GlobalSoFar,
-) -> Result<GlobalVar, AllocError> {
+) -> Result<GlobalVar, AllocError>
+    ensures { IfOk result (λ v. layouts.global_of v ≡ rules.global_var layout.now (global_at (string_bytes name) global)) }
+{
     let GlobalSoFar { ty, initial, .. } = global;
     let initial = match initial {
         Some(n) => scalar_value(layout.target(), &ty, n),
@@ -97,7 +151,9 @@ fn global_var(
 }
 
 // A number as a value of a scalar type.
-fn scalar_value(target: Target, ty: &CType, n: Number) -> Value {
+fn scalar_value(target: Target, ty: &CType, n: Number) -> Value
+    ensures { value_of result ≡ Bits (words.word (scalar_width (target_of target) (type_of ty.now)) n) }
+{
     match ty {
         CType::Int(integer) => Value::Word(word(width_of(target, *integer), n)),
         CType::Void | CType::Ptr(_) | CType::Struct(_) | CType::Array(_, _) => {

@@ -1,95 +1,85 @@
 //! Values that are all zeros.
 
-use c_values::{CType, Layout, Target, Value, Word, address_width, width_of};
+ghost use Rattle.std.specs.Prelude.{◌≡◌, map, pos, IfOk};
+ghost use Rattle.c_values.specs.CodeLayout.{member_of};
+ghost use Rattle.c_values.specs.CodeTypes.{type_of};
+ghost use Rattle.c_values.specs.CodeValue.{value_of};
+ghost use Rattle.c_values.specs.Layout.{IsLayout, placed, shape_of};
+ghost use Rattle.c_values.specs.Path as paths;
+ghost use Rattle.c_values.specs.Types.{Array, Struct};
+ghost use Rattle.c_values.specs.Value.{Bits, Parts};
+ghost use Rattle.c_values.specs.Width.{IsWidth};
+ghost use Rattle.c_values.specs.Word as words;
+
+use c_values::views::word;
+use c_values::{CType, Layout, Number, Value, address_width, width_of};
 use std::alloc::{AllocError, Global};
 
-/// The value of a type that is all zeros.
-pub(crate) fn zeros(alloc: Global, layout: &Layout, ty: &CType) -> Result<Value, AllocError> {
-    let mut tasks = Vec::new(alloc);
-    let mut values = Vec::new(alloc);
-    tasks.push(Task::Make(ty))?;
-    while let Some(task) = tasks.pop() {
-        match task {
-            Task::Make(ty) => begin(alloc, layout, ty, &mut tasks, &mut values)?,
-            Task::Join(parts) => join(parts, &mut values)?,
-        }
-    }
-    match values.pop() {
-        Some(value) => Ok(value),
-        None => Ok(Value::Parts(Vec::new(alloc))),
-    }
-}
-
-// What is left to do: to make the zeros of a type, or to join so many values that are there.
-#[derive(Clone, Copy, Drop)]
-enum Task<'a> {
-    Make(&'a CType),
-    Join(usize),
-}
-
-// Makes the zeros of a scalar, or says what is to be done for a struct or an array.
-fn begin<'a>(
-    alloc: Global,
-    layout: &'a Layout,
-    ty: &'a CType,
-    tasks: &mut Vec<Task<'a>>,
-    values: &mut Vec<Value>,
-) -> Result<(), AllocError> {
+/// The value of a type that is all zeros. It goes down the type, as deep as the value is.
+#[cycle(zeros)]
+pub(crate) fn zeros(alloc: Global, layout: &Layout, ty: &CType) -> Result<Value, AllocError>
+    requires { IsLayout layout.now }
+    ensures { IfOk result (λ v. value_of v ≡ paths.zeros (shape_of layout.now (type_of ty.now))) }
+{
     match ty {
-        CType::Int(integer) => push_zero(values, width_of(layout.target(), *integer)),
-        CType::Ptr(_) => push_zero(values, address_width(layout.target())),
-        CType::Void => push_nothing(alloc, values),
-        CType::Array(element, length) => begin_array(element, *length, tasks),
-        CType::Struct(name) => begin_struct(alloc, layout, name.as_str(), tasks, values),
+        CType::Int(integer) => Ok(zero(width_of(layout.target(), *integer))),
+        CType::Ptr(_) => Ok(zero(address_width(layout.target()))),
+        CType::Void => Ok(Value::Parts(Vec::new(alloc))),
+        CType::Struct(name) => zeros_of_struct(alloc, layout, name.as_str()),
+        CType::Array(element, length) => zeros_of_array(alloc, layout, &**element, *length),
     }
 }
 
-fn push_zero(values: &mut Vec<Value>, width: u8) -> Result<(), AllocError> {
-    values.push(Value::Word(Word::new(width, 0)))?;
-    Ok(())
+// The word of a scalar that is zero.
+fn zero(width: u8) -> Value
+    requires { IsWidth width }
+    ensures { value_of result ≡ Bits (words.word width (pos 0)) }
+{
+    Value::Word(word(width, Number::new(false, 0)))
 }
 
-fn push_nothing(alloc: Global, values: &mut Vec<Value>) -> Result<(), AllocError> {
-    values.push(Value::Parts(Vec::new(alloc)))?;
-    Ok(())
-}
-
-fn begin_array<'a>(
-    element: &'a CType,
-    length: u32,
-    tasks: &mut Vec<Task<'a>>,
-) -> Result<(), AllocError> {
-    tasks.push(Task::Join(length as usize))?;
-    for _ in 0..length {
-        tasks.push(Task::Make(element))?;
-    }
-    Ok(())
-}
-
-fn begin_struct<'a>(
-    alloc: Global,
-    layout: &'a Layout,
-    name: &str,
-    tasks: &mut Vec<Task<'a>>,
-    values: &mut Vec<Value>,
-) -> Result<(), AllocError> {
+#[cycle(zeros)]
+fn zeros_of_struct(alloc: Global, layout: &Layout, name: &str) -> Result<Value, AllocError>
+    requires { IsLayout layout.now }
+    ensures { IfOk result (λ v. value_of v ≡ paths.zeros (shape_of layout.now (Struct name.now))) }
+{
     match layout.definition(name) {
-        None => push_nothing(alloc, values),
-        Some(definition) => {
-            tasks.push(Task::Join(definition.members.len()))?;
-            for (_, ty) in definition.members.iter().rev() {
-                tasks.push(Task::Make(ty))?;
-            }
-            Ok(())
-        }
+        None => Ok(Value::Parts(Vec::new(alloc))),
+        Some(definition) => zeros_of_members(alloc, layout, definition.members.as_slice()),
     }
 }
 
-// Joins the last values into one.
-fn join(parts: usize, values: &mut Vec<Value>) -> Result<(), AllocError> {
-    if parts <= values.len() {
-        let parts = values.split_off(values.len() - parts)?;
-        values.push(Value::Parts(parts))?;
+#[cycle(zeros)]
+fn zeros_of_members(
+    alloc: Global,
+    layout: &Layout,
+    members: &[(String, CType)],
+) -> Result<Value, AllocError>
+    requires { IsLayout layout.now }
+    ensures { IfOk result (λ v. value_of v ≡ Parts (paths.member_zeros (placed (shape_of layout.now) 0 (map member_of members.now)))) }
+{
+    let mut values = Vec::new(alloc);
+    let mut rest = members;
+    while let Some(((_, ty), more)) = rest.split_first() {
+        values.push(zeros(alloc, layout, ty)?)?;
+        rest = more;
     }
-    Ok(())
+    Ok(Value::Parts(values))
+}
+
+#[cycle(zeros)]
+fn zeros_of_array(
+    alloc: Global,
+    layout: &Layout,
+    element: &CType,
+    length: u32,
+) -> Result<Value, AllocError>
+    requires { IsLayout layout.now }
+    ensures { IfOk result (λ v. value_of v ≡ paths.zeros (shape_of layout.now (Array (type_of element.now) length))) }
+{
+    let mut values = Vec::new(alloc);
+    'elements: for _i in 0..length {
+        values.push(zeros(alloc, layout, element)?)?;
+    }
+    Ok(Value::Parts(values))
 }
