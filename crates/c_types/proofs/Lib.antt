@@ -6,7 +6,6 @@ pub mod MemberNames
 pub mod Beginnings
 pub mod InnermostBlock
 pub mod Steps
-pub mod Zeroed
 pub mod Groups
 pub mod Keys
 pub mod Globals

@@ -9,4 +9,3 @@ pub mod CodeUnit
 pub mod CodeKeys
 pub mod CodeLabels
 pub mod CodeGlobals
-pub mod CodeValues

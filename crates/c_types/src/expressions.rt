@@ -4,36 +4,34 @@ ghost use Rattle.std.specs.Prelude.{◌≡◌, [], pos};
 ghost use Rattle.c_grammar.specs.Tree as tree;
 ghost use Rattle.c_grammar.specs.View as view;
 ghost use Rattle.c_values.specs.CodeTypes.{type_of};
-ghost use Rattle.c_typing.specs.Answers.{Answers, RulesAs};
+ghost use Rattle.c_typing.specs.Answers.{Answers};
 ghost use Rattle.c_types.specs.CodeConstant.{constant_of};
 ghost use Rattle.c_typing.specs.CodeOperand.{operand_of, demand_of};
 ghost use Rattle.c_types.specs.CodeScope.{scope_of};
 ghost use Rattle.c_typing.specs.CodeWords.{part_of, base_of};
 ghost use Rattle.c_types.specs.CodeDeclared.{declared_of};
 ghost use Rattle.c_types.specs.CodeFields.{members_of};
-ghost use Rattle.c_typing.specs.Constant as constants;
 ghost use Rattle.c_typing.specs.Expressions as expressions;
 ghost use Rattle.c_typed.specs.View.{expr_of};
 
+use crate::at_nodes::{
+    binary_at, cast_at, chosen_at, element_at, joined_at, member_at, pointer_member_at, starred_at,
+};
 use crate::declarators::{Declared, declarator_start, declared_type, length_at};
 use crate::members::Fields;
-use crate::nodes::{
-    binary_operand, cast_operand, character, chosen_operand, element, member, number,
-    pointer_member, size_constant, size_of_operand, unary, unary_demand, variable,
-};
+use crate::nodes::{character, number, size_constant, unary, unary_demand, variable};
+use crate::noted::{constant_at, integer_at, size_at};
 use crate::scope::Scope;
+use crate::type_words::{enum_body, enum_tag, mention, named_type, struct_body, struct_tag};
 use c_grammar::tree::{
     CExp, Declarator, Declarators, Dimensions, Enumerator, Enumerators, Members, Word, Words,
 };
 use c_typed::tree::Expr;
-use c_typing::casts::{has_cast, operand_has_cast};
-use c_typing::constants::constant_value;
-use c_typing::fault::{TypeFault, TypeKind};
-use c_typing::operands::{Demand, Operand, type_of, value_in};
-use c_typing::rulings::{Refusal, at_node, refuse};
-use c_typing::specifiers::{Base, Part, Specs, named_part, pointers, type_start, words_start};
-use c_typing::types::{formed, is_integer, points_to_array};
-use c_values::{CType, Layout, Number};
+use c_typing::fault::TypeFault;
+use c_typing::operands::{Demand, Operand, value_in};
+use c_typing::rulings::at_node;
+use c_typing::specifiers::{Base, Part, Specs, type_start};
+use c_values::{CType, Number};
 use std::alloc::Global;
 
 /// Where an expression begins.
@@ -86,26 +84,11 @@ pub(crate) struct Evaluated {
 pub(crate) fn constant(alloc: Global, e: &CExp, scope: &mut Scope) -> Result<Evaluated, TypeFault>
     ensures { Answers constant_of (scope_of scope.new) result (expressions.constant (view.exp_of e.now) (scope_of scope.old)) }
 {
-    let e_value = value(alloc, e, scope)?;
-    let constant = at_node(first(e), constant_in(alloc, &scope.layout, &e_value))?;
-    scope.note(has_cast(&e_value));
-    Ok(constant)
-}
-
-fn constant_in(alloc: Global, l: &Layout, e: &Expr) -> Result<Evaluated, Refusal>
-    ensures { RulesAs constant_of result (expressions.constant_of (expr_of e.now) (constants.constant_value l.now (expr_of e.now))) }
-{
-    match constant_value(l, e) {
-        Some(value) => Ok(Evaluated {
-            ty: formed(alloc, type_of(e))?,
-            value,
-        }),
-        None => Err(Refusal::Kind(TypeKind::Mismatch)),
-    }
+    let operand = operand(alloc, e, scope, Demand::Value)?;
+    constant_at(alloc, first(e), operand, scope)
 }
 
 /// The value of a constant expression of an integer type.
-#[cycle(expression)]
 pub(crate) fn integer_constant(
     alloc: Global,
     e: &CExp,
@@ -114,22 +97,7 @@ pub(crate) fn integer_constant(
     ensures { Answers (λ n. n) (scope_of scope.new) result (expressions.integer_constant (view.exp_of e.now) (scope_of scope.old)) }
 {
     let operand = operand(alloc, e, scope, Demand::Value)?;
-    let e_value = value_in(alloc, operand)?;
-    let n = at_node(first(e), integer_of(&scope.layout, &e_value))?;
-    scope.note(has_cast(&e_value));
-    Ok(n)
-}
-
-fn integer_of(l: &Layout, e: &Expr) -> Result<Number, Refusal>
-    ensures { RulesAs (λ n. n) result (expressions.integer_of (expr_of e.now) (constants.constant_value l.now (expr_of e.now))) }
-{
-    match constant_value(l, e) {
-        Some(n) => {
-            refuse(!is_integer(type_of(e)), TypeKind::Mismatch)?;
-            Ok(n)
-        }
-        None => Err(Refusal::Kind(TypeKind::Mismatch)),
-    }
+    integer_at(alloc, first(e), operand, scope)
 }
 
 /// A type, and whether `static` or `extern` stands beside it.
@@ -153,34 +121,18 @@ fn word(alloc: Global, word: &Word, scope: &mut Scope) -> Result<Part, TypeFault
 {
     match word {
         Word::Reserved(_, keyword) => Ok(Part::Word(*keyword)),
-        Word::Named(at, name) => at_node(*at, named_part(alloc, scope.typedefs.get(name.as_str()))),
-        Word::StructTag(at, tag) => {
-            let ty = at_node(*at, scope.struct_tag(alloc, tag.as_str()))?;
-            Ok(Part::Type(ty))
-        }
+        Word::Named(at, name) => named_type(alloc, *at, name.as_str(), &*scope),
+        Word::StructTag(at, tag) => struct_tag(alloc, *at, tag.as_str(), scope),
         Word::StructBody(at, tag, body) => {
-            scope.mention(alloc, text_of(tag))?;
+            mention(alloc, tag, scope)?;
             let fields = members(alloc, &**body, scope)?;
-            let fields = fields.into_members(alloc)?;
-            let ty = at_node(*at, scope.struct_body(alloc, text_of(tag), fields))?;
-            Ok(Part::Type(ty))
+            struct_body(alloc, *at, tag, fields, scope)
         }
-        Word::EnumTag(at, tag) => {
-            let ty = at_node(*at, scope.enum_tag(tag.as_str()))?;
-            Ok(Part::Type(ty))
-        }
+        Word::EnumTag(at, tag) => enum_tag(*at, tag.as_str(), &*scope),
         Word::EnumBody(at, tag, body) => {
             let _ = enumerators(alloc, &**body, scope)?;
-            let ty = at_node(*at, scope.enum_body(alloc, text_of(tag)))?;
-            Ok(Part::Type(ty))
+            enum_body(alloc, *at, tag, scope)
         }
-    }
-}
-
-fn text_of(name: &Option<String>) -> Option<&str> {
-    match name {
-        Some(name) => Some(name.as_str()),
-        None => None,
     }
 }
 
@@ -223,11 +175,11 @@ fn declarators(
         match rest {
             Declarators::Last(last) => {
                 let member = declarator(alloc, &**last, scope, ty)?;
-                return at_node(member.at, fields.join(&scope.layout, member));
+                return joined_at(fields, member, &*scope);
             }
             Declarators::More(next, more) => {
                 let member = declarator(alloc, &**next, scope, ty)?;
-                fields = at_node(member.at, fields.join(&scope.layout, member))?;
+                fields = joined_at(fields, member, &*scope)?;
                 rest = &**more;
             }
         }
@@ -260,7 +212,8 @@ fn lengths(alloc: Global, dimensions: &Dimensions, scope: &mut Scope) -> Result<
     let mut lengths = Vec::new(alloc);
     let mut rest = dimensions;
     while let Dimensions::More(length, more) = rest {
-        let n = integer_constant(alloc, &**length, scope)?;
+        let typed = operand(alloc, &**length, scope, Demand::Value)?;
+        let n = integer_at(alloc, first(length), typed, scope)?;
         lengths.push(length_at(n))?;
         rest = &**more;
     }
@@ -306,33 +259,11 @@ fn enumerator(
             scope.enumerator(alloc, name.as_str(), next),
         ),
         Enumerator::Explicit(at, name, value) => {
-            let n = integer_constant(alloc, &**value, scope)?;
+            let typed = operand(alloc, &**value, scope, Demand::Value)?;
+            let n = integer_at(alloc, first(value), typed, scope)?;
             at_node(*at, scope.enumerator(alloc, name.as_str(), n))
         }
     }
-}
-
-// The type of a cast, or of a `sizeof`.
-#[cycle(expression)]
-fn type_name(
-    alloc: Global,
-    words: &Words,
-    scope: &mut Scope,
-    stars: &[usize],
-) -> Result<CType, TypeFault>
-    ensures { Answers type_of (scope_of scope.new) result (expressions.type_name (tree.Typed (view.words_of words.now) stars.now) (scope_of scope.old)) }
-{
-    let base = base(alloc, words, scope)?;
-    at_node(words_start(words), starred(alloc, stars.len(), base.ty))
-}
-
-// Stars around a type; there is no pointer to an array.
-fn starred(alloc: Global, stars: usize, ty: CType) -> Result<CType, Refusal>
-    ensures { RulesAs type_of result (expressions.starred stars (type_of ty)) }
-{
-    let ty = pointers(alloc, stars, ty)?;
-    refuse(points_to_array(&ty), TypeKind::OutOfSubset)?;
-    Ok(ty)
 }
 
 /// An operand.
@@ -349,26 +280,20 @@ fn operand(alloc: Global, e: &CExp, scope: &mut Scope, demand: Demand) -> Result
         CExp::Character(_, c) => Ok(character(*c)),
         CExp::Parenthesis(_, inner) => operand(alloc, &**inner, scope, demand),
         CExp::Index(array, index) => {
+            let at = first(array);
             let array = operand(alloc, &**array, scope, Demand::Element)?;
             let index = operand(alloc, &**index, scope, Demand::Value)?;
-            at_node(
-                first(e),
-                element(alloc, &scope.layout, demand, array, index),
-            )
+            element_at(alloc, at, &*scope, demand, array, index)
         }
         CExp::Member(whole, name) => {
+            let at = first(whole);
             let whole = operand(alloc, &**whole, scope, Demand::Place)?;
-            at_node(
-                first(e),
-                member(alloc, &scope.layout, demand, whole, name.as_str()),
-            )
+            member_at(alloc, at, &*scope, demand, whole, name.as_str())
         }
         CExp::PointerMember(pointer, name) => {
+            let at = first(pointer);
             let pointer = operand(alloc, &**pointer, scope, Demand::Value)?;
-            at_node(
-                first(e),
-                pointer_member(alloc, &scope.layout, demand, pointer, name.as_str()),
-            )
+            pointer_member_at(alloc, at, &*scope, demand, pointer, name.as_str())
         }
         CExp::Unary(at, op, inner) => {
             let inner = operand(alloc, &**inner, scope, unary_demand(*op))?;
@@ -376,35 +301,31 @@ fn operand(alloc: Global, e: &CExp, scope: &mut Scope, demand: Demand) -> Result
         }
         CExp::SizeofValue(at, inner) => {
             let inner = operand(alloc, &**inner, scope, Demand::Place)?;
-            let size = at_node(*at, size_of_operand(alloc, &scope.layout, &inner))?;
-            scope.note(operand_has_cast(&inner));
-            Ok(size)
+            size_at(alloc, *at, &inner, scope)
         }
         CExp::SizeofType(at, words, stars) => {
-            let ty = type_name(alloc, &**words, scope, stars.as_slice())?;
+            let base = base(alloc, &**words, scope)?;
+            let ty = starred_at(alloc, &**words, stars.len(), base, &*scope)?;
             at_node(*at, size_constant(&scope.layout, &ty))
         }
         CExp::Cast(at, words, stars, inner) => {
-            let ty = type_name(alloc, &**words, scope, stars.as_slice())?;
+            let base = base(alloc, &**words, scope)?;
+            let ty = starred_at(alloc, &**words, stars.len(), base, &*scope)?;
             let inner = operand(alloc, &**inner, scope, Demand::Value)?;
-            at_node(*at, cast_operand(alloc, &scope.layout, ty, inner))
+            cast_at(alloc, *at, &*scope, ty, inner)
         }
         CExp::Binary(op, left, right) => {
+            let at = first(left);
             let left = operand(alloc, &**left, scope, Demand::Value)?;
             let right = operand(alloc, &**right, scope, Demand::Value)?;
-            at_node(
-                first(e),
-                binary_operand(alloc, &scope.layout, *op, left, right),
-            )
+            binary_at(alloc, at, &*scope, *op, left, right)
         }
         CExp::Conditional(test, left, right) => {
+            let at = first(test);
             let test = operand(alloc, &**test, scope, Demand::Value)?;
             let left = operand(alloc, &**left, scope, Demand::Value)?;
             let right = operand(alloc, &**right, scope, Demand::Value)?;
-            at_node(
-                first(e),
-                chosen_operand(alloc, &scope.layout, test, left, right),
-            )
+            chosen_at(alloc, at, &*scope, test, left, right)
         }
     }
 }

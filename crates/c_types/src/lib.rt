@@ -2,6 +2,7 @@
 #![tactic(auto)]
 
 mod addresses;
+mod at_nodes;
 mod calls;
 mod declarators;
 mod expressions;
@@ -12,14 +13,15 @@ mod labels;
 mod locals;
 mod members;
 mod nodes;
+mod noted;
 mod parameters;
 mod scope;
 mod simple;
 mod statements;
 mod switches;
 mod tags;
+mod type_words;
 mod unit;
-mod zeros;
 
 pub use c_typed::tree::{TypedFn, TypedUnit};
 pub use c_typing::fault::{TypeFault, TypeKind};

@@ -23,12 +23,11 @@ use crate::file::GlobalSoFar;
 use crate::functions::{function, note};
 use crate::globals::declaration;
 use crate::scope::Scope;
-use crate::zeros::zeros;
 use c_grammar::tree::{Decl, Declarator, Unit};
 use c_typed::tree::{TypedFn, TypedUnit};
 use c_typing::fault::TypeFault;
 use c_values::views::word;
-use c_values::{CType, GlobalVar, Layout, Number, Target, Value, address_width, width_of};
+use c_values::{CType, GlobalVar, Layout, Number, Target, Value, address_width, width_of, zeros};
 use std::alloc::{AllocError, Global};
 use std::collections::HashSet;
 

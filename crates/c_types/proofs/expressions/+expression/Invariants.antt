@@ -12,7 +12,7 @@ use Rattle.c_typing.specs.CodeWords.{specs_of}
 use Rattle.c_types.specs.CodeFields.{members_of}
 use Rattle.c_typing.specs.Declarations.{no_specs}
 use Rattle.c_typing.specs.Expressions as expressions
-use Rattle.c_types.proofs.+expression.Given as goal
+use Rattle.c_types.proofs.expressions.+expression.Given as goal
 
 abbrev pub invariant-base-loop-rest : goal.invariant-base-loop-rest
 invariant-base-loop-rest l =
