@@ -47,7 +47,7 @@ below_where i n k e = by_cases (nat_lt i n) refl e
     by_cases true h same = let at : i ≡ k = cc in subst (λ j. j < n) at (ltb-true i n h)
     by_cases false h same = absurd cc
 
-place_below : (p : Step) (n k : ℕ) → place_of p n ≡ Some k → k < n
+pub place_below : (p : Step) (n k : ℕ) → place_of p n ≡ Some k → k < n
 place_below (Field i) n k e = below_where i n k e
 place_below (Index (pos i)) n k e = below_where i n k e
 place_below (Index (negsuc i)) n k e = absurd cc
@@ -79,10 +79,16 @@ sel_cons (Bits w) p ps = sym (sel_nothing ps)
 sel_cons (Number n) p ps = sym (sel_nothing ps)
 sel_cons (Truth b) p ps = sym (sel_nothing ps)
 
-
 pub sel_append : (v : Value) (ps qs : List Step) → sel v (ps ++ qs) ≡ sel (sel v ps) qs
 sel_append v [] qs = refl
 sel_append v (p ∷ ps) qs = sel_cons v p (ps ++ qs) ∙ sel_append (sel v (p ∷ [])) ps qs ∙ ap (λ w. sel w qs) (sym (sel_cons v p ps))
+
+pub follow_append : (v : Value) (ps qs : List Step) → CanFollow v ps → CanFollow (sel v ps) qs → CanFollow v (ps ++ qs)
+follow_append v [] qs h k = k
+follow_append (Parts vs) (p ∷ ps) qs h k = (h.0, follow_append (part vs (unwrap_or (place_of p (count vs)) 0)) ps qs h.1 k)
+follow_append (Bits w) (p ∷ ps) qs h k = absurd h
+follow_append (Number n) (p ∷ ps) qs h k = absurd h
+follow_append (Truth b) (p ∷ ps) qs h k = absurd h
 
 pub follow_first : (v : Value) (p : Step) (ps : List Step) → CanFollow v (p ∷ ps) → CanFollow v (p ∷ [])
 follow_first (Parts vs) p ps h = (h.0, tt)

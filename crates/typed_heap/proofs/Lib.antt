@@ -2,3 +2,7 @@ pub mod Cells
 pub mod Follow
 pub mod Copied
 pub mod Zeroed
+pub mod Typed
+pub mod Steps
+pub mod Found
+pub mod Kept

@@ -3,9 +3,14 @@
 
 mod copying;
 mod heap;
+pub mod laws;
+mod places;
 mod selecting;
-mod zeros;
+mod tagged_values;
+mod types_at;
 mod viewing;
+mod ways;
+mod zeros;
 
 pub use heap::TypedHeap;
 pub use viewing::view;

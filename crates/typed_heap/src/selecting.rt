@@ -1,25 +1,32 @@
 //! Parts of values.
 
-ghost use Rattle.std.specs.Prelude.{◌≡◌, ◌<◌, [], ◌∷◌, false, map, length, IfSome, IfNone};
-ghost use Rattle.c_values.specs.Value.{Parts, part, with_part};
+ghost use Rattle.std.specs.Prelude.{◌≡◌, ◌<◌, [], ◌∷◌, false, length, IsSome, IsSomeAnd, IfSome, IfNone};
+ghost use Rattle.c_values.specs.Value.{Parts, part, with_part, word_in};
 ghost use Rattle.c_values.specs.Path.{Index, place_of, sel, upd};
 ghost use Rattle.c_values.specs.CodeValue.{value_of};
 ghost use Rattle.c_memory.specs.CodeStep.{step_of};
 ghost use Rattle.c_memory.specs.CodeParts.{values_in, has_parts};
+ghost use Rattle.c_values.specs.Layout.{IsLayout};
 ghost use Rattle.typed_heap.specs.Follow.{CanFollow};
+ghost use Rattle.typed_heap.specs.Ways.{steps_of, IsWay};
 
+use crate::ways::{Way, first_step};
 use c_memory::Step;
-use c_values::{Number, Value};
+use c_values::{Layout, Number, Value, Word};
 use std::mem;
 
-/// The part of a value at the end of a path. An index that is out of range leads to the first element.
-pub(crate) fn select<'a>(value: &'a Value, path: &[Step]) -> &'a Value
-    requires { CanFollow (value_of value.now) (map step_of path.now) }
-    ensures { value_of result.now ≡ sel (value_of value.now) (map step_of path.now) }
+/// The part of an object's value at the end of a way. An index that is out of range leads to the first element.
+pub(crate) fn select<'a>(l: &Layout, value: &'a Value, way: Way) -> &'a Value
+    requires layout { IsLayout l.now }
+    requires object { IsWay l.now way }
+    requires follows { IsSomeAnd (steps_of l.now way) (CanFollow (value_of value.now)) }
+    ensures { IfSome (steps_of l.now way.entry) (λ steps. value_of result.now ≡ sel (value_of value.now) steps) }
 {
     let mut part = value;
-    for step in path {
-        part = part_at(part, *step);
+    let mut way = way;
+    'steps: while let Some((step, rest)) = first_step(l, way) {
+        part = part_at(part, step);
+        way = rest;
     }
     part
 }
@@ -34,15 +41,18 @@ pub(crate) fn part_at(whole: &Value, step: Step) -> &Value
     &parts[k]
 }
 
-/// The value with its part at the end of a path replaced. An index that is out of range leads to no part.
+/// An object's value with the part at the end of a way replaced. An index that is out of range leads to no part.
 #[cycle(replace)]
-pub(crate) fn replaced(whole: Value, path: &[Step], value: Value) -> Value
-    ensures { value_of result ≡ upd (value_of whole) (map step_of path.now) (value_of value) }
+pub(crate) fn replaced(l: &Layout, whole: Value, way: Way, value: Value) -> Value
+    requires layout { IsLayout l.now }
+    requires object { IsWay l.now way }
+    requires some { IsSome (steps_of l.now way) }
+    ensures { IfSome (steps_of l.now way.entry) (λ steps. value_of result ≡ upd (value_of whole) steps (value_of value)) }
 {
-    match path.split_first() {
+    match first_step(l, way) {
         None => value,
         Some((step, rest)) => match whole {
-            Value::Parts(parts) => Value::Parts(replaced_in(parts, *step, rest, value)),
+            Value::Parts(parts) => Value::Parts(replaced_in(l, parts, step, rest, value)),
             Value::Word(_) | Value::Number(_) | Value::Truth(_) => whole,
         },
     }
@@ -50,26 +60,32 @@ pub(crate) fn replaced(whole: Value, path: &[Step], value: Value) -> Value
 
 // The same of parts, from the first step on.
 #[cycle(replace)]
-fn replaced_in(parts: Vec<Value>, step: Step, rest: &[Step], value: Value) -> Vec<Value>
-    ensures { Parts (values_in result.items)
-        ≡ upd (Parts (values_in parts.items)) (step_of step ∷ map step_of rest.now) (value_of value) }
+fn replaced_in(l: &Layout, parts: Vec<Value>, step: Step, rest: Way, value: Value) -> Vec<Value>
+    requires layout { IsLayout l.now }
+    requires object { IsWay l.now rest }
+    requires some { IsSome (steps_of l.now rest) }
+    ensures { IfSome (steps_of l.now rest.entry) (λ steps. Parts (values_in result.items)
+        ≡ upd (Parts (values_in parts.items)) (step_of step ∷ steps) (value_of value)) }
 {
     match place_of(step, parts.len()) {
-        Some(k) => replaced_at(parts, k, rest, value),
+        Some(k) => replaced_at(l, parts, k, rest, value),
         None => parts,
     }
 }
 
 // The same of the part of this number.
 #[cycle(replace)]
-fn replaced_at(parts: Vec<Value>, k: usize, rest: &[Step], value: Value) -> Vec<Value>
-    requires { k < length parts.items }
-    ensures { values_in result.items ≡ with_part (values_in parts.items) k
-        (upd (part (values_in parts.items) k) (map step_of rest.now) (value_of value)) }
+fn replaced_at(l: &Layout, parts: Vec<Value>, k: usize, rest: Way, value: Value) -> Vec<Value>
+    requires layout { IsLayout l.now }
+    requires object { IsWay l.now rest }
+    requires some { IsSome (steps_of l.now rest) }
+    requires number { k < length parts.items }
+    ensures { IfSome (steps_of l.now rest.entry) (λ steps. values_in result.items
+        ≡ with_part (values_in parts.items) k (upd (part (values_in parts.items) k) steps (value_of value))) }
 {
     let mut parts = parts;
     let part = mem::replace(&mut parts[k], Value::Truth(false));
-    parts[k] = replaced(part, rest, value);
+    parts[k] = replaced(l, part, rest, value);
     parts
 }
 
@@ -104,5 +120,15 @@ fn element_of(index: Number, parts: usize) -> Option<usize>
         None
     } else {
         Some(index.magnitude() as usize)
+    }
+}
+
+/// The word that a value is.
+pub(crate) fn word_in(value: &Value) -> Word
+    ensures { result ≡ word_in (value_of value.now) }
+{
+    match value {
+        Value::Word(word) => *word,
+        Value::Number(_) | Value::Truth(_) | Value::Parts(_) => Word::new(8, 0),
     }
 }

@@ -1,12 +1,17 @@
-use Rattle.std.proofs.Common.{◌≡◌, map, drop}
-use Rattle.c_values.specs.Path.{sel}
+use Rattle.std.proofs.Common.{◌≡◌, ℕ, Option, List, length}
+use Rattle.std.specs.Prelude.{IsSomeAnd}
 use Rattle.c_values.specs.CodeValue.{value_of}
-use Rattle.c_memory.specs.CodeStep.{step_of}
 use Rattle.typed_heap.specs.Follow.{CanFollow}
+use Rattle.typed_heap.specs.Ways.{steps_of, IsWay}
+use Rattle.typed_heap.proofs.Steps.{sel_found, many_steps}
 use Rattle.typed_heap.proofs.selecting.select.Given as goal
 
-abbrev pub invariant-loop-step : goal.invariant-loop-step
-invariant-loop-step l = record {
-  follows : CanFollow (value_of l.part) (map step_of (drop l.step-index l.path));
-  rest : sel (value_of l.part) (map step_of (drop l.step-index l.path)) ≡ sel (value_of l.fn.value) (map step_of l.path);
+abbrev pub invariant-steps : goal.invariant-steps
+invariant-steps l = record {
+  object : IsWay l.l l.way;
+  follows : IsSomeAnd (steps_of l.l l.way) (CanFollow (value_of l.part));
+  rest : sel_found (value_of l.part) (steps_of l.l l.way) ≡ sel_found (value_of l.fn.value) (steps_of l.l l.fn.way);
 }
+
+abbrev pub decreases-steps : goal.decreases-steps
+decreases-steps l = many_steps (steps_of l.l l.way)
