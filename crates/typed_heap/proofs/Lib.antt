@@ -6,3 +6,4 @@ pub mod Typed
 pub mod Steps
 pub mod Found
 pub mod Kept
+pub mod Heaps

@@ -7,6 +7,8 @@ pub mod laws;
 mod places;
 mod selecting;
 mod tagged_values;
+#[cfg(test)]
+mod tests;
 mod types_at;
 mod viewing;
 mod ways;
