@@ -1,3 +1,1 @@
 pub mod CodeCells
-pub mod Follow
-pub mod Ways
