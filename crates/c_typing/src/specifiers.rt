@@ -11,7 +11,6 @@ ghost use Rattle.c_typing.specs.Expressions as expressions;
 
 use crate::fault::TypeKind;
 use crate::rulings::Refusal;
-use crate::types::copy_of;
 use c_grammar::tree::{Word, Words};
 use c_lex::Keyword;
 use c_values::{CType, IntType};
@@ -381,12 +380,4 @@ pub fn pointers(alloc: Global, stars: usize, ty: CType) -> Result<CType, AllocEr
         pointer = CType::Ptr(Box::new(alloc, pointer)?);
     }
     Ok(pointer)
-}
-
-/// A type that a typedef named.
-pub fn named_part(alloc: Global, ty: Option<&CType>) -> Result<Part, Refusal> {
-    match ty {
-        Some(ty) => Ok(Part::Type(copy_of(alloc, ty)?)),
-        None => Err(Refusal::Kind(TypeKind::Unknown)),
-    }
 }
