@@ -1,1 +1,8 @@
 pub mod Cells
+pub mod Follow
+pub mod Copied
+pub mod Typed
+pub mod Steps
+pub mod Found
+pub mod Kept
+pub mod Heaps

@@ -1,1 +1,3 @@
 pub mod CodeCells
+pub mod Follow
+pub mod Ways

@@ -1,5 +1,7 @@
 //! What a typed heap is.
 
+ghost use Rattle.std.specs.Prelude.{◌≡◌, length};
+
 use c_memory::TagTable;
 use c_values::Value;
 
@@ -8,4 +10,5 @@ use c_values::Value;
 pub struct TypedHeap {
     pub(crate) tags: TagTable,
     pub(crate) values: Vec<Value>,
+    pub ghost each: { length values.items ≡ length tags },
 }

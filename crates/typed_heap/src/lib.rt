@@ -1,8 +1,18 @@
 //! Typed heaps: for each tag the value that lies there, in place of bytes.
 #![tactic(auto)]
 
+mod copying;
 mod heap;
+pub mod laws;
+mod places;
+mod selecting;
+mod tagged_values;
+#[cfg(test)]
+mod tests;
+mod types_at;
 mod viewing;
+mod ways;
+mod zero_words;
 
 pub use heap::TypedHeap;
 pub use viewing::view;

@@ -1,3 +1,4 @@
+-- Each tag's value is what memory has there.
 use Rattle.std.proofs.Common.{◌≡◌, ◌+◌, ◌∙◌, List, length, map, take, ap, ap₂, sym, arith}
 use Rattle.std.proofs.lemmas.List.{length-map, length-take, length_push}
 use Rattle.c_memory.specs.Memory.{Tag}

@@ -1,3 +1,4 @@
+-- The values so far are those that memory has at the tags so far.
 use Rattle.std.proofs.Common.{◌≡◌, length, map, take}
 use Rattle.c_memory.specs.CodeTag.{tag_of}
 use Rattle.c_memory.specs.Pages.{byte_at}

@@ -1,0 +1,386 @@
+//! Heaps of bytes and typed heaps, at values that are known from elsewhere.
+
+ghost use Rattle.std.specs.Prelude.{◌≡◌, ◌^◌, ◌<◌, true, map, Some, IfOk, IfSome};
+ghost use Rattle.std.specs.Option.{option_map};
+ghost use Rattle.c_values.specs.Layout.{IsLayout, shape_of, space, is_object, is_scalar, scalar_width};
+ghost use Rattle.c_values.specs.Path.{spot};
+ghost use Rattle.c_values.specs.Width.{IsWidth};
+ghost use Rattle.c_values.specs.Types.{address_width};
+ghost use Rattle.c_values.specs.CodeTypes.{target_of, type_of};
+ghost use Rattle.c_memory.specs.CodeStep.{step_of};
+ghost use Rattle.c_memory.specs.CodeHeap.{memory_of};
+ghost use Rattle.c_memory.specs.Tags.{is_root_type, IsWellTagged};
+ghost use Rattle.c_memory.specs.Heap.{IsHeap, OnBytes};
+ghost use Rattle.typed_heap.specs.CodeCells.{typed_content};
+
+use crate::heap::TypedHeap;
+use crate::types_at::type_at;
+use crate::viewing::view;
+use c_memory::{ByteHeap, Heap, HeapFault, Step};
+use c_values::views::word;
+use c_values::{
+    CType, IntType, Layout, Number, StructDef, Target, Value, address_width, is_object, width_of,
+};
+use std::alloc::{AllocError, Global};
+use std::test::Fail;
+
+const UINT: CType = CType::Int(IntType::UInt);
+
+const BYTE: CType = CType::Int(IntType::UChar);
+
+// A struct `p` of a byte and an `unsigned`; and a struct `q` of two of them and three bytes.
+fn structs(alloc: Global) -> Result<Vec<StructDef>, AllocError> {
+    let mut small = Vec::new(alloc);
+    small.push((String::from_str(alloc, "a")?, BYTE))?;
+    small.push((String::from_str(alloc, "b")?, UINT))?;
+    let mut large = Vec::new(alloc);
+    let pair = Box::new(alloc, CType::Struct(String::from_str(alloc, "p")?))?;
+    large.push((String::from_str(alloc, "pair")?, CType::Array(pair, 2)))?;
+    let byte = Box::new(alloc, BYTE)?;
+    large.push((String::from_str(alloc, "row")?, CType::Array(byte, 3)))?;
+    let mut structs = Vec::new(alloc);
+    structs.push(StructDef {
+        name: String::from_str(alloc, "p")?,
+        members: small,
+    })?;
+    structs.push(StructDef {
+        name: String::from_str(alloc, "q")?,
+        members: large,
+    })?;
+    Ok(structs)
+}
+
+fn layout(alloc: Global, target: Target) -> Result<Layout, Fail> {
+    let mut l = Layout::build(target, Vec::new(alloc))?;
+    for definition in structs(alloc)? {
+        l.can_follow(&definition).then_some(()).ok_or("no layout")?;
+        l.define(alloc, definition)?;
+    }
+    Ok(l)
+}
+
+// Bytes that are all 0, with two tags. There are none where a type may not be that of a tag.
+fn zero_bytes(
+    alloc: Global,
+    l: &Layout,
+    first: (u64, CType),
+    second: (u64, CType),
+) -> Result<Option<ByteHeap>, HeapFault>
+    ensures { IfOk result (λ o. IfSome o (λ h. IsHeap l.now (OnBytes (memory_of h)))) }
+{
+    let tags = [first, second];
+    if is_root(l, &tags[0].1) && is_root(l, &tags[1].1) {
+        Ok(Some(ByteHeap::new(alloc, l, &[], &tags)?))
+    } else {
+        Ok(None)
+    }
+}
+
+// Whether a type may be that of a tag.
+fn is_root(l: &Layout, t: &CType) -> bool
+    ensures root { result ≡ true → is_root_type (type_of t.now) ≡ true }
+    ensures object { result ≡ true → is_object l.now (type_of t.now) ≡ true }
+{
+    match t {
+        CType::Int(_) | CType::Ptr(_) | CType::Struct(_) => is_object(l, t),
+        CType::Void | CType::Array(_, _) => false,
+    }
+}
+
+// The typed heap of bytes.
+fn typed(alloc: Global, l: &Layout, h: &ByteHeap) -> Result<TypedHeap, AllocError>
+    requires { IsHeap l.now (OnBytes (memory_of h.now)) }
+    ensures { IfOk result (λ cells. IsHeap l.now (typed_content cells)) }
+{
+    let _ = l.target();
+    view(alloc, l, h)
+}
+
+// The type of a place in the space.
+fn place<'a>(l: &'a Layout, t: &'a CType, address: u64, path: &[Step]) -> Option<&'a CType>
+    ensures whole { IfSome result (λ _. is_object l.now (type_of t.now) ≡ true) }
+    ensures address { IfSome result (λ _. address < space l.now) }
+    ensures shape { IfSome result (λ u. Some (shape_of l.now (type_of u.now))
+        ≡ option_map (λ q. q.shape) (spot (shape_of l.now (type_of t.now)) (map step_of path.now))) }
+    ensures part { IfSome result (λ u. is_object l.now (type_of u.now) ≡ true) }
+    ensures layout { IfSome result (λ _. IsLayout l.now) }
+{
+    if !is_object(l, t) || !is_in_space(l.target(), address) {
+        return None;
+    }
+    type_at(l, t, path)
+}
+
+fn is_in_space(target: Target, address: u64) -> bool
+    ensures { result ≡ true → address < 2 ^ address_width (target_of target) }
+{
+    match target {
+        Target::Ilp32 => address <= u64::from(u32::MAX),
+        Target::Lp64 => true,
+    }
+}
+
+// The bits of a scalar type.
+fn bits_of(l: &Layout, t: &CType) -> Option<u8>
+    ensures scalar { IfSome result (λ _. is_scalar (type_of t.now) ≡ true) }
+    ensures width { IfSome result (λ width. width ≡ scalar_width l.now.target (type_of t.now)) }
+    ensures known { IfSome result IsWidth }
+{
+    match t {
+        CType::Int(i) => Some(width_of(l.target(), *i)),
+        CType::Ptr(_) => Some(address_width(l.target())),
+        CType::Void | CType::Struct(_) | CType::Array(_, _) => None,
+    }
+}
+
+// The word at a place of a scalar.
+fn word_at<H: Heap>(h: &H, l: &Layout, t: &CType, address: u64, path: &[Step]) -> Option<u64>
+    requires { IsHeap l.now (H.content h.now) }
+{
+    let part = place(l, t, address, path)?;
+    let _ = bits_of(l, part)?;
+    Some(h.read_word(l, t, address, path).bits())
+}
+
+// Puts a word at a place of a scalar.
+fn put_word<H: Heap>(
+    alloc: Global,
+    h: &mut H,
+    l: &Layout,
+    t: &CType,
+    address: u64,
+    path: &[Step],
+    bits: u64,
+) -> Result<(), AllocError>
+    requires { IsHeap l.now (H.content h.old) }
+    ensures { IsHeap l.now (H.content h.new) }
+{
+    let Some(part) = place(l, t, address, path) else {
+        return Ok(());
+    };
+    let Some(width) = bits_of(l, part) else {
+        return Ok(());
+    };
+    let number = Number::new(false, u128::from(bits));
+    let new = word(width, number);
+    h.write_value(alloc, l, t, address, path, &Value::Word(new))
+}
+
+// Puts the value of a place into another of its type.
+fn copy_value<H: Heap>(
+    alloc: Global,
+    h: &mut H,
+    l: &Layout,
+    t: &CType,
+    to: u64,
+    from: u64,
+) -> Result<(), AllocError>
+    requires { IsHeap l.now (H.content h.old) }
+    ensures { IsHeap l.now (H.content h.new) }
+{
+    let Some(_) = place(l, t, from, &[]) else {
+        return Ok(());
+    };
+    let Some(_) = place(l, t, to, &[]) else {
+        return Ok(());
+    };
+    let value = h.read_value(alloc, l, t, from, &[])?;
+    h.write_value(alloc, l, t, to, &[], &value)
+}
+
+// Whether a root is covered.
+fn covers<H: Heap>(h: &H, l: &Layout, t: &CType, address: u64) -> bool
+    requires { IsHeap l.now (H.content h.now) }
+{
+    place(l, t, address, &[]).is_some() && h.tagged(l, t, address)
+}
+
+// A heap of bytes and a typed heap with the same tags, which are written alike.
+#[derive(Drop)]
+struct BothHeaps {
+    l: Layout,
+    bytes: ByteHeap,
+    cells: TypedHeap,
+}
+
+impl BothHeaps {
+    // Both are all zeros.
+    fn new(alloc: Global, first: (u64, CType), second: (u64, CType)) -> Result<BothHeaps, Fail>
+        ensures bytes { IfOk result (λ h. IsHeap h.l (OnBytes (memory_of h.bytes))) }
+        ensures cells { IfOk result (λ h. IsHeap h.l (typed_content h.cells)) }
+    {
+        let l = layout(alloc, Target::Ilp32)?;
+        match zero_bytes(alloc, &l, first, second)? {
+            Some(bytes) => {
+                let cells = typed(alloc, &l, &bytes)?;
+                Ok(BothHeaps { l, bytes, cells })
+            }
+            None => Err(Fail::from("no heap")),
+        }
+    }
+
+    fn put(
+        &mut self,
+        alloc: Global,
+        t: &CType,
+        address: u64,
+        path: &[Step],
+        bits: u64,
+    ) -> Result<(), AllocError>
+        requires bytes { IsHeap self.old.l (OnBytes (memory_of self.old.bytes)) }
+        requires cells { IsHeap self.old.l (typed_content self.old.cells) }
+        ensures bytes { IsHeap self.new.l (OnBytes (memory_of self.new.bytes)) }
+        ensures cells { IsHeap self.new.l (typed_content self.new.cells) }
+    {
+        put_word(alloc, &mut self.bytes, &self.l, t, address, path, bits)?;
+        put_word(alloc, &mut self.cells, &self.l, t, address, path, bits)
+    }
+
+    fn copy(&mut self, alloc: Global, t: &CType, to: u64, from: u64) -> Result<(), AllocError>
+        requires bytes { IsHeap self.old.l (OnBytes (memory_of self.old.bytes)) }
+        requires cells { IsHeap self.old.l (typed_content self.old.cells) }
+        ensures bytes { IsHeap self.new.l (OnBytes (memory_of self.new.bytes)) }
+        ensures cells { IsHeap self.new.l (typed_content self.new.cells) }
+    {
+        copy_value(alloc, &mut self.bytes, &self.l, t, to, from)?;
+        copy_value(alloc, &mut self.cells, &self.l, t, to, from)
+    }
+
+    // The word in the bytes, and in the typed heap.
+    fn words(&self, t: &CType, address: u64, path: &[Step]) -> (Option<u64>, Option<u64>)
+        requires bytes { IsHeap self.now.l (OnBytes (memory_of self.now.bytes)) }
+        requires cells { IsHeap self.now.l (typed_content self.now.cells) }
+    {
+        (
+            word_at(&self.bytes, &self.l, t, address, path),
+            word_at(&self.cells, &self.l, t, address, path),
+        )
+    }
+
+    fn covers(&self, t: &CType, address: u64) -> (bool, bool)
+        requires bytes { IsHeap self.now.l (OnBytes (memory_of self.now.bytes)) }
+        requires cells { IsHeap self.now.l (typed_content self.now.cells) }
+    {
+        (
+            covers(&self.bytes, &self.l, t, address),
+            covers(&self.cells, &self.l, t, address),
+        )
+    }
+}
+
+// An element of `pair` in `q`, and in it the `unsigned`.
+fn element(negative: bool, magnitude: u128) -> [Step; 3] {
+    let index = Number::new(negative && magnitude != 0, magnitude);
+    [Step::Field(0), Step::Index(index), Step::Field(1)]
+}
+
+#[test]
+fn tags_at_fault(rt: HostRuntime) -> Result<(), Fail> {
+    let alloc = rt.alloc();
+    let l = layout(alloc, Target::Ilp32)?;
+    let rows = [
+        (4098, 8192, HeapFault::Misaligned(0)),
+        (4096, 0, HeapFault::Null(1)),
+        (4096, 4294967296, HeapFault::Past(1)),
+        (4096, 4096, HeapFault::Overlap(1)),
+    ];
+    for (first, second, want) in rows {
+        match zero_bytes(alloc, &l, (first, UINT), (second, UINT)) {
+            Ok(_) => assert!(rt; false, "no fault at {second}"),
+            Err(fault) => assert_eq!(rt; fault, want),
+        }
+    }
+    Ok(())
+}
+
+#[test]
+fn padding_stays(rt: HostRuntime) -> Result<(), Fail> {
+    let alloc = rt.alloc();
+    let p = CType::Struct(String::from_str(alloc, "p")?);
+    let first = CType::Struct(String::from_str(alloc, "p")?);
+    let second = CType::Struct(String::from_str(alloc, "p")?);
+    let mut h = BothHeaps::new(alloc, (4096, first), (4104, second))?;
+    // An `unsigned` over a byte and padding is no part of a `p`.
+    h.put(alloc, &UINT, 4096, &[], 0xaaaa_aaaa)?;
+    h.put(alloc, &BYTE, 4096, &[], 1)?;
+    h.put(alloc, &UINT, 4100, &[], 2)?;
+    h.put(alloc, &UINT, 4104, &[], 0xbbbb_bbbb)?;
+    h.put(alloc, &BYTE, 4104, &[], 3)?;
+    h.put(alloc, &UINT, 4108, &[], 4)?;
+    h.copy(alloc, &p, 4104, 4096)?;
+    assert_eq!(rt; h.words(&UINT, 4104, &[]), (Some(0xbbbb_bb01), Some(0)));
+    for (address, k, want) in [(4096, 0, 1), (4096, 1, 2), (4104, 0, 1), (4104, 1, 2)] {
+        let words = h.words(&p, address, &[Step::Field(k)]);
+        assert_eq!(rt; words, (Some(want), Some(want)), "{address}");
+    }
+    Ok(())
+}
+
+#[test]
+fn indices_of_elements(rt: HostRuntime) -> Result<(), Fail> {
+    let alloc = rt.alloc();
+    let q = CType::Struct(String::from_str(alloc, "q")?);
+    let tag = CType::Struct(String::from_str(alloc, "q")?);
+    let mut h = BothHeaps::new(alloc, (4096, tag), (8192, UINT))?;
+    h.put(alloc, &q, 4096, &element(false, 0), 10)?;
+    h.put(alloc, &q, 4096, &element(false, 1), 11)?;
+    h.put(alloc, &UINT, 4116, &[], 12)?;
+    h.put(alloc, &UINT, 4092, &[], 13)?;
+    let rows = [
+        (false, 0, 10, 10),
+        (false, 1, 11, 11),
+        (false, 2, 12, 10),
+        (true, 1, 13, 10),
+        (false, 1 << 127, 10, 10),
+        (true, 1 << 127, 10, 10),
+    ];
+    for (negative, magnitude, in_bytes, in_cells) in rows {
+        let words = h.words(&q, 4096, &element(negative, magnitude));
+        assert_eq!(rt; words, (Some(in_bytes), Some(in_cells)), "{magnitude}");
+    }
+    h.put(alloc, &q, 4096, &element(false, 2), 99)?;
+    h.put(alloc, &q, 4096, &element(true, 1), 99)?;
+    h.put(alloc, &q, 4096, &element(false, 1 << 127), 99)?;
+    for (address, in_bytes, in_cells) in [
+        (4100, 99, 10),
+        (4108, 11, 11),
+        (4116, 99, 0),
+        (4092, 99, 0),
+    ] {
+        let words = h.words(&UINT, address, &[]);
+        assert_eq!(rt; words, (Some(in_bytes), Some(in_cells)), "{address}");
+    }
+    Ok(())
+}
+
+#[test]
+fn roots_of_two_types(rt: HostRuntime) -> Result<(), Fail> {
+    let alloc = rt.alloc();
+    let p = CType::Struct(String::from_str(alloc, "p")?);
+    let q = CType::Struct(String::from_str(alloc, "q")?);
+    let row = CType::Array(Box::new(alloc, BYTE)?, 3);
+    let tag = CType::Struct(String::from_str(alloc, "q")?);
+    let mut h = BothHeaps::new(alloc, (4096, tag), (8192, UINT))?;
+    let roots = [
+        (&q, 4096, true),
+        (&p, 4096, true),
+        (&p, 4104, true),
+        (&UINT, 4100, true),
+        (&BYTE, 4114, true),
+        (&UINT, 4096, false),
+        (&UINT, 4112, false),
+        (&row, 4112, false),
+        (&UINT, 8196, false),
+    ];
+    for (t, address, want) in roots {
+        assert_eq!(rt; h.covers(t, address), (want, want), "{address}");
+    }
+    h.put(alloc, &UINT, 4108, &[], 5)?;
+    h.put(alloc, &p, 4104, &[Step::Field(0)], 6)?;
+    h.put(alloc, &UINT, 8196, &[], 7)?;
+    assert_eq!(rt; h.words(&q, 4096, &element(false, 1)), (Some(5), Some(5)));
+    assert_eq!(rt; h.words(&BYTE, 4104, &[]), (Some(6), Some(6)));
+    assert_eq!(rt; h.words(&UINT, 8196, &[]), (Some(7), Some(0)));
+    assert_eq!(rt; h.words(&UINT, 8192, &[]), (Some(0), Some(0)));
+    Ok(())
+}
