@@ -1,1 +1,13 @@
 pub mod Picked
+pub mod Layered
+pub mod Parted
+pub mod Meeting
+pub mod Follow
+pub mod Copied
+pub mod Inversion
+pub mod Sorting
+pub mod Good
+pub mod Fine
+pub mod Scoped
+pub mod AlongSteps
+pub mod Taken

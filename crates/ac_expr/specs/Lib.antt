@@ -6,4 +6,17 @@ pub mod Form
 pub mod View
 pub mod Signature
 pub mod Sorted
+pub mod Layers
 pub mod Code
+pub mod CodePath
+pub mod CodeSort
+pub mod Along
+pub mod Heads
+pub mod Follow
+pub mod Wide
+pub mod Ready
+pub mod CodeState
+pub mod CodeFault
+pub mod CodeScene
+pub mod Facts
+pub mod CodeFacts
