@@ -1,11 +1,11 @@
 -- One step along a path.
-use Rattle.std.proofs.Common.{◌≡◌, ℕ, Bool, true, false, cond, Option, Some, None, ℤ, refl, sym, ap, ◌∙◌, subst}
+use Rattle.std.proofs.Common.{◌≡◌, ℕ, true, false, Option, Some, None, refl, sym, ap, ◌∙◌}
 use Rattle.std.proofs.lemmas.Bool.{cond-true, cond-false}
 use Rattle.c_values.specs.Layout.{Shape, Incomplete, Scalar, Record, Row}
-use Rattle.c_values.specs.Path.{Step, Field, Index, Spot, step_spot, member_spot}
+use Rattle.c_values.specs.Path.{Field, Spot, step_spot, member_spot}
 use Rattle.ac_expr.specs.Expression.{Exp, Path, IntoField, IntoElement}
 use Rattle.ac_expr.specs.Sort.{Scope, shape_along, shape_in, is_number, sort_of}
-use Rattle.ac_expr.specs.Along.{shape_at}
+use Rattle.ac_expr.specs.Along.{shape_at, element_in}
 
 -- to a member
 pub next_field : (g : Scope) (k : ℕ) (path : Path) (s r : Shape) → Some r ≡ shape_at (step_spot s (Field k)) → shape_along g (IntoField k path) s ≡ shape_along g path r
@@ -29,19 +29,19 @@ no_field g k path (Record x n align fs) e = by_member (member_spot fs k) e
     by_member (Some q) h = absurd cc
 
 -- to an element
-pub next_element : (g : Scope) (e : Exp) (path : Path) (s r : Shape) (i : ℤ) → is_number (sort_of g e) ≡ true → Some r ≡ shape_at (step_spot s (Index i)) → shape_along g (IntoElement e path) s ≡ shape_along g path r
-next_element g e path Incomplete r i n h = absurd cc
-next_element g e path (Scalar t width) r i n h = absurd cc
-next_element g e path (Record x m align fs) r i n h = absurd cc
-next_element g e path (Row s m) r i n h =
+pub next_element : (g : Scope) (e : Exp) (path : Path) (s r : Shape) → is_number (sort_of g e) ≡ true → Some r ≡ element_in s → shape_along g (IntoElement e path) s ≡ shape_along g path r
+next_element g e path Incomplete r n h = absurd cc
+next_element g e path (Scalar t width) r n h = absurd cc
+next_element g e path (Record x m align fs) r n h = absurd cc
+next_element g e path (Row s m) r n h =
     let same : r ≡ s = cc in
     cond-true (is_number (sort_of g e)) (shape_along g path s) None n ∙ ap (λ q. shape_along g path q) (sym same)
 
-pub no_element : (g : Scope) (e : Exp) (path : Path) (s : Shape) (i : ℤ) → None ≡ shape_at (step_spot s (Index i)) → shape_along g (IntoElement e path) s ≡ None
-no_element g e path Incomplete i h = refl
-no_element g e path (Scalar t width) i h = refl
-no_element g e path (Record x m align fs) i h = refl
-no_element g e path (Row s m) i h = absurd cc
+pub no_element : (g : Scope) (e : Exp) (path : Path) (s : Shape) → None ≡ element_in s → shape_along g (IntoElement e path) s ≡ None
+no_element g e path Incomplete h = refl
+no_element g e path (Scalar t width) h = refl
+no_element g e path (Record x m align fs) h = refl
+no_element g e path (Row s m) h = absurd cc
 
 pub no_number : (g : Scope) (e : Exp) (path : Path) (s : Shape) → is_number (sort_of g e) ≡ false → shape_along g (IntoElement e path) s ≡ None
 no_number g e path Incomplete n = refl

@@ -1,7 +1,7 @@
 -- Values that are copied one after the other.
 use Rattle.std.proofs.Common.{◌≡◌, ℕ, zero, suc, ◌+◌, ◌<◌, ◌≤◌, List, [], ◌∷◌, ◌++◌, length, get_or, take, refl, sym, ap, ap₂, ◌∙◌, arith}
 use Rattle.c_values.specs.declared.values.Value as V
-use Rattle.c_values.specs.Value.{Values, no_values, more}
+use Rattle.c_values.specs.Value.{no_values, more}
 use Rattle.c_values.specs.CodeValue.{value_of}
 use Rattle.c_memory.specs.CodeParts.{values_in}
 use Rattle.c_memory.proofs.Joined.{joined}

@@ -1,16 +1,16 @@
 -- A well-sorted expression can be evaluated, and its value is of its sort.
-use Rattle.std.proofs.Common.{◌≡◌, ℕ, ◌+◌, ◌*◌, ◌^◌, ◌<◌, ◌==◌, ◌⊎◌, nat_lt, Bool, true, false, not, cond, ◌&&◌, ◌||◌, List, [], ◌∷◌, Option, Some, None, ℤ, pos, negsuc, ◌*ℤ◌, ◌-◌, inl, inr, refl, sym, ap, ◌∙◌, subst}
-use Rattle.std.proofs.lemmas.Bool.{and_parts, false≢true, true≢false, ltb-true, eqb-true}
+use Rattle.std.proofs.Common.{◌≡◌, ℕ, ◌^◌, ◌==◌, ◌⊎◌, nat_lt, Bool, true, false, not, cond, ◌&&◌, ◌||◌, List, Option, Some, None, ℤ, pos, negsuc, ◌*ℤ◌, ◌-◌, inl, inr, refl, sym, ap, ◌∙◌, subst}
+use Rattle.std.proofs.lemmas.Bool.{and_parts, ltb-true, eqb-true}
 use Rattle.std.specs.Prelude.{IsSome, bit_and, bit_or, bit_xor, int_lt, neg_ℤ, ◌-ℤ◌, ◌+ℤ◌}
 use Rattle.std.specs.Int.{int_div_euclid}
 use Rattle.c_values.specs.Name.{Name}
-use Rattle.c_values.specs.Types.{CType, Struct, address_width}
+use Rattle.c_values.specs.Types.{CType, address_width}
 use Rattle.c_values.specs.Width.{IsWidth}
 use Rattle.c_values.specs.Word.{Word, IsWord, word, WordOp, Wadd, Wsub, Wmul, Wand, Wor, Wxor, Wudiv, Wumod, Wsdiv, Wsmod, ShiftOp, Wshl, Wushr, Wsshr, UnaryOp, Wneg, Wnot, word_op, word_shift, word_unary, is_shift, power_of_two, unsigned, signed}
 use Rattle.c_values.specs.Number.{quotient, remainder}
-use Rattle.c_values.specs.Value.{Value, Values, Bits, Number, Truth, Parts, word_in, number_in, truth_in}
-use Rattle.c_values.specs.Layout.{Layout, IsLayout, Shape, Incomplete, Scalar, Record, Row, Fields, type_of, shape_of, size, is_complete, is_object, space}
-use Rattle.c_values.specs.Path.{Step, Field, Index, Spot, spot, member_spot, and_then_spot, further, sel, upd, HasShape, IsBits}
+use Rattle.c_values.specs.Value.{Value, Bits, Number, Truth, Parts, word_in, number_in, truth_in}
+use Rattle.c_values.specs.Layout.{Layout, IsLayout, Shape, Incomplete, Scalar, Record, Row, Fields, type_of, shape_of, size, is_object}
+use Rattle.c_values.specs.Path.{Step, Spot, spot, member_spot, and_then_spot, further, HasShape, IsBits}
 use Rattle.c_values.proofs.Parts.{laid_shape}
 use Rattle.c_values.proofs.Laid.{structs_of}
 use Rattle.c_memory.specs.CodeParts.{has_parts}
@@ -20,7 +20,6 @@ use Rattle.ac_expr.specs.Sort as S
 use Rattle.ac_expr.specs.Sort.{Scope, Sort, Of, PartsSort, WordSort, NumberSort, TruthSort, is_width, sort_of, shape_along, shape_in, sort_at, word_width, word_sort, number_sort, truth_sort, is_number, is_truth, is_word_of, is_unary, is_one_step, where_holds, of_words, of_word, of_shape, of_type, parts_shape, are_same, cast_fits}
 use Rattle.ac_expr.specs.Evaluation.{Env, State, value, steps, cast_op, if_truth, moved_to}
 use Rattle.ac_expr.specs.Ready.{IsReady, AreReady, IsRoot}
-use Rattle.ac_expr.specs.Follow.{CanFollow}
 use Rattle.ac_expr.proofs.Follow.{path_ends}
 use Rattle.ac_expr.proofs.Good.{is_word, address_below, upd_put, heap_read, Good, good_whole, good_object, good_spot}
 use Rattle.ac_expr.proofs.Inversion.{where_inv, words_inv, word_inv, width_inv, number_inv, truth_inv, word_of_inv, same_inv, shape_inv, type_inv, parts_inv, scalar_inv, some_is}
@@ -170,7 +169,7 @@ module _ (g : Scope) (h : IsLayout g.layout) (env : Env) (s : State)
 
   some_end : (o : Option Spot) (q : Spot) → o ≡ Some q → IsSome o
   some_end None q e = absurd cc
-  some_end (Some p) q e = tt
+  some_end (Some p) q e = refl
 
   further_shape : (z : ℤ) (o : Option Spot) (q : Spot) → o ≡ Some q → (p : Spot) × (further z o ≡ Some p) × (p.shape ≡ q.shape)
   further_shape z None q e = absurd cc

@@ -1,10 +1,10 @@
 -- Parts of values, by paths.
-use Rattle.std.proofs.Common.{◌≡◌, ℕ, zero, suc, ◌+◌, ◌<◌, nat_lt, Bool, true, false, cond, ◌&&◌, List, [], ◌∷◌, ◌++◌, length, get_or, slice_set, Option, Some, None, unwrap_or, ℤ, pos, negsuc, ◌*ℤ◌, refl, sym, ap, ap₂, ◌∙◌, subst, arith}
-use Rattle.std.proofs.lemmas.Bool.{false≢true, and_parts, ltb-true, cond-true}
+use Rattle.std.proofs.Common.{◌≡◌, ℕ, zero, suc, ◌<◌, nat_lt, Bool, true, false, cond, ◌&&◌, List, [], ◌∷◌, ◌++◌, length, get_or, slice_set, Option, Some, None, unwrap_or, ℤ, pos, negsuc, ◌*ℤ◌, refl, sym, ap, ◌∙◌, subst, arith}
+use Rattle.std.proofs.lemmas.Bool.{and_parts, ltb-true}
 use Rattle.c_values.specs.declared.values.Value as V
 use Rattle.c_values.specs.Value.{Value, Values, Bits, Number, Truth, Parts, no_values, more, count, part, with_part, nothing}
 use Rattle.c_values.specs.Layout.{Shape, Incomplete, Scalar, Record, Row, Fields, no_fields, field, size, is_complete, are_complete}
-use Rattle.c_values.specs.Path.{Step, Field, Index, Spot, spot, member_spot, step_spot, and_then_spot, further, place_of, with_changed, sel, upd, HasShape, AreMembers, AreElements}
+use Rattle.c_values.specs.Path.{Step, Field, Index, Spot, spot, member_spot, and_then_spot, further, place_of, with_changed, sel, upd, HasShape, AreMembers, AreElements}
 use Rattle.c_values.specs.CodeValue.{value_of}
 use Rattle.c_values.proofs.Shaped.{elements_count, element_shaped, placed_field, upd_step}
 use Rattle.c_memory.specs.CodeParts.{values_in}
@@ -26,11 +26,11 @@ part_in [] k v lt e = absurd (omega arith)
 part_in (w ∷ ws) zero v lt e = ap value_of (sym e)
 part_in (w ∷ ws) (suc k) v lt e = part_in ws k v (omega arith) e
 
--- a part that is taken out and put back
-pub set_in : (vs : List V.Value) (k : ℕ) (u v : V.Value) → values_in (slice_set (slice_set vs k u) k v) ≡ with_part (values_in vs) k (value_of v)
-set_in [] k u v = refl
-set_in (w ∷ ws) zero u v = refl
-set_in (w ∷ ws) (suc k) u v = ap (λ us. more (value_of w) us) (set_in ws k u v)
+-- a part that is replaced
+pub set_in : (vs : List V.Value) (k : ℕ) (v : V.Value) → values_in (slice_set vs k v) ≡ with_part (values_in vs) k (value_of v)
+set_in [] k v = refl
+set_in (w ∷ ws) zero v = refl
+set_in (w ∷ ws) (suc k) v = ap (λ us. more (value_of w) us) (set_in ws k v)
 
 -- one step into parts that are replaced
 pub upd_at : (vs : List V.Value) (p : Step) (ps : List Step) (new : Value) (k : ℕ) → place_of p (length vs) ≡ Some k →
@@ -47,7 +47,7 @@ below_where i n k e = by_cases (nat_lt i n) refl e
     by_cases true h same = let at : i ≡ k = cc in subst (λ j. j < n) at (ltb-true i n h)
     by_cases false h same = absurd cc
 
-place_below : (p : Step) (n k : ℕ) → place_of p n ≡ Some k → k < n
+pub place_below : (p : Step) (n k : ℕ) → place_of p n ≡ Some k → k < n
 place_below (Field i) n k e = below_where i n k e
 place_below (Index (pos i)) n k e = below_where i n k e
 place_below (Index (negsuc i)) n k e = absurd cc
@@ -68,7 +68,7 @@ part_selected v vs p k w follows is at e =
     ∙ ap (λ i. part (values_in vs) i) (at ∙ ap (λ n. unwrap_or (place_of p n) 0) (sym (count_in vs)))
     ∙ ap (λ u. sel u (p ∷ [])) (sym is)
 
-sel_nothing : (ps : List Step) → sel nothing ps ≡ nothing
+pub sel_nothing : (ps : List Step) → sel nothing ps ≡ nothing
 sel_nothing [] = refl
 sel_nothing (p ∷ ps) = sel_nothing ps
 

@@ -1,23 +1,21 @@
 -- Parts of a good shape, wherever the indices are: what is read there, and what zeros are.
-use Rattle.std.proofs.Common.{◌≡◌, ℕ, zero, suc, ◌+◌, ◌*◌, ◌^◌, ◌<◌, nat_lt, Bool, true, false, ◌&&◌, List, [], ◌∷◌, ◌++◌, Option, Some, None, ℤ, pos, negsuc, ◌*ℤ◌, cond, ◌-◌, ◌+ℤ◌, refl, sym, ap, ◌∙◌, subst, arith}
-use Rattle.std.proofs.lemmas.Bool.{and_parts, false≢true}
+use Rattle.std.proofs.Common.{◌≡◌, ℕ, zero, suc, ◌+◌, ◌^◌, ◌<◌, nat_lt, Bool, true, false, List, [], ◌∷◌, Option, Some, None, ℤ, pos, negsuc, ◌*ℤ◌, cond, ◌-◌, ◌+ℤ◌, refl, sym, ap, subst, arith}
 use Rattle.std.proofs.lemmas.Nat.{mod_below, pow_pos}
 use Rattle.std.specs.Prelude.{nat_le}
 use Rattle.std.specs.Int.{int_rem_euclid}
-use Rattle.c_values.specs.Name.{Name}
 use Rattle.c_values.specs.Types.{CType, address_width}
 use Rattle.c_values.specs.Number.{natural}
-use Rattle.c_values.specs.Word.{Word, IsWord, word}
-use Rattle.c_values.specs.Value.{Value, Values, Bits, Number, Truth, Parts, no_values, more, count, part, with_part, nothing, word_in}
+use Rattle.c_values.specs.Word.{IsWord, word}
+use Rattle.c_values.specs.Value.{Value, Values, Bits, Number, Truth, Parts, no_values, more, count, part, with_part}
 use Rattle.c_values.specs.Layout.{Layout, IsLayout, Shape, Incomplete, Scalar, Record, Row, Fields, no_fields, field, size, shape_of, is_complete, is_object, space}
-use Rattle.c_values.specs.Path.{Step, Field, Index, Spot, spot, member_spot, step_spot, and_then_spot, further, place_of, with_changed, sel, upd, zeros, member_zeros, copies, HasShape, AreMembers, AreElements, IsBits}
+use Rattle.c_values.specs.Path.{Step, Field, Index, Spot, spot, member_spot, step_spot, and_then_spot, further, place_of, with_changed, sel, upd, zeros, member_zeros, copies, HasShape, AreMembers, AreElements}
 use Rattle.c_values.proofs.Formed.{IsFormed, AreFormed}
-use Rattle.c_values.proofs.Laid.{IsLaid, AreLaid, IsGood, structs_of, shape_good}
-use Rattle.c_values.proofs.Leads.{Leads, leads_spot}
+use Rattle.c_values.proofs.Laid.{AreLaid, IsGood, structs_of, shape_good}
+use Rattle.c_values.proofs.Leads.{leads_spot}
 use Rattle.c_values.proofs.Parts.{formed_complete}
-use Rattle.c_memory.specs.Memory.{Memory, AreBytes, load, load_at, load_spot, address_at}
-use Rattle.c_memory.specs.Tags.{path_from, root_path, AreTags, IsTag}
-use Rattle.c_memory.specs.TypedHeap.{Cell, TypedHeap, zeros_spot, cell_part, read_cells, tags_of}
+use Rattle.c_memory.specs.Memory.{load_spot, address_at}
+use Rattle.c_memory.specs.Tags.{path_from, root_path, AreTags}
+use Rattle.c_memory.specs.TypedHeap.{TypedHeap, zeros_spot, cell_part, read_cells, tags_of}
 use Rattle.c_memory.specs.Heap.{Heap, OnBytes, OnTypes, read_heap, IsHeap, CellsFit}
 use Rattle.c_memory.proofs.Loaded.{load_shaped}
 use Rattle.c_memory.proofs.Roots.{found_leads}
@@ -88,13 +86,14 @@ module _ (l : Layout) where
 
   pub good_spot : (s : Shape) (ps : List Step) (q : Spot) → Good s → spot s ps ≡ Some q → Good q.shape
   good_spot s [] q g e = subst (λ r. Good r) (ap (λ (v : Spot). v.shape) (some_same e)) g
-  good_spot s (p ∷ ps) q g e = by_step (step_spot s p) refl e
+  good_spot s (p ∷ ps) q g e = by_step (step_spot s p) refl e (λ r. good_spot r ps)
     where
-      by_step : (o : Option Spot) → step_spot s p ≡ o → and_then_spot o (λ r. further r.offset (spot r.shape ps)) ≡ Some q → Good q.shape
-      by_step None same h = absurd cc
-      by_step (Some r) same h =
+      by_step : (o : Option Spot) → step_spot s p ≡ o → and_then_spot o (λ r. further r.offset (spot r.shape ps)) ≡ Some q →
+          ((r : Shape) (f : Spot) → Good r → spot r ps ≡ Some f → Good f.shape) → Good q.shape
+      by_step None same h rest = absurd cc
+      by_step (Some r) same h rest =
           let f = further_parts r.offset (spot r.shape ps) q h in
-          subst (λ s'. Good s') (sym f.2) (good_spot r.shape ps f.0 (good_step s p r g same) f.1)
+          subst (λ s'. Good s') (sym f.2) (rest r.shape f.0 (good_step s p r g same) f.1)
 
 -- a value with a part replaced is of its shape
 member_put : (fs : Fields) (vs : Values) (k : ℕ) (q : Spot) (f : Value → Value) → AreMembers fs vs → member_spot fs k ≡ Some q →
@@ -161,11 +160,11 @@ module _ (l : Layout) (h : IsLayout l) (t : CType) (object : is_object l t ≡ t
   cells_read : (cells : TypedHeap) → AreTags l (tags_of cells) → CellsFit l cells → HasShape q.shape (read_cells l cells t a ps)
   cells_read [] tags fit =
       subst (λ o. HasShape q.shape (zeros_spot o)) (sym leads) (zeros_shaped q.shape (good_spot l (shape_of l t) ps q (good_object l t h object) leads).formed)
-  cells_read (c ∷ cs) tags fit = by_path (path_from l c.tag t a) refl
+  cells_read (c ∷ cs) tags fit = by_path (path_from l c.tag t a) refl (cells_read cs tags.2 fit.1)
     where
-      by_path : (o : Option (List Step)) → path_from l c.tag t a ≡ o → HasShape q.shape (cell_part c o ps (read_cells l cs t a ps))
-      by_path None e = cells_read cs tags.2 fit.1
-      by_path (Some root) e =
+      by_path : (o : Option (List Step)) → path_from l c.tag t a ≡ o → HasShape q.shape (read_cells l cs t a ps) → HasShape q.shape (cell_part c o ps (read_cells l cs t a ps))
+      by_path None e rest = rest
+      by_path (Some root) e rest =
           let whole = object_whole l c.tag.type tags.0.object in
           let found = path_when (nat_le c.tag.address a) (root_path (shape_of l c.tag.type) t (a - c.tag.address)) root e in
           let way = found_leads l c.tag.type t (a - c.tag.address) root h whole found in

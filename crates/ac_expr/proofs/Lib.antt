@@ -11,3 +11,8 @@ pub mod Fine
 pub mod Scoped
 pub mod AlongSteps
 pub mod Taken
+pub mod Named
+pub mod Unequal
+pub mod Whole
+pub mod PartSorts
+pub mod Shorter

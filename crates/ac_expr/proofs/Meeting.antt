@@ -1,6 +1,6 @@
 -- The first wide operation that is met.
-use Rattle.std.proofs.Common.{◌≡◌, refl, ap, ◌∙◌, subst, sym}
-use Rattle.std.specs.Prelude.{Option, Some, None}
+use Rattle.std.proofs.Common.{◌≡◌, ap, ◌∙◌, subst, sym}
+use Rattle.std.specs.Prelude.{Option, None}
 use Rattle.ac_expr.specs.declared.faults.EvalFault as F
 use Rattle.ac_expr.specs.Wide.{Operation, or_else}
 use Rattle.ac_expr.specs.CodeFault.{IsFault}

@@ -1,5 +1,6 @@
 -- The values of an environment and of globals are of the sorts of their scope.
-use Rattle.std.proofs.Common.{◌≡◌, Bool, true, false, cond, List, [], ◌∷◌, map, Option, Some, None, refl, sym, ap, ◌∙◌, subst}
+use Rattle.std.proofs.Common.{◌≡◌, Bool, true, false, cond, List, [], ◌∷◌, map, Option, Some, None, refl, subst}
+use Rattle.std.proofs.lemmas.Bool.{false≢true}
 use Rattle.std.specs.Prelude.{IsSome, string_bytes}
 use Rattle.c_values.specs.declared.values.Value as V
 use Rattle.c_values.specs.declared.values.GlobalVar as G
@@ -32,9 +33,9 @@ either_has false o p v w c h k e = k e
 names_have : (bs : Bindings) (names : Name → Option S.Scalar) (env : Env) → AreScalars bs → ((x : Name) (c : S.Scalar) → names x ≡ Some c → HasScalar c (env x)) →
     (x : Name) (c : S.Scalar) → scalars_with bs names x ≡ Some c → HasScalar c (env_with bs env x)
 names_have [] names env h k x c e = k x c e
-names_have (b ∷ bs) names env h k =
+names_have (b ∷ bs) names env h k x c e =
     names_have bs (with_name (string_bytes b.0) (scalar_of_value (value_of b.1)) names) (with_name (string_bytes b.0) (value_of b.1) env) h.1
-    (λ x c. either_has (same_name (string_bytes b.0) x) (scalar_of_value (value_of b.1)) (names x) (value_of b.1) (env x) c (scalar_has (value_of b.1) c h.0) (k x c))
+    (λ y d. either_has (same_name (string_bytes b.0) y) (scalar_of_value (value_of b.1)) (names y) (value_of b.1) (env y) d (scalar_has (value_of b.1) d h.0) (k y d)) x c e
 
 either_type : (l : Layout) (b : Bool) (t : CType) (o : Option CType) (v w : Value) (u : CType) → HasShape (shape_of l t) v → (o ≡ Some u → HasShape (shape_of l u) w) →
     cond b (Some t) o ≡ Some u → HasShape (shape_of l u) (cond b v w)
@@ -50,7 +51,7 @@ globals_have l (g ∷ gs) (v ∷ vs) h x t e =
 
 some_sort : (o : Option Sort) → IsSome o → (r : Sort) × (o ≡ Some r)
 some_sort (Some r) h = (r, refl)
-some_sort None h = absurd h
+some_sort None h = absurd (false≢true h)
 
 -- a well-sorted expression can be evaluated
 pub sorted_ready : (l : Layout) (bs : Bindings) (heap : Heap) (vars : List G.GlobalVar) (vs : List V.Value) (e : Exp) → IsLayout l → AreScalars bs → AreOfTypes l vars vs → IsHeap l heap →

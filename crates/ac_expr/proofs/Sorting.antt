@@ -1,15 +1,16 @@
 -- Sorts of parts.
-use Rattle.std.proofs.Common.{◌≡◌, ℕ, ◌^◌, zero, suc, ◌<◌, nat_lt, Bool, true, false, cond, ◌&&◌, List, [], ◌∷◌, Option, Some, None, ℤ, inl, inr, refl, sym, ap, ◌∙◌, subst}
+use Rattle.std.proofs.Common.{◌≡◌, ℕ, ◌^◌, zero, suc, ◌<◌, nat_lt, Bool, true, false, cond, ◌&&◌, List, [], ◌∷◌, Option, Some, None, inl, inr, refl, sym, ap, ◌∙◌, subst}
 use Rattle.std.proofs.lemmas.Bool.{and_parts, and_from, lt-ltb, false≢true}
 use Rattle.std.specs.Prelude.{IfSome}
 use Rattle.c_values.specs.Name.{Name, same_name, with_name}
 use Rattle.c_values.specs.Types.{Target, CType, Struct, Array}
 use Rattle.c_values.specs.Width.{IsWidth}
 use Rattle.c_values.specs.Layout.{Layout, IsLayout, StructDef, Shape, Incomplete, Scalar, Record, Row, Fields, no_fields, field, type_of, shape_of, shape_from, shapes_after, struct_shape, is_complete, are_complete, is_object}
-use Rattle.c_values.specs.Path.{Step, Field, Index, Spot, step_spot, member_spot}
+use Rattle.c_values.specs.Path.{Spot, member_spot}
 use Rattle.c_values.proofs.Laid.{shape_type}
 use Rattle.ac_expr.specs.Expression.{Path, Here, IntoField, IntoElement}
-use Rattle.ac_expr.specs.Sort.{Sort, Of, PartsSort, Scope, is_width, is_number, sort_of, sort_at, shape_along, shape_in, where_holds, word_sort}
+use Rattle.ac_expr.specs.Along.{element_in}
+use Rattle.ac_expr.specs.Sort.{Sort, PartsSort, Scope, is_width, is_number, sort_of, sort_at, shape_along, shape_in, where_holds, word_sort}
 
 -- a struct's shape, or that of what has no body
 abbrev pub IsStructShape : Shape → Type 0
@@ -31,14 +32,14 @@ structs_are t structs (d ∷ ds) h x =
 pub struct_is : (l : Layout) (x : Name) → IsStructShape (shape_of l (Struct x))
 struct_is l x = structs_are l.target (λ y. Incomplete) l.structs (λ y. tt) x
 
-no_element : (s : Shape) (i : ℤ) → IsStructShape s → step_spot s (Index i) ≡ None
-no_element Incomplete i h = refl
-no_element (Record x n align fs) i h = refl
-no_element (Scalar t width) i h = absurd h
-no_element (Row e n) i h = absurd h
+no_element : (s : Shape) → IsStructShape s → element_in s ≡ None
+no_element Incomplete h = refl
+no_element (Record x n align fs) h = refl
+no_element (Scalar t width) h = absurd h
+no_element (Row e n) h = absurd h
 
-pub struct_element : (l : Layout) (x : Name) (i : ℤ) → step_spot (shape_of l (Struct x)) (Index i) ≡ None
-struct_element l x i = no_element (shape_of l (Struct x)) i (struct_is l x)
+pub struct_element : (l : Layout) (x : Name) → element_in (shape_of l (Struct x)) ≡ None
+struct_element l x = no_element (shape_of l (Struct x)) (struct_is l x)
 
 parts_sort_at : (s : Shape) (x : Name) → IsStructShape s → is_complete s ≡ true → type_of s ≡ Struct x → ◌≡◌ {A = Option Sort} (Some (PartsSort (Struct x))) (sort_at s)
 parts_sort_at Incomplete x h c e = absurd (false≢true c)
@@ -65,19 +66,20 @@ along_complete g Here s q e c = let same : s ≡ q = cc in subst (λ r. is_compl
 along_complete g (IntoField k path) Incomplete q e c = absurd cc
 along_complete g (IntoField k path) (Scalar t width) q e c = absurd cc
 along_complete g (IntoField k path) (Row r n) q e c = absurd cc
-along_complete g (IntoField k path) (Record x n align fs) q e c = by_member (member_spot fs k) refl e
+along_complete g (IntoField k path) (Record x n align fs) q e c = by_member (member_spot fs k) refl e (λ r. along_complete g path r q)
   where
-    by_member : (o : Option Spot) → member_spot fs k ≡ o → shape_in o (λ s. shape_along g path s) ≡ Some q → is_complete q ≡ true
-    by_member None same h = absurd cc
-    by_member (Some r) same h = along_complete g path r.shape q h (member_complete fs k r c same)
+    by_member : (o : Option Spot) → member_spot fs k ≡ o → shape_in o (λ s. shape_along g path s) ≡ Some q →
+        ((r : Shape) → shape_along g path r ≡ Some q → is_complete r ≡ true → is_complete q ≡ true) → is_complete q ≡ true
+    by_member None same h rest = absurd cc
+    by_member (Some r) same h rest = rest r.shape h (member_complete fs k r c same)
 along_complete g (IntoElement i path) Incomplete q e c = absurd cc
 along_complete g (IntoElement i path) (Scalar t width) q e c = absurd cc
 along_complete g (IntoElement i path) (Record x n align fs) q e c = absurd cc
-along_complete g (IntoElement i path) (Row r n) q e c = by_index (is_number (sort_of g i)) e
+along_complete g (IntoElement i path) (Row r n) q e c = by_index (is_number (sort_of g i)) e (along_complete g path r q)
   where
-    by_index : (b : Bool) → cond b (shape_along g path r) None ≡ Some q → is_complete q ≡ true
-    by_index true h = along_complete g path r q h (and_parts (nat_lt 0 n) (is_complete r) c).1
-    by_index false h = absurd cc
+    by_index : (b : Bool) → cond b (shape_along g path r) None ≡ Some q → (shape_along g path r ≡ Some q → is_complete r ≡ true → is_complete q ≡ true) → is_complete q ≡ true
+    by_index true h rest = rest h (and_parts (nat_lt 0 n) (is_complete r) c).1
+    by_index false h rest = absurd cc
 
 -- the same of an answer that is there
 pub some_complete : (g : Scope) (path : Path) (s : Shape) (o : Option Shape) → o ≡ shape_along g path s → is_complete s ≡ true → IfSome o (λ q. is_complete q ≡ true)

@@ -1,5 +1,5 @@
 -- One step more of a path.
-use Rattle.std.proofs.Common.{◌≡◌, List, [], ◌∷◌, ◌++◌, map, refl, ap, ◌∙◌}
+use Rattle.std.proofs.Common.{◌≡◌, List, [], ◌∷◌, ◌++◌, map, refl, ap}
 use Rattle.c_memory.specs.declared.steps.Step as P
 use Rattle.c_values.specs.Path.{Step}
 use Rattle.c_memory.specs.CodeStep.{step_of}

@@ -21,7 +21,7 @@ fact_of (F.TheVariants.Equal a b) = Equal (exp_of a.now) (exp_of b.now)
 
 abbrev pub facts_of : C.Facts → List Fact
 facts_of (C.None l globals names) = []
-facts_of (C.With' p rest f) = fact_of f ∷ facts_of rest
+facts_of (C.With' p rest f) = fact_of f.now ∷ facts_of rest
 facts_of (C.Bound' p rest x s) = without_name x.now (facts_of rest)
 facts_of (C.WithoutReads' p rest) = without_reads (facts_of rest)
 

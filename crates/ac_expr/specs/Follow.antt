@@ -1,5 +1,5 @@
 -- Paths that can be followed in a value: at each step there are parts.
-use Rattle.std.specs.Prelude.{ℕ, ◌<◌, List, [], ◌∷◌, unwrap_or}
+use Rattle.std.specs.Prelude.{◌<◌, List, [], ◌∷◌, unwrap_or}
 use Rattle.c_values.specs.Value.{Value, Parts, count, part}
 use Rattle.c_values.specs.Path.{Step, place_of}
 

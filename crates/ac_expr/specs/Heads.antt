@@ -1,5 +1,5 @@
 -- Expressions by their heads.
-use Rattle.ac_expr.specs.Expression.{Exp, Var, WordLit, NumberLit, TruthLit, WordBinary, WordShift, WordUnary, WordCompare, Cast, ToNat, ToInt, ToWord, Arith, Negate, Lt, Le, Between, Eq, And, Or, Imp, Not, If, Padd, At, Load, Read, Tagged, PtrOk, Global, Sel, Upd}
+use Rattle.ac_expr.specs.Expression.{Exp, Lt, Le, Between, Eq, And, Or, Imp, Not, If, Padd, At, Load, Read, Tagged, PtrOk, Global, Sel, Upd}
 
 -- a test of numbers or of equality, an operation on truth values, or a choice
 abbrev pub IsTest : Exp → Type 0

@@ -1,11 +1,11 @@
 -- What the evaluation of an expression takes for granted at each of its parts: operands of one width, places that are there,
 -- addresses in the space, and names of values without parts. A well-sorted expression has it in a state of its scope.
-use Rattle.std.specs.Prelude.{◌≡◌, ◌<◌, true, false, Option, IsSome}
+use Rattle.std.specs.Prelude.{◌≡◌, ◌<◌, true, false, IsSome}
 use Rattle.c_values.specs.Types.{CType}
 use Rattle.c_values.specs.Width.{IsWidth}
 use Rattle.c_values.specs.Value.{Value, word_in}
 use Rattle.c_values.specs.Layout.{Layout, is_object, shape_of, space}
-use Rattle.c_values.specs.Path.{Spot, spot}
+use Rattle.c_values.specs.Path.{spot}
 use Rattle.c_memory.specs.CodeParts.{has_parts}
 use Rattle.ac_expr.specs.Expression.{Exp, Var, WordLit, NumberLit, TruthLit, WordBinary, WordShift, WordUnary, WordCompare, Cast, ToNat, ToInt, ToWord, Arith, Negate, Lt, Le, Between, Eq, And, Or, Imp, Not, If, Padd, At, Load, Read, Tagged, PtrOk, Global, Sel, Upd, Path, Here, IntoField, IntoElement}
 use Rattle.ac_expr.specs.Evaluation.{Env, State, value, steps}

@@ -1,6 +1,6 @@
 -- The first operation on numbers that evaluation meets whose exact result takes more than 128 bits. Operands come in the
 -- order of the text, and before their operation; `and`, `or`, `imp` and `if` leave out what those before decide.
-use Rattle.std.specs.Prelude.{ℕ, ◌^◌, nat_le, Bool, true, false, Option, Some, None, ℤ, unsigned_abs, if◌then◌else◌}
+use Rattle.std.specs.Prelude.{◌^◌, nat_le, Option, Some, None, ℤ, unsigned_abs, if◌then◌else◌}
 use Rattle.c_values.specs.Number.{NumberOp, number_op}
 use Rattle.c_values.specs.Value.{number_in, truth_in}
 use Rattle.c_values.specs.Layout.{Layout}

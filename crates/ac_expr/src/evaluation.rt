@@ -15,7 +15,7 @@ use crate::operations::{arithmetic, cast_word, is_pointer_ok, moved, place_addre
 use crate::paths::Path;
 use crate::scalars::{is_at_most, is_between, is_less, negated, number_in, truth_in, word_in};
 use crate::scene::Scene;
-use crate::selecting::{replaced, select};
+use crate::selecting::{replace, select};
 use c_memory::{Heap, Step};
 use c_values::views::word;
 use c_values::{Number, Value, Word, int, nat, word_op, word_shift, word_test, word_unary};
@@ -164,10 +164,11 @@ impl<H: Heap> Scene<'_, H> {
                 Ok(copy_value(self.alloc, select(&whole, &steps))?)
             }
             Exp::Upd(e, path, v) => {
-                let whole = self.value(e)?;
+                let mut whole = self.value(e)?;
                 let steps = self.steps(path)?;
                 let part = self.value(v)?;
-                Ok(replaced(whole, &steps, part))
+                replace(&mut whole, &steps, part);
+                Ok(whole)
             }
             _ => unreachable!(),
         }

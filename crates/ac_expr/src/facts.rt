@@ -34,7 +34,7 @@ pub enum Fact<'a> {
 #[derive(Drop)]
 pub enum Facts<'a> {
     None(&'a Layout, &'a [GlobalVar], &'a Names<'a>),
-    With(&'a Facts<'a>, Fact<'a>),
+    With(&'a Facts<'a>, &'a Fact<'a>),
     Bound(&'a Facts<'a>, &'a str, Scalar),
     WithoutReads(&'a Facts<'a>),
 }
@@ -49,8 +49,8 @@ impl<'a> Facts<'a> {
     }
 
     /// The same facts, and one more.
-    pub fn with(&'a self, fact: Fact<'a>) -> Facts<'a>
-        ensures facts { facts_of result ≡ fact_of fact.entry ∷ facts_of self.now }
+    pub fn with(&'a self, fact: &'a Fact<'a>) -> Facts<'a>
+        ensures facts { facts_of result ≡ fact_of fact.now ∷ facts_of self.now }
         ensures scope { scope_of_facts result ≡ scope_of_facts self.now }
     {
         Facts::With(self, fact)

@@ -1,12 +1,12 @@
 //! Parts of types, and the types of globals.
 
-ghost use Rattle.std.specs.Prelude.{◌≡◌, ℤ, map};
+ghost use Rattle.std.specs.Prelude.{◌≡◌, map};
 ghost use Rattle.std.specs.Option.{option_map};
 ghost use Rattle.c_values.specs.Layout.{shape_of, global_type};
-ghost use Rattle.c_values.specs.Path.{Field, Index, step_spot};
+ghost use Rattle.c_values.specs.Path.{Field, step_spot};
 ghost use Rattle.c_values.specs.CodeTypes.{type_of};
 ghost use Rattle.c_values.specs.CodeValue.{global_of};
-ghost use Rattle.ac_expr.specs.Along.{shape_at};
+ghost use Rattle.ac_expr.specs.Along.{shape_at, element_in};
 
 use c_values::{CType, GlobalVar, Layout};
 
@@ -26,8 +26,7 @@ pub(crate) fn member<'a>(l: &'a Layout, t: &'a CType, k: u32) -> Option<&'a CTyp
 
 /// The type of the elements.
 pub(crate) fn element<'a>(l: &Layout, t: &'a CType) -> Option<&'a CType>
-    ensures { (i : ℤ) → option_map (λ u. shape_of l.now (type_of u.now)) result
-        ≡ shape_at (step_spot (shape_of l.now (type_of t.now)) (Index i)) }
+    ensures { option_map (λ u. shape_of l.now (type_of u.now)) result ≡ element_in (shape_of l.now (type_of t.now)) }
 {
     // Its structs are no arrays.
     let _ = l.target();

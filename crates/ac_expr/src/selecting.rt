@@ -1,7 +1,7 @@
 //! Parts of values.
 
-ghost use Rattle.std.specs.Prelude.{◌≡◌, ◌<◌, [], ◌∷◌, false, map, length, IfSome, IfNone};
-ghost use Rattle.c_values.specs.Value.{Parts, part, with_part};
+ghost use Rattle.std.specs.Prelude.{◌≡◌, [], ◌∷◌, false, map, IfSome, IfNone};
+ghost use Rattle.c_values.specs.Value.{Parts};
 ghost use Rattle.c_values.specs.Path.{Index, place_of, sel, upd};
 ghost use Rattle.c_values.specs.CodeValue.{value_of};
 ghost use Rattle.c_memory.specs.CodeStep.{step_of};
@@ -10,7 +10,6 @@ ghost use Rattle.ac_expr.specs.Follow.{CanFollow};
 
 use c_memory::Step;
 use c_values::{Number, Value};
-use std::mem;
 
 /// The part of a value at the end of a path. An index that is out of range leads to the first element.
 pub(crate) fn select<'a>(value: &'a Value, path: &[Step]) -> &'a Value
@@ -34,43 +33,28 @@ pub(crate) fn part_at(whole: &Value, step: Step) -> &Value
     &parts[k]
 }
 
-/// The value with its part at the end of a path replaced. An index that is out of range leads to no part.
+/// Replaces the part at the end of a path. An index that is out of range leads to no part.
 #[cycle(replace)]
-pub(crate) fn replaced(whole: Value, path: &[Step], value: Value) -> Value
-    ensures { value_of result ≡ upd (value_of whole) (map step_of path.now) (value_of value) }
+pub(crate) fn replace(whole: &mut Value, path: &[Step], value: Value)
+    ensures { value_of whole.new ≡ upd (value_of whole.old) (map step_of path.now) (value_of value) }
 {
     match path.split_first() {
-        None => value,
-        Some((step, rest)) => match whole {
-            Value::Parts(parts) => Value::Parts(replaced_in(parts, *step, rest, value)),
-            Value::Word(_) | Value::Number(_) | Value::Truth(_) => whole,
-        },
+        None => *whole = value,
+        Some((step, rest)) => replace_in(whole, *step, rest, value),
     }
 }
 
-// The same of parts, from the first step on.
+// The same, from a first step on.
 #[cycle(replace)]
-fn replaced_in(parts: Vec<Value>, step: Step, rest: &[Step], value: Value) -> Vec<Value>
-    ensures { Parts (values_in result.items)
-        ≡ upd (Parts (values_in parts.items)) (step_of step ∷ map step_of rest.now) (value_of value) }
+fn replace_in(whole: &mut Value, step: Step, rest: &[Step], value: Value)
+    ensures { value_of whole.new
+        ≡ upd (value_of whole.old) (step_of step ∷ map step_of rest.now) (value_of value) }
 {
-    match place_of(step, parts.len()) {
-        Some(k) => replaced_at(parts, k, rest, value),
-        None => parts,
+    if let Value::Parts(parts) = whole {
+        if let Some(k) = place_of(step, parts.len()) {
+            replace(&mut parts[k], rest, value);
+        }
     }
-}
-
-// The same of the part of this number.
-#[cycle(replace)]
-fn replaced_at(parts: Vec<Value>, k: usize, rest: &[Step], value: Value) -> Vec<Value>
-    requires { k < length parts.items }
-    ensures { values_in result.items ≡ with_part (values_in parts.items) k
-        (upd (part (values_in parts.items) k) (map step_of rest.now) (value_of value)) }
-{
-    let mut parts = parts;
-    let part = mem::replace(&mut parts[k], Value::Truth(false));
-    parts[k] = replaced(part, rest, value);
-    parts
 }
 
 // The parts of a value that has parts.

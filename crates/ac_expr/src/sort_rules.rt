@@ -239,7 +239,7 @@ pub(crate) fn address_sort<'a>(holds: bool, part: Option<&CType>, l: &Layout) ->
 
 /// The sort of a part of a complete type, where a test holds and there is a part.
 pub(crate) fn part_sort<'a>(holds: bool, part: Option<&'a CType>, l: &Layout) -> Option<Sort<'a>>
-    ensures sort { (holds ≡ true → IfSome part.entry (λ u. is_complete (shape_of l.now (type_of u.now)) ≡ true)) →
+    ensures sort { (holds ≡ true → IfSome (option_map (λ u. shape_of l.now (type_of u.now)) part.entry) (λ s. is_complete s ≡ true)) →
         option_map sort_value result
         ≡ where_holds holds (of_shape (option_map (λ u. shape_of l.now (type_of u.now)) part.entry) sort_at) }
     ensures layout { IsLayout l.now }

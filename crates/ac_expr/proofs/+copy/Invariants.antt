@@ -1,3 +1,4 @@
+-- The parts put aside, before what is left, are the path.
 use Rattle.std.proofs.Common.{◌≡◌, ◌≤◌, vec_len}
 use Rattle.ac_expr.specs.declared.paths.Path.{size-Path}
 use Rattle.ac_expr.specs.Code.{path_of}

@@ -1,3 +1,4 @@
+-- What is left is no deeper than what was to be dropped.
 use Rattle.std.proofs.Common.{◌≤◌}
 use Rattle.ac_expr.specs.declared.paths.Path.{size-Path}
 use Rattle.ac_expr.proofs.+drop_expression.Given as goal

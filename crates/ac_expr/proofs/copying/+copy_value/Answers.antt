@@ -1,3 +1,4 @@
+-- A value of copied parts is a copy.
 use Rattle.std.proofs.Common.{◌≡◌, ◌∙◌, IfOk, ap, sym, subst}
 use Rattle.c_values.specs.Value.{Parts}
 use Rattle.c_values.specs.CodeValue.{value_of}

@@ -1,3 +1,4 @@
+-- The parts so far are copied.
 use Rattle.std.proofs.Common.{◌≡◌, take}
 use Rattle.c_memory.specs.CodeParts.{values_in}
 use Rattle.ac_expr.proofs.copying.+copy_value.Given as goal

@@ -1,3 +1,4 @@
+-- No global so far has the name.
 use Rattle.std.proofs.Common.{◌≡◌, drop}
 use Rattle.ac_expr.specs.CodeState.{globals_of}
 use Rattle.ac_expr.proofs.environments.global_value.Given as goal

@@ -1,3 +1,4 @@
+-- No name after these is the one looked up.
 use Rattle.std.proofs.Common.{◌≡◌, ◌≤◌, length, take}
 use Rattle.ac_expr.specs.CodeState.{env_of}
 use Rattle.ac_expr.proofs.environments.variable.Given as goal

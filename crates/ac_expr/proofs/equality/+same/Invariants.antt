@@ -1,3 +1,4 @@
+-- What is left of both lists is the same where they are.
 use Rattle.std.proofs.Common.{◌≡◌, drop}
 use Rattle.c_values.specs.Value.{same_values}
 use Rattle.c_memory.specs.CodeParts.{values_in}

@@ -1,5 +1,5 @@
+-- No global so far has the name.
 use Rattle.std.proofs.Common.{◌≡◌, map, drop}
-use Rattle.std.specs.Prelude.{string_bytes}
 use Rattle.c_values.specs.Layout.{global_type}
 use Rattle.c_values.specs.CodeValue.{global_of}
 use Rattle.ac_expr.proofs.parts.global.Given as goal

@@ -1,3 +1,4 @@
+-- An element of an object is an object, and a struct has none.
 use Rattle.std.proofs.Common.{◌≡◌, true, ap, sym, ◌∙◌, subst}
 use Rattle.c_values.specs.Types.{CType}
 use Rattle.c_values.specs.Layout.{is_object, space, shape_of}

@@ -1,3 +1,4 @@
+-- A member of an object is an object.
 use Rattle.std.proofs.Common.{◌≡◌, true, ap, subst, sym, ◌∙◌}
 use Rattle.std.specs.Prelude.{string_bytes}
 use Rattle.c_values.specs.Types.{CType, Struct}

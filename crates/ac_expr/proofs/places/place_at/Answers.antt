@@ -1,3 +1,4 @@
+-- One step further along the path.
 use Rattle.std.proofs.Common.{◌∙◌, map, drop, ap, sym, ◌+◌}
 use Rattle.c_values.specs.Layout.{shape_of, space}
 use Rattle.c_values.specs.Path.{spot}

@@ -1,3 +1,4 @@
+-- The rest of the path leads on from the place that was reached.
 use Rattle.std.proofs.Common.{◌≡◌, ◌<◌, true, map, drop}
 use Rattle.c_values.specs.Layout.{shape_of, is_object, space}
 use Rattle.c_values.specs.Path.{spot}

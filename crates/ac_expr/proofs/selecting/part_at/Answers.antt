@@ -1,6 +1,5 @@
-use Rattle.std.proofs.Common.{◌≡◌, ◌∙◌, IfSome, unwrap_or, Option, List, ap, subst}
-use Rattle.std.specs.Borrow.{Bor}
-use Rattle.c_values.specs.declared.values.Value as V
+-- The part to which a step leads lies in the list.
+use Rattle.std.proofs.Common.{◌≡◌, ◌∙◌, IfSome, unwrap_or, ap, subst}
 use Rattle.c_values.specs.Value.{Parts}
 use Rattle.c_values.specs.CodeValue.{value_of}
 use Rattle.c_memory.specs.CodeStep.{step_of}

@@ -1,3 +1,4 @@
+-- The parts of a value are those of its list.
 use Rattle.std.proofs.Common.{◌∙◌, ap, sym}
 use Rattle.c_values.specs.Value.{Parts}
 use Rattle.c_values.specs.CodeValue.{value_of}

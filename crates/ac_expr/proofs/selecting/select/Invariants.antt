@@ -1,3 +1,4 @@
+-- The rest of the path leads on from the part that was reached.
 use Rattle.std.proofs.Common.{◌≡◌, map, drop}
 use Rattle.c_values.specs.Path.{sel}
 use Rattle.c_values.specs.CodeValue.{value_of}

@@ -1,3 +1,4 @@
+-- A word is of a width, and its bits are those of its width.
 use Rattle.std.proofs.Common.{◌∙◌}
 use Rattle.ac_expr.proofs.Sorting.{literal_sorted}
 use Rattle.ac_expr.proofs.sort_rules.literal.Goals as goal

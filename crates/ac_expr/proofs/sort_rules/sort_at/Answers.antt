@@ -1,3 +1,4 @@
+-- The sorts of structs and arrays are those of their shapes.
 use Rattle.std.proofs.Common.{◌≡◌, true, Option, Some, ap, sym, subst}
 use Rattle.std.specs.Prelude.{string_bytes}
 use Rattle.c_values.specs.Layout.{shape_of, is_complete}

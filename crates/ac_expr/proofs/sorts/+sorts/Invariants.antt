@@ -1,3 +1,4 @@
+-- The rest of the path leads on from the type that was reached.
 use Rattle.std.proofs.Common.{◌≡◌, ◌≤◌}
 use Rattle.c_values.specs.Layout.{shape_of}
 use Rattle.c_values.specs.CodeTypes.{type_of}

@@ -1,3 +1,4 @@
+-- The layers put aside, around what is left, are the type.
 use Rattle.std.proofs.Common.{◌≡◌, vec_len}
 use Rattle.c_values.specs.CodeTypes.{type_of}
 use Rattle.ac_expr.specs.Layers.{with_layers}

@@ -1,3 +1,4 @@
+-- What is left of both types is the same where they are.
 use Rattle.std.proofs.Common.{◌≡◌}
 use Rattle.c_values.specs.Types.{same_type}
 use Rattle.c_values.specs.CodeTypes.{type_of}

@@ -1,3 +1,4 @@
+-- The name is looked up in what is left of the chain.
 use Rattle.std.proofs.Common.{◌≡◌}
 use Rattle.ac_expr.specs.CodeSort.{names_of}
 use Rattle.ac_expr.proofs.names.Names.get.Given as goal

@@ -1,3 +1,4 @@
+-- The steps so far, and those of the rest of the path, are the path's.
 use Rattle.std.proofs.Common.{◌≡◌, ◌≤◌, ◌++◌, map}
 use Rattle.c_memory.specs.CodeStep.{step_of}
 use Rattle.ac_expr.specs.declared.paths.Path.{size-Path}
