@@ -2,7 +2,7 @@
 #![tactic(auto, using(crate::proofs::Meeting::met_first, crate::proofs::Meeting::met_second, crate::proofs::Meeting::met_none))]
 
 ghost use Rattle.c_memory.specs.Heap.{IsHeap};
-ghost use Rattle.ac_expr.specs.Heads.{LooksAtValues};
+ghost use Rattle.ac_expr.specs.Heads.{GivesAWord, GivesANumber, IsOrderTest, IsChoice, IsOfAddress, LooksAtValues};
 ghost use Rattle.ac_expr.specs.Code.{exp_of, path_of};
 ghost use Rattle.ac_expr.specs.CodeScene.{scene_of, ReadyIn, ReadyAlong, GivesValue, GivesWord, GivesNumber, GivesTruth, GivesSteps};
 
@@ -21,7 +21,8 @@ use c_values::views::word;
 use c_values::{Number, Value, Word, int, nat, word_op, word_shift, word_test, word_unary};
 
 impl<H: Heap> Scene<'_, H> {
-    /// The value of an expression.
+    /// The value of an expression. Each kind of heads has a function of its own, which isn't inlined: one for all would take as
+    /// much of the stack at each level of an expression as all of them together.
     #[cycle(values)]
     pub(crate) fn value(&self, e: &Exp) -> Result<Value, EvalFault>
         requires heap { IsHeap self.now.layout.now (H.content self.now.heap.now) }
@@ -33,6 +34,41 @@ impl<H: Heap> Scene<'_, H> {
             Exp::Word(w) => Ok(Value::Word(*w)),
             Exp::Number(n) => Ok(Value::Number(*n)),
             Exp::Truth(b) => Ok(Value::Truth(*b)),
+            Exp::WordBinary(_, _, _)
+            | Exp::WordShift(_, _, _)
+            | Exp::WordUnary(_, _)
+            | Exp::Cast(_, _, _)
+            | Exp::ToWord(_, _) => self.value_of_word(e),
+            Exp::ToNat(_) | Exp::ToInt(_) | Exp::Arith(_, _, _) | Exp::Negate(_) => {
+                self.value_of_number(e)
+            }
+            Exp::WordCompare(_, _, _) | Exp::Lt(_, _) | Exp::Le(_, _) | Exp::Between(_, _, _) =>
+                self.value_of_order(e),
+            Exp::And(_, _) | Exp::Or(_, _) | Exp::Imp(_, _) | Exp::Not(_) | Exp::If(_, _, _) => {
+                self.value_of_choice(e)
+            }
+            Exp::Padd(_, _, _)
+            | Exp::At(_, _, _)
+            | Exp::Load(_, _, _)
+            | Exp::Read(_, _, _)
+            | Exp::Tagged(_, _)
+            | Exp::PtrOk(_, _) => self.value_of_address(e),
+            Exp::Eq(_, _) | Exp::Global(_, _) | Exp::Sel(_, _) | Exp::Upd(_, _, _) => {
+                self.value_of_parts(e)
+            }
+        }
+    }
+
+    // The value of an operation that gives a word.
+    #[cycle(values)]
+    #[inline(never)]
+    fn value_of_word(&self, e: &Exp) -> Result<Value, EvalFault>
+        requires heap { IsHeap self.now.layout.now (H.content self.now.heap.now) }
+        requires ready { ReadyIn (scene_of H.content self.now) (exp_of e.now) }
+        requires head { GivesAWord (exp_of e.now) }
+        ensures { GivesValue (scene_of H.content self.now) (exp_of e.now) result }
+    {
+        match e {
             Exp::WordBinary(op, a, b) => {
                 let a = self.word(a)?;
                 let b = self.word(b)?;
@@ -44,21 +80,49 @@ impl<H: Heap> Scene<'_, H> {
                 Ok(Value::Word(word_shift(*op, a, n)))
             }
             Exp::WordUnary(op, a) => Ok(Value::Word(word_unary(*op, self.word(a)?))),
-            Exp::WordCompare(op, a, b) => {
-                let a = self.word(a)?;
-                let b = self.word(b)?;
-                Ok(Value::Truth(word_test(*op, a, b)))
-            }
             Exp::Cast(op, width, a) => { Ok(Value::Word(cast_word(*op, *width, self.word(a)?))) }
+            Exp::ToWord(width, a) => Ok(Value::Word(word(*width, self.number(a)?))),
+            _ => unreachable!(),
+        }
+    }
+
+    // The value of an operation that gives a number.
+    #[cycle(values)]
+    #[inline(never)]
+    fn value_of_number(&self, e: &Exp) -> Result<Value, EvalFault>
+        requires heap { IsHeap self.now.layout.now (H.content self.now.heap.now) }
+        requires ready { ReadyIn (scene_of H.content self.now) (exp_of e.now) }
+        requires head { GivesANumber (exp_of e.now) }
+        ensures { GivesValue (scene_of H.content self.now) (exp_of e.now) result }
+    {
+        match e {
             Exp::ToNat(a) => Ok(Value::Number(nat(self.word(a)?))),
             Exp::ToInt(a) => Ok(Value::Number(int(self.word(a)?))),
-            Exp::ToWord(width, a) => Ok(Value::Word(word(*width, self.number(a)?))),
             Exp::Arith(op, a, b) => {
                 let a = self.number(a)?;
                 let b = self.number(b)?;
                 arithmetic(*op, a, b)
             }
             Exp::Negate(a) => Ok(Value::Number(negated(self.number(a)?))),
+            _ => unreachable!(),
+        }
+    }
+
+    // The value of an order test.
+    #[cycle(values)]
+    #[inline(never)]
+    fn value_of_order(&self, e: &Exp) -> Result<Value, EvalFault>
+        requires heap { IsHeap self.now.layout.now (H.content self.now.heap.now) }
+        requires ready { ReadyIn (scene_of H.content self.now) (exp_of e.now) }
+        requires head { IsOrderTest (exp_of e.now) }
+        ensures { GivesValue (scene_of H.content self.now) (exp_of e.now) result }
+    {
+        match e {
+            Exp::WordCompare(op, a, b) => {
+                let a = self.word(a)?;
+                let b = self.word(b)?;
+                Ok(Value::Truth(word_test(*op, a, b)))
+            }
             Exp::Lt(a, b) => {
                 let a = self.number(a)?;
                 let b = self.number(b)?;
@@ -72,16 +136,20 @@ impl<H: Heap> Scene<'_, H> {
             Exp::Between(low, a, high) => {
                 Ok(Value::Truth(is_between(*low, self.number(a)?, *high)))
             }
-            Exp::Eq(_, _)
-            | Exp::Padd(_, _, _)
-            | Exp::At(_, _, _)
-            | Exp::Load(_, _, _)
-            | Exp::Read(_, _, _)
-            | Exp::Tagged(_, _)
-            | Exp::PtrOk(_, _)
-            | Exp::Global(_, _)
-            | Exp::Sel(_, _)
-            | Exp::Upd(_, _, _) => self.value_of_place(e),
+            _ => unreachable!(),
+        }
+    }
+
+    // The value of an operation on truth values, or of a choice.
+    #[cycle(values)]
+    #[inline(never)]
+    fn value_of_choice(&self, e: &Exp) -> Result<Value, EvalFault>
+        requires heap { IsHeap self.now.layout.now (H.content self.now.heap.now) }
+        requires ready { ReadyIn (scene_of H.content self.now) (exp_of e.now) }
+        requires head { IsChoice (exp_of e.now) }
+        ensures { GivesValue (scene_of H.content self.now) (exp_of e.now) result }
+    {
+        match e {
             Exp::And(a, b) => {
                 if self.truth(a)? {
                     Ok(Value::Truth(self.truth(b)?))
@@ -111,23 +179,20 @@ impl<H: Heap> Scene<'_, H> {
                     self.value(b)
                 }
             }
+            _ => unreachable!(),
         }
     }
 
-    // The value of an expression that compares values, or that speaks of a place.
+    // The value of an expression that speaks of an address.
     #[cycle(values)]
-    fn value_of_place(&self, e: &Exp) -> Result<Value, EvalFault>
+    #[inline(never)]
+    fn value_of_address(&self, e: &Exp) -> Result<Value, EvalFault>
         requires heap { IsHeap self.now.layout.now (H.content self.now.heap.now) }
         requires ready { ReadyIn (scene_of H.content self.now) (exp_of e.now) }
-        requires head { LooksAtValues (exp_of e.now) }
+        requires head { IsOfAddress (exp_of e.now) }
         ensures { GivesValue (scene_of H.content self.now) (exp_of e.now) result }
     {
         match e {
-            Exp::Eq(a, b) => {
-                let a = self.value(a)?;
-                let b = self.value(b)?;
-                Ok(Value::Truth(same_value(&a, &b)))
-            }
             Exp::Padd(t, p, n) => {
                 let p = self.word(p)?;
                 let n = self.number(n)?;
@@ -154,6 +219,25 @@ impl<H: Heap> Scene<'_, H> {
                 let p = self.word(p)?;
                 Ok(Value::Truth(is_pointer_ok(self.layout, t, p.bits())))
             }
+            _ => unreachable!(),
+        }
+    }
+
+    // The value of an expression that looks at whole values.
+    #[cycle(values)]
+    #[inline(never)]
+    fn value_of_parts(&self, e: &Exp) -> Result<Value, EvalFault>
+        requires heap { IsHeap self.now.layout.now (H.content self.now.heap.now) }
+        requires ready { ReadyIn (scene_of H.content self.now) (exp_of e.now) }
+        requires head { LooksAtValues (exp_of e.now) }
+        ensures { GivesValue (scene_of H.content self.now) (exp_of e.now) result }
+    {
+        match e {
+            Exp::Eq(a, b) => {
+                let a = self.value(a)?;
+                let b = self.value(b)?;
+                Ok(Value::Truth(same_value(&a, &b)))
+            }
             Exp::Global(x, path) => {
                 let steps = self.steps(path)?;
                 global_part(self.alloc, self.vars, self.globals, x.as_str(), &steps)
@@ -175,6 +259,7 @@ impl<H: Heap> Scene<'_, H> {
     }
 
     #[cycle(values)]
+    #[inline(never)]
     fn word(&self, e: &Exp) -> Result<Word, EvalFault>
         requires heap { IsHeap self.now.layout.now (H.content self.now.heap.now) }
         requires ready { ReadyIn (scene_of H.content self.now) (exp_of e.now) }
@@ -184,6 +269,7 @@ impl<H: Heap> Scene<'_, H> {
     }
 
     #[cycle(values)]
+    #[inline(never)]
     fn number(&self, e: &Exp) -> Result<Number, EvalFault>
         requires heap { IsHeap self.now.layout.now (H.content self.now.heap.now) }
         requires ready { ReadyIn (scene_of H.content self.now) (exp_of e.now) }
@@ -193,6 +279,7 @@ impl<H: Heap> Scene<'_, H> {
     }
 
     #[cycle(values)]
+    #[inline(never)]
     fn truth(&self, e: &Exp) -> Result<bool, EvalFault>
         requires heap { IsHeap self.now.layout.now (H.content self.now.heap.now) }
         requires ready { ReadyIn (scene_of H.content self.now) (exp_of e.now) }

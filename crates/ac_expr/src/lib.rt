@@ -22,6 +22,8 @@ mod selecting;
 mod sort;
 mod sort_rules;
 mod sorts;
+#[cfg(test)]
+mod tests;
 mod types;
 
 pub use environments::Env;
