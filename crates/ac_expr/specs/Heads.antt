@@ -52,11 +52,15 @@ IsOrderTest (Le a b) = Unit {0}
 IsOrderTest (Between low a high) = Unit {0}
 IsOrderTest _ = ⊥
 
--- an operation on truth values, or a choice
+-- an operation on two truth values
+abbrev pub IsConnective : Exp → Type 0
+IsConnective (And a b) = Unit {0}
+IsConnective (Or a b) = Unit {0}
+IsConnective (Imp a b) = Unit {0}
+IsConnective _ = ⊥
+
+-- `not` or `if`
 abbrev pub IsChoice : Exp → Type 0
-IsChoice (And a b) = Unit {0}
-IsChoice (Or a b) = Unit {0}
-IsChoice (Imp a b) = Unit {0}
 IsChoice (Not a) = Unit {0}
 IsChoice (If c a b) = Unit {0}
 IsChoice _ = ⊥
@@ -71,10 +75,16 @@ IsOfAddress (Tagged t p) = Unit {0}
 IsOfAddress (PtrOk t p) = Unit {0}
 IsOfAddress _ = ⊥
 
--- it looks at whole values
-abbrev pub LooksAtValues : Exp → Type 0
-LooksAtValues (Eq a b) = Unit {0}
-LooksAtValues (Global x path) = Unit {0}
-LooksAtValues (Sel e path) = Unit {0}
-LooksAtValues (Upd e path v) = Unit {0}
-LooksAtValues _ = ⊥
+-- it speaks of a part of a value
+abbrev pub IsOfPart : Exp → Type 0
+IsOfPart (Global x path) = Unit {0}
+IsOfPart (Sel e path) = Unit {0}
+IsOfPart _ = ⊥
+
+abbrev pub IsEquality : Exp → Type 0
+IsEquality (Eq a b) = Unit {0}
+IsEquality _ = ⊥
+
+abbrev pub IsUpdate : Exp → Type 0
+IsUpdate (Upd e path v) = Unit {0}
+IsUpdate _ = ⊥

@@ -2,7 +2,7 @@
 #![tactic(auto, using(crate::proofs::Meeting::met_first, crate::proofs::Meeting::met_second, crate::proofs::Meeting::met_none))]
 
 ghost use Rattle.c_memory.specs.Heap.{IsHeap};
-ghost use Rattle.ac_expr.specs.Heads.{GivesAWord, GivesANumber, IsOrderTest, IsChoice, IsOfAddress, LooksAtValues};
+ghost use Rattle.ac_expr.specs.Heads.{GivesAWord, GivesANumber, IsOrderTest, IsConnective, IsChoice, IsOfAddress, IsOfPart, IsEquality, IsUpdate};
 ghost use Rattle.ac_expr.specs.Code.{exp_of, path_of};
 ghost use Rattle.ac_expr.specs.CodeScene.{scene_of, ReadyIn, ReadyAlong, GivesValue, GivesWord, GivesNumber, GivesTruth, GivesSteps};
 
@@ -44,18 +44,17 @@ impl<H: Heap> Scene<'_, H> {
             }
             Exp::WordCompare(_, _, _) | Exp::Lt(_, _) | Exp::Le(_, _) | Exp::Between(_, _, _) =>
                 self.value_of_order(e),
-            Exp::And(_, _) | Exp::Or(_, _) | Exp::Imp(_, _) | Exp::Not(_) | Exp::If(_, _, _) => {
-                self.value_of_choice(e)
-            }
+            Exp::And(_, _) | Exp::Or(_, _) | Exp::Imp(_, _) => self.value_of_connective(e),
+            Exp::Not(_) | Exp::If(_, _, _) => self.value_of_choice(e),
             Exp::Padd(_, _, _)
             | Exp::At(_, _, _)
             | Exp::Load(_, _, _)
             | Exp::Read(_, _, _)
             | Exp::Tagged(_, _)
             | Exp::PtrOk(_, _) => self.value_of_address(e),
-            Exp::Eq(_, _) | Exp::Global(_, _) | Exp::Sel(_, _) | Exp::Upd(_, _, _) => {
-                self.value_of_parts(e)
-            }
+            Exp::Eq(_, _) => self.value_of_equality(e),
+            Exp::Global(_, _) | Exp::Sel(_, _) => self.value_of_part(e),
+            Exp::Upd(_, _, _) => self.value_of_update(e),
         }
     }
 
@@ -140,13 +139,13 @@ impl<H: Heap> Scene<'_, H> {
         }
     }
 
-    // The value of an operation on truth values, or of a choice.
+    // The value of `and`, `or` or `imp`.
     #[cycle(values)]
     #[inline(never)]
-    fn value_of_choice(&self, e: &Exp) -> Result<Value, EvalFault>
+    fn value_of_connective(&self, e: &Exp) -> Result<Value, EvalFault>
         requires heap { IsHeap self.now.layout.now (H.content self.now.heap.now) }
         requires ready { ReadyIn (scene_of H.content self.now) (exp_of e.now) }
-        requires head { IsChoice (exp_of e.now) }
+        requires head { IsConnective (exp_of e.now) }
         ensures { GivesValue (scene_of H.content self.now) (exp_of e.now) result }
     {
         match e {
@@ -171,6 +170,20 @@ impl<H: Heap> Scene<'_, H> {
                     Ok(Value::Truth(true))
                 }
             }
+            _ => unreachable!(),
+        }
+    }
+
+    // The value of `not` or `if`.
+    #[cycle(values)]
+    #[inline(never)]
+    fn value_of_choice(&self, e: &Exp) -> Result<Value, EvalFault>
+        requires heap { IsHeap self.now.layout.now (H.content self.now.heap.now) }
+        requires ready { ReadyIn (scene_of H.content self.now) (exp_of e.now) }
+        requires head { IsChoice (exp_of e.now) }
+        ensures { GivesValue (scene_of H.content self.now) (exp_of e.now) result }
+    {
+        match e {
             Exp::Not(a) => Ok(Value::Truth(!self.truth(a)?)),
             Exp::If(c, a, b) => {
                 if self.truth(c)? {
@@ -223,21 +236,16 @@ impl<H: Heap> Scene<'_, H> {
         }
     }
 
-    // The value of an expression that looks at whole values.
+    // The value of an expression that speaks of a part of a value.
     #[cycle(values)]
     #[inline(never)]
-    fn value_of_parts(&self, e: &Exp) -> Result<Value, EvalFault>
+    fn value_of_part(&self, e: &Exp) -> Result<Value, EvalFault>
         requires heap { IsHeap self.now.layout.now (H.content self.now.heap.now) }
         requires ready { ReadyIn (scene_of H.content self.now) (exp_of e.now) }
-        requires head { LooksAtValues (exp_of e.now) }
+        requires head { IsOfPart (exp_of e.now) }
         ensures { GivesValue (scene_of H.content self.now) (exp_of e.now) result }
     {
         match e {
-            Exp::Eq(a, b) => {
-                let a = self.value(a)?;
-                let b = self.value(b)?;
-                Ok(Value::Truth(same_value(&a, &b)))
-            }
             Exp::Global(x, path) => {
                 let steps = self.steps(path)?;
                 global_part(self.alloc, self.vars, self.globals, x.as_str(), &steps)
@@ -247,6 +255,39 @@ impl<H: Heap> Scene<'_, H> {
                 let steps = self.steps(path)?;
                 Ok(copy_value(self.alloc, select(&whole, &steps))?)
             }
+            _ => unreachable!(),
+        }
+    }
+
+    // Whether two values are equal.
+    #[cycle(values)]
+    #[inline(never)]
+    fn value_of_equality(&self, e: &Exp) -> Result<Value, EvalFault>
+        requires heap { IsHeap self.now.layout.now (H.content self.now.heap.now) }
+        requires ready { ReadyIn (scene_of H.content self.now) (exp_of e.now) }
+        requires head { IsEquality (exp_of e.now) }
+        ensures { GivesValue (scene_of H.content self.now) (exp_of e.now) result }
+    {
+        match e {
+            Exp::Eq(a, b) => {
+                let a = self.value(a)?;
+                let b = self.value(b)?;
+                Ok(Value::Truth(same_value(&a, &b)))
+            }
+            _ => unreachable!(),
+        }
+    }
+
+    // A value with a part replaced.
+    #[cycle(values)]
+    #[inline(never)]
+    fn value_of_update(&self, e: &Exp) -> Result<Value, EvalFault>
+        requires heap { IsHeap self.now.layout.now (H.content self.now.heap.now) }
+        requires ready { ReadyIn (scene_of H.content self.now) (exp_of e.now) }
+        requires head { IsUpdate (exp_of e.now) }
+        ensures { GivesValue (scene_of H.content self.now) (exp_of e.now) result }
+    {
+        match e {
             Exp::Upd(e, path, v) => {
                 let mut whole = self.value(e)?;
                 let steps = self.steps(path)?;
