@@ -8,6 +8,7 @@ ghost use Rattle.ac_core.specs.Sum as sums;
 ghost use Rattle.ac_core.specs.SumCode.{sum_of, function_of};
 
 use ac_expr::{Exp, Kind, Level};
+use c_values::{Number, NumberOp};
 use monad_lang::{Binder, FinalFn, FinalUnit, Mon};
 use std::alloc::{AllocError, Global};
 
@@ -97,7 +98,11 @@ fn guarded(alloc: Global, sum: &Sum, rest: Mon) -> Result<Mon, AllocError>
 fn guard(alloc: Global, number: Exp) -> Result<Mon, AllocError>
     ensures { IfOk result (λ guard. mon_of guard ≡ sums.guard (exp_of number)) }
 {
-    Ok(Mon::Guard(Exp::Between(0, Box::new(alloc, number)?, u64::from(u32::MAX))))
+    Ok(Mon::Guard(Exp::Between(
+        Number::new(false, 0),
+        Box::new(alloc, number)?,
+        Number::new(false, u128::from(u32::MAX)),
+    )))
 }
 
 fn expression(alloc: Global, sum: &Sum) -> Result<Exp, AllocError>
@@ -105,8 +110,9 @@ fn expression(alloc: Global, sum: &Sum) -> Result<Exp, AllocError>
 {
     match sum {
         Sum::Named(name) => Ok(Exp::Var(name.clone()?)),
-        Sum::Constant(number) => Ok(Exp::Number(u64::from(*number))),
-        Sum::Plus(a, b) => Ok(Exp::Add(
+        Sum::Constant(number) => Ok(Exp::Number(Number::new(false, u128::from(*number)))),
+        Sum::Plus(a, b) => Ok(Exp::Arith(
+            NumberOp::Add,
             Box::new(alloc, expression(alloc, a)?)?,
             Box::new(alloc, expression(alloc, b)?)?,
         )),
