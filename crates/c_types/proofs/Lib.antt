@@ -1,0 +1,17 @@
+pub mod Lists
+pub mod Blocks
+pub mod NamedParameters
+pub mod Arguments
+pub mod MemberNames
+pub mod Beginnings
+pub mod InnermostBlock
+pub mod Steps
+pub mod Groups
+pub mod Keys
+pub mod GlobalsSoFar
+pub mod MembersLeft
+pub mod Conversions
+pub mod Casts
+pub mod Bodies
+pub mod Depths
+pub mod Answered
