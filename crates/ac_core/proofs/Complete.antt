@@ -4,6 +4,10 @@ use Rattle.c_values.specs.Name.{Name}
 use Rattle.c_lex.specs.Lexeme.{Lexeme}
 use Rattle.c_lex.specs.Tokens.{Tokens}
 use Rattle.c_grammar.specs.Tree.{External}
+use Rattle.c_values.specs.Types.{Ilp32}
+use Rattle.c_typed.specs.Typed.{TypedUnit}
+use Rattle.c_typing.specs.Checked.{Checked, Good, Bad}
+use Rattle.c_typing.specs.Unit.{checked, IsTyped}
 use Rattle.ac_core.specs.Sum.{SumFunction}
 use Rattle.ac_core.specs.Class.{class_of}
 use Rattle.c_lex.proofs.Leads.{one_list, tokens_or_fault}
@@ -12,7 +16,8 @@ use Rattle.c_limits.specs.Limits.{first_limit}
 use Rattle.ac_base.specs.Count.{Rose}
 use Rattle.ac_base.specs.Sink.{grown}
 use Rattle.ac_core.specs.Words.{command_of, plain_show}
-use Rattle.ac_core.specs.Answer.{source_limit, IsTree, IsTokensAnswer, OfTokens, IsTextAnswer, Reads, IsFileAnswer, IsAnswerTo, IsAnswer, EndsWith}
+use Rattle.c_typing.specs.declared.fault.TypeKind.{TypeKind}
+use Rattle.ac_core.specs.Answer.{source_limit, IsTree, OfTree, IsTokensAnswer, OfTokens, IsTextAnswer, Reads, IsFileAnswer, IsAnswerTo, IsAnswer, EndsWith}
 use Rattle.ac_core.specs.declared.status.Status.{Status}
 use Rattle.ac_core.specs.declared.status.Status.TheVariants.{Done, No, Words, Source, Text, ReadFault, WriteFault, Limit, Memory, NotYet}
 
@@ -24,9 +29,9 @@ module _ (words : List Name) (contents : Name → Option (List ℕ)) (before aft
   nothing_to (Some file) Source lines h = (λ e. cc, λ e. cc)
   nothing_to (Some file) Text lines h = (λ e. cc, λ e. cc)
   nothing_to (Some file) ReadFault lines h = (λ e. cc, λ e. cc)
-  nothing_to (Some file) WriteFault lines h = absurd h.answer.answer.answer
+  nothing_to (Some file) WriteFault lines h = absurd h.answer.answer.answer.answer
   nothing_to (Some file) Limit lines h = (λ e. cc, λ e. cc)
-  nothing_to (Some file) Memory lines h = absurd h.answer.answer.answer
+  nothing_to (Some file) Memory lines h = absurd h.answer.answer.answer.answer
   nothing_to (Some file) NotYet lines h = (λ e. cc, λ e. cc)
   nothing_to None Done lines h = absurd h
   nothing_to None No lines h = absurd h
@@ -52,9 +57,9 @@ module _ (words : List Name) (contents : Name → Option (List ℕ)) (before aft
   written Memory lines h e = absurd ((nothing_to _ Memory lines h).1 refl)
   written NotYet lines h e = record { lines = lines; answer = h; whole = e }
 
-  module _ (file text : List ℕ) (ts : List Lexeme) (tree : List External) (function : SumFunction) (shows : plain_show (command_of words) ≡ Some file)
+  module _ (file text : List ℕ) (ts : List Lexeme) (tree : List External) (unit : TypedUnit) (functions : List SumFunction) (shows : plain_show (command_of words) ≡ Some file)
       (is_text : contents file ≡ Some text) (within : length text ≤ source_limit) (are_tokens : Tokens text ts) (is_tree : IsTree ts tree)
-      (of_class : class_of tree ≡ Some function) (readable : Rose (before file) (after file) → ⊥) where
+      (typed : IsTyped Ilp32 tree unit) (of_class : class_of unit ≡ Some functions) (readable : Rose (before file) (after file) → ⊥) where
     of_file : (status : Status) (lines : List ℕ) → IsAnswer words contents before after status lines → IsFileAnswer file (Some text) (before file) (after file) status lines
     of_file status lines h =
         subst (λ c. IsFileAnswer file c (before file) (after file) status lines) is_text
@@ -64,9 +69,29 @@ module _ (words : List Name) (contents : Name → Option (List ℕ)) (before aft
     of_tokens : (status : Status) (lines : List ℕ) → OfTokens text status lines → IsTokensAnswer ts status lines
     of_tokens status lines h = subst (λ us. IsTokensAnswer us status lines) (one_list text h.tokens ts h.are_tokens are_tokens) h.answer
 
+    -- a tree of these tokens is this one
+    this_tree : (other : List External) → IsTree ts other → other ≡ tree
+    this_tree other is = one_tree other tree ts is.spells is_tree.spells
+
+    -- a text is typed as one unit, or has a bad node
+    not_bad : (c : Checked TypedUnit) (at : ℕ) (kind : TypeKind) → c ≡ Good unit → c ≡ Bad at kind → ⊥
+    not_bad c at kind h k = absurd cc
+
+    same_unit : (c : Checked TypedUnit) (other : TypedUnit) → c ≡ Good other → c ≡ Good unit → other ≡ unit
+    same_unit c other h k = cc
+
+    not_untyped : (lines : List ℕ) → OfTree ts Source lines → ⊥
+    not_untyped lines h =
+        not_bad (checked Ilp32 tree) h.answer.at h.answer.kind typed
+        (subst (λ t. checked Ilp32 t ≡ Bad h.answer.at h.answer.kind) (this_tree h.tree h.is_tree) h.answer.first_bad)
+
+    not_source : (lines : List ℕ) → IsTokensAnswer ts Source lines → ⊥
+    not_source lines (inl h) = h.no_tree tree is_tree.spells
+    not_source lines (inr h) = not_untyped lines h
+
     not_refused : (lines : List ℕ) → IsTextAnswer text Source lines → ⊥
     not_refused lines (inl h) = tokens_or_fault text ts h.cause h.at are_tokens h.fault
-    not_refused lines (inr h) = (of_tokens Source lines h).no_tree tree is_tree.spells
+    not_refused lines (inr h) = not_source lines (of_tokens Source lines h)
 
     not_past : (lines : List ℕ) → OfTokens text Limit lines → ⊥
     not_past lines h =
@@ -78,8 +103,9 @@ module _ (words : List Name) (contents : Name → Option (List ℕ)) (before aft
     not_unshown : (lines : List ℕ) → OfTokens text NotYet lines → ⊥
     not_unshown lines h =
         let other = of_tokens NotYet lines h in
-        let e = one_tree other.tree tree ts other.is_tree.spells is_tree.spells in
-        let none = subst (λ t. class_of t ≡ None) e other.answer.of_no_class in
+        let e = this_tree other.tree other.is_tree in
+        let same = same_unit (checked Ilp32 tree) other.answer.unit (subst (λ t. checked Ilp32 t ≡ Good other.answer.unit) e other.answer.typed) typed in
+        let none = subst (λ u. class_of u ≡ None) same other.answer.answer.of_no_class in
         absurd cc
 
     read : (status : Status) (lines : List ℕ) → (h : Reads (Some text) status lines) → IsTextAnswer text status lines
@@ -87,15 +113,15 @@ module _ (words : List Name) (contents : Name → Option (List ℕ)) (before aft
 
     is_done : (status : Status) (lines : List ℕ) → IsFileAnswer file (Some text) (before file) (after file) status lines → status ≡ Done
     is_done Done lines h = refl
-    is_done No lines h = absurd h.answer.answer.answer
-    is_done Words lines h = absurd h.answer.answer.answer
+    is_done No lines h = absurd h.answer.answer.answer.answer
+    is_done Words lines h = absurd h.answer.answer.answer.answer
     is_done Source lines h = absurd (not_refused lines (read Source lines h))
-    is_done Text lines h = absurd h.answer.answer.answer
+    is_done Text lines h = absurd h.answer.answer.answer.answer
     is_done ReadFault lines h = absurd (readable h.0)
-    is_done WriteFault lines h = absurd h.answer.answer.answer
+    is_done WriteFault lines h = absurd h.answer.answer.answer.answer
     is_done Limit lines (inl h) = absurd (omega (arith, h.0, within))
     is_done Limit lines (inr h) = absurd (not_past lines (read Limit lines h))
-    is_done Memory lines h = absurd h.answer.answer.answer
+    is_done Memory lines h = absurd h.answer.answer.answer.answer
     is_done NotYet lines h = absurd (not_unshown lines (read NotYet lines h))
 
     -- where the sink doesn't fail either, the text is shown, or memory was short

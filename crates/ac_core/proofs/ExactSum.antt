@@ -5,7 +5,9 @@ use Rattle.c_values.specs.Name.{Name, same_name, is_among}
 use Rattle.c_values.specs.Types.{Ilp32}
 use Rattle.c_values.specs.Number.{Add}
 use Rattle.c_values.specs.Choice.{Choice}
-use Rattle.c_values.specs.Value.{Number}
+use Rattle.c_values.specs.Value.{Bits, Number}
+use Rattle.c_values.specs.Word.{word}
+use Rattle.c_values.specs.Layout.{StructDef}
 use Rattle.c_memory.specs.Memory.{Memory}
 use Rattle.c_memory.specs.Heap.{Heap, OnBytes}
 use Rattle.ac_expr.specs.Expression.{Exp, Var, NumberLit, Arith, Between}
@@ -20,26 +22,29 @@ use Rattle.monad_lang.specs.Run as M
 use Rattle.c_typed.specs.Typed as C
 use Rattle.simpl_gen.specs.CValue as V
 use Rattle.simpl_gen.specs.Generate.{variables}
-use Rattle.ac_core.specs.Exact.{AreArguments, Begin, state_of, heap_for, ExactFrom, Exact, IsExact, AreProgramsOf}
-use Rattle.ac_core.specs.Sum.{Sum, Named, Constant, Plus, SumFunction, IsSum, layout, c_sum, c_parameter, typed_fn_of, typed_unit_of, levels, exp_of_sum, guard, guarded, body, parameter, final_unit_of}
+use Rattle.ac_core.specs.Exact.{AreArguments, Begin, state_of, heap_for, ExactFrom, Exact, IsExact, ArePrograms, AreProgramsOf}
+use Rattle.ac_core.specs.Answer.{AreInNumbers}
+use Rattle.ac_core.specs.Sum.{Sum, Named, Constant, Converted, Plus, SumFunction, IsSum, layout, c_sum, c_parameter, typed_fn_of, typed_unit_of, levels, constant, exp_of_sum, guard, guarded, body, parameter, final_fn_of, final_unit_of}
 use Rattle.ac_core.proofs.Unsigned.{Same, c_bound, m_bound, word_is, parameter_is, fits_test, tested_only, tested_does, tested_fails, context, Means, adds, wraps, left_undefined, right_undefined, guard_is}
 use Rattle.ac_core.proofs.OneReturn as one
+use Rattle.ac_core.proofs.ClassIsSum.{IsOneSum}
+use Rattle.ac_core.proofs.Constants.{small_constant, converted_is}
 
 -- where the sums of one function are evaluated
-module _ (params : List Name) (locals env : E.Env) (c_state m_state : E.State) (p : Choice) (depth : Option ℕ) (fs : List M.Runs)
+module _ (structs : List StructDef) (params : List Name) (locals env : E.Env) (c_state m_state : E.State) (p : Choice) (depth : Option ℕ) (fs : List M.Runs)
     (same : (x : Name) → is_among x params ≡ true → Same (locals x) (env x)) where
   abbrev runs : Mon → Ends M.Answer M.Failure
-  runs m = M.runs layout p m env depth fs m_state
+  runs m = M.runs (layout structs) p m env depth fs m_state
 
   -- no partial sum is too large: its guards let the rest run
   record Adds (sum : Sum) (n : ℕ) : Type 0 where
-    means : Means locals env c_state m_state (c_sum sum) (exp_of_sum sum) n
+    means : Means structs locals env c_state m_state (c_sum sum) (exp_of_sum sum) n
     only : (rest : Mon) (o : Outcome M.Answer M.Failure) → runs (guarded sum rest) o → runs rest o
     does : (rest : Mon) (o : Outcome M.Answer M.Failure) → runs rest o → runs (guarded sum rest) o
 
   -- some partial sum is
   record Wraps (sum : Sum) : Type 0 where
-    watched : V.value (context locals env c_state m_state Numbers) (c_sum sum) ≡ Err K.Wrap
+    watched : V.value (context structs locals env c_state m_state Numbers) (c_sum sum) ≡ Err K.Wrap
     fails : (rest : Mon) → runs (guarded sum rest) (Failed tt)
 
   data Sums (sum : Sum) : Type 0 where
@@ -51,33 +56,33 @@ module _ (params : List Name) (locals env : E.Env) (c_state m_state : E.State) (
   checked a b rest = Bind (guard (exp_of_sum (Plus a b))) [] rest
 
   abbrev test : Sum → Sum → Bool
-  test a b = E.holds layout env m_state (Between (pos 0) (exp_of_sum (Plus a b)) (pos 4294967295))
+  test a b = E.holds (layout structs) env m_state (Between (pos 0) (exp_of_sum (Plus a b)) (pos 4294967295))
 
   abbrev after : Mon → M.Answer → Ends M.Answer M.Failure
-  after rest a = M.runs layout p rest (bound [] a.values env) depth fs a.state
+  after rest a = M.runs (layout structs) p rest (bound [] a.values env) depth fs a.state
 
   two_sums : (a b : Sum) (m n : ℕ) → Adds a m → Adds b n → Sums (Plus a b)
   two_sums a b m n h k =
-      let is = guard_is locals env c_state m_state (c_sum a) (c_sum b) (exp_of_sum a) (exp_of_sum b) m n h.means k.means in
+      let is = guard_is structs locals env c_state m_state (c_sum a) (c_sum b) (exp_of_sum a) (exp_of_sum b) m n h.means k.means in
       elim (fits_test (m + n)) as (λ t. fits_test (m + n) ≡ t → Sums (Plus a b)) [
         | true ↦ λ t. adds_up (m + n) (record {
-          means = adds locals env c_state m_state (c_sum a) (c_sum b) (exp_of_sum a) (exp_of_sum b) m n h.means k.means t;
+          means = adds structs locals env c_state m_state (c_sum a) (c_sum b) (exp_of_sum a) (exp_of_sum b) m n h.means k.means t;
           only = λ rest o r. tested_only m_state (test a b) (after rest) o (is ∙ t) (k.only (checked a b rest) o (h.only (guarded b (checked a b rest)) o r));
           does = λ rest o r. h.does (guarded b (checked a b rest)) o (k.does (checked a b rest) o (tested_does m_state (test a b) (after rest) o (is ∙ t) r));
         })
         | false ↦ λ t. wraps_round (record {
-          watched = wraps locals env c_state m_state (c_sum a) (c_sum b) (exp_of_sum a) (exp_of_sum b) m n h.means k.means t;
+          watched = wraps structs locals env c_state m_state (c_sum a) (c_sum b) (exp_of_sum a) (exp_of_sum b) m n h.means k.means t;
           fails = λ rest. h.does (guarded b (checked a b rest)) (Failed tt) (k.does (checked a b rest) (Failed tt) (tested_fails m_state (test a b) (after rest) (is ∙ t)));
         })
       ] refl
 
   plus_ends : (a b : Sum) → Sums a → Sums b → Sums (Plus a b)
   plus_ends a b (wraps_round h) k = wraps_round (record {
-    watched = left_undefined locals env c_state m_state (c_sum a) (c_sum b) K.Wrap h.watched;
+    watched = left_undefined structs locals env c_state m_state (c_sum a) (c_sum b) K.Wrap h.watched;
     fails = λ rest. h.fails (guarded b (checked a b rest));
   })
   plus_ends a b (adds_up m h) (wraps_round k) = wraps_round (record {
-    watched = right_undefined locals env c_state m_state (c_sum a) (c_sum b) m K.Wrap h.means.watched k.watched;
+    watched = right_undefined structs locals env c_state m_state (c_sum a) (c_sum b) m K.Wrap h.means.watched k.watched;
     fails = λ rest. h.does (guarded b (checked a b rest)) (Failed tt) (k.fails (checked a b rest));
   })
   plus_ends a b (adds_up m h) (adds_up n k) = two_sums a b m n h k
@@ -90,15 +95,20 @@ module _ (params : List Name) (locals env : E.Env) (c_state m_state : E.State) (
         only = λ rest o r. r;
         does = λ rest o r. r;
       })
-  sum_ends (Constant n) small = adds_up n (record {
-    means = record { small = small; watched = ap Ok (word_is n small); unwatched = ap Ok (word_is n small); is = refl };
+  sum_ends (Constant n) h = adds_up (word 32 n).bits (record {
+    means = record { small = small_constant n; watched = refl; unwatched = refl; is = refl };
+    only = λ rest o r. r;
+    does = λ rest o r. r;
+  })
+  sum_ends (Converted n) h = adds_up (word 32 n).bits (record {
+    means = record { small = small_constant n; watched = ap (λ w. Ok (Bits w)) (converted_is n); unwatched = ap (λ w. Ok (Bits w)) (converted_is n); is = refl };
     only = λ rest o r. r;
     does = λ rest o r. r;
   })
   sum_ends (Plus a b) h = plus_ends a b (sum_ends a h.0) (sum_ends b h.1)
 
 -- one function, from one beginning
-module _ (name : Name) (params : List Name) (sum : Sum) (b : Begin) (heap : Memory → Heap) where
+module _ (structs : List StructDef) (name : Name) (params : List Name) (sum : Sum) (b : Begin) (heap : Memory → Heap) where
   abbrev locals_at : E.Env
   locals_at = c_bound params b.arguments no_env
 
@@ -112,12 +122,12 @@ module _ (name : Name) (params : List Name) (sum : Sum) (b : Begin) (heap : Memo
   m_start = state_of (heap b.memory) b.globals
 
   abbrev below : List M.Runs
-  below = M.functions_below (one.final name params (c_sum sum) (body sum)) b.choice b.turns
+  below = M.functions_below (one.final structs name params (c_sum sum) (body sum)) b.choice b.turns
 
-  abbrev same_at : AreArguments layout (map c_parameter params) b.arguments → (x : Name) → is_among x params ≡ true → Same (locals_at x) (env_at x)
-  same_at arguments x among = parameter_is params b.arguments no_env no_env x arguments among
+  abbrev same_at : AreArguments (layout structs) (map c_parameter params) b.arguments → (x : Name) → is_among x params ≡ true → Same (locals_at x) (env_at x)
+  same_at arguments x among = parameter_is structs params b.arguments no_env no_env x arguments among
 
-  agree : (arguments : AreArguments layout (map c_parameter params) b.arguments) → Sums params locals_at env_at c_start m_start b.choice b.depth below (same_at arguments) sum → one.Agree name params (c_sum sum) (body sum) b heap
+  agree : (arguments : AreArguments (layout structs) (map c_parameter params) b.arguments) → Sums structs params locals_at env_at c_start m_start b.choice b.depth below (same_at arguments) sum → one.Agree structs name params (c_sum sum) (body sum) b heap
   agree arguments (adds_up n h) = one.give n (record {
     watched = h.means.watched;
     unwatched = h.means.unwatched;
@@ -126,24 +136,26 @@ module _ (name : Name) (params : List Name) (sum : Sum) (b : Begin) (heap : Memo
   })
   agree arguments (wraps_round h) = one.overflow (record { watched = h.watched; fails = h.fails (Ret (exp_of_sum sum ∷ [])) })
 
-  sum_exact_from : IsSum params sum → AreArguments layout (map c_parameter params) b.arguments → ExactFrom (one.c_unit name params (c_sum sum) (body sum)) levels (one.final name params (c_sum sum) (body sum)) (one.c_function name params (c_sum sum) (body sum)) b heap
+  sum_exact_from : IsSum params sum → AreArguments (layout structs) (map c_parameter params) b.arguments → ExactFrom (one.c_unit structs name params (c_sum sum) (body sum)) levels (one.final structs name params (c_sum sum) (body sum)) (one.c_function structs name params (c_sum sum) (body sum)) b heap
   sum_exact_from is arguments =
-      one.exact_from name params (c_sum sum) (body sum) b heap
-      (agree arguments (sum_ends params locals_at env_at c_start m_start b.choice b.depth below (same_at arguments) sum is))
+      one.exact_from structs name params (c_sum sum) (body sum) b heap
+      (agree arguments (sum_ends structs params locals_at env_at c_start m_start b.choice b.depth below (same_at arguments) sum is))
 
-exact_of : (u : SumFunction) → IsSum u.params u.sum → Exact (typed_unit_of u) levels (final_unit_of u) (typed_fn_of u)
-exact_of u is = record {
-  on_its_heap = λ b h. sum_exact_from u.name u.params u.sum b (heap_for layout true) is h.arguments;
-  on_bytes = λ _ b h. sum_exact_from u.name u.params u.sum b OnBytes is h.arguments;
+exact_of : (structs : List StructDef) (u : SumFunction) → IsSum u.params u.sum → Exact (typed_unit_of structs (u ∷ [])) levels (final_unit_of structs (u ∷ [])) (typed_fn_of u)
+exact_of structs u is = record {
+  on_its_heap = λ b h. sum_exact_from structs u.name u.params u.sum b (heap_for (layout structs) true) is h.arguments;
+  on_bytes = λ _ b h. sum_exact_from structs u.name u.params u.sum b OnBytes is h.arguments;
 }
 
 found_is : (t : Bool) (f g : C.TypedFn) → (if t then Some f else None) ≡ Some g → f ≡ g
 found_is true f g h = cc
 found_is false f g h = absurd cc
 
-pub sum_exact : (u : SumFunction) → IsSum u.params u.sum → IsExact (typed_unit_of u) levels (final_unit_of u)
-sum_exact u is x f h =
-    subst (λ f. Exact (typed_unit_of u) levels (final_unit_of u) f) (found_is (same_name u.name x) (typed_fn_of u) f h) (exact_of u is)
+pub sum_exact : (structs : List StructDef) (us : List SumFunction) → IsOneSum us → IsExact (typed_unit_of structs us) levels (final_unit_of structs us)
+sum_exact structs [] is x f h = absurd cc
+sum_exact structs (u ∷ []) is x f h =
+    subst (λ f. Exact (typed_unit_of structs (u ∷ [])) levels (final_unit_of structs (u ∷ [])) f) (found_is (same_name u.name x) (typed_fn_of u) f h) (exact_of structs u is)
+sum_exact structs (u ∷ v ∷ us) is x f h = absurd is
 
 -- a test that passes none of the expressions of these programs
 record Skips (test : Exp → Bool) : Type 0 where
@@ -155,12 +167,14 @@ record Skips (test : Exp → Bool) : Type 0 where
 module _ (test : Exp → Bool) (place_test : Place → Bool) (skips : Skips test) where
   sum_skipped : (sum : Sum) → has test (exp_of_sum sum) ≡ false
   sum_skipped (Named x) = skips.var x
-  sum_skipped (Constant n) = skips.number (pos n)
+  sum_skipped (Constant n) = skips.number (constant n)
+  sum_skipped (Converted n) = skips.number (constant n)
   sum_skipped (Plus a b) = λ i. skips.arith_is (exp_of_sum a) (exp_of_sum b) i || sum_skipped a i || sum_skipped b i
 
   guarded_skipped : (sum : Sum) (rest : Mon) → program_has test place_test rest ≡ false → program_has test place_test (guarded sum rest) ≡ false
   guarded_skipped (Named x) rest h = h
   guarded_skipped (Constant n) rest h = h
+  guarded_skipped (Converted n) rest h = h
   guarded_skipped (Plus a b) rest h =
       guarded_skipped a (guarded b (Bind (guard (exp_of_sum (Plus a b))) [] rest))
       (guarded_skipped b (Bind (guard (exp_of_sum (Plus a b))) [] rest)
@@ -170,7 +184,7 @@ module _ (test : Exp → Bool) (place_test : Place → Bool) (skips : Skips test
   body_skipped sum = guarded_skipped sum (Ret (exp_of_sum sum ∷ [])) (λ i. sum_skipped sum i || false)
 
 -- and it is in numbers form
-pub sum_numbers : (sum : Sum) → is_numbers (body sum) ≡ true
+sum_numbers : (sum : Sum) → is_numbers (body sum) ≡ true
 sum_numbers sum = λ i.
     not (body_skipped is_load is_stored (record { var = λ _. refl; number = λ _. refl; arith_is = λ _ _. refl; between = λ _ _ _. refl }) sum i)
     && not (body_skipped is_word_arithmetic no_place (record { var = λ _. refl; number = λ _. refl; arith_is = λ _ _. refl; between = λ _ _ _. refl }) sum i)
@@ -179,10 +193,14 @@ parameters_are : (xs : List Name) → map parameter xs ≡ variables Ilp32 Numbe
 parameters_are [] = refl
 parameters_are (x ∷ xs) = ap (λ bs. parameter x ∷ bs) (parameters_are xs)
 
--- the program is that of the C function, at the level of numbers
-pub sum_programs : (u : SumFunction) → AreProgramsOf (typed_unit_of u) levels (final_unit_of u)
-sum_programs u = record {
-  layout = refl;
-  globals = refl;
-  functions = (record { name = refl; at_level = refl; params = parameters_are u.params; results = refl }, tt);
-}
+functions_are : (us : List SumFunction) → ArePrograms Ilp32 levels (map typed_fn_of us) (map final_fn_of us)
+functions_are [] = tt
+functions_are (u ∷ us) = (record { name = refl; at_level = refl; params = parameters_are u.params; results = refl }, functions_are us)
+
+-- the programs are those of the C functions, at the level of numbers
+pub sum_programs : (structs : List StructDef) (us : List SumFunction) → AreProgramsOf (typed_unit_of structs us) levels (final_unit_of structs us)
+sum_programs structs us = record { layout = refl; globals = refl; functions = functions_are us }
+
+pub all_numbers : (us : List SumFunction) → AreInNumbers (map final_fn_of us)
+all_numbers [] = tt
+all_numbers (u ∷ us) = (sum_numbers u.sum, all_numbers us)

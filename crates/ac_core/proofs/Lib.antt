@@ -1,10 +1,10 @@
 pub mod Spaced
 pub mod Unsigned
-pub mod OneReturn
-pub mod ExactSum
 pub mod ClassIsSum
+pub mod OneReturn
+pub mod Constants
+pub mod ExactSum
 pub mod ParameterNames
-pub mod DistinctNames
 pub mod Commands
 pub mod Complete
 pub mod Told

@@ -4,6 +4,7 @@ use Rattle.std.proofs.Common.{◌≡◌, ℕ, true, false, List, [], ◌∷◌, 
 use Rattle.correspondence.specs.Outcome.{Outcome, Done, Failed, Stopped, Ends, done, given, Then, goes_on, fails, stops}
 use Rattle.c_values.specs.Name.{Name}
 use Rattle.c_values.specs.Types.{Ilp32}
+use Rattle.c_values.specs.Layout.{StructDef}
 use Rattle.c_values.specs.Value.{Value, Number}
 use Rattle.c_memory.specs.Memory.{Memory}
 use Rattle.c_memory.specs.Heap.{Heap, OnBytes, OnTypes}
@@ -50,7 +51,7 @@ returned_fails : (r : V.Defined Value) (k : K.GuardKind) (m : Machine) → r ≡
 returned_fails r k m h = subst (λ r. returned r m (Failed k)) (sym h) (fails (fails (fails refl)))
 
 -- the function and its program
-module _ (name : Name) (params : List Name) (e : C.Expr) (body : Mon) where
+module _ (structs : List StructDef) (name : Name) (params : List Name) (e : C.Expr) (body : Mon) where
   abbrev pub c_function : C.TypedFn
   c_function = record {
     name = name;
@@ -62,13 +63,13 @@ module _ (name : Name) (params : List Name) (e : C.Expr) (body : Mon) where
   }
 
   abbrev pub c_unit : C.TypedUnit
-  c_unit = record { layout = layout; globals = []; functions = c_function ∷ [] }
+  c_unit = record { layout = layout structs; globals = []; functions = c_function ∷ [] }
 
   abbrev final_function : FinalFn
   final_function = record { name = name; level = Numbers; params = map parameter params; results = NatKind 32 ∷ []; body = body }
 
   abbrev pub final : FinalUnit
-  final = record { layout = layout; globals = []; functions = final_function ∷ [] }
+  final = record { layout = layout structs; globals = []; functions = final_function ∷ [] }
 
   module _ (b : Begin) (heap : Memory → Heap) where
     abbrev pub machine : Machine
@@ -81,10 +82,10 @@ module _ (name : Name) (params : List Name) (e : C.Expr) (body : Mon) where
     start = state_of (heap b.memory) b.globals
 
     abbrev c_value : Level → V.Defined Value
-    c_value level = V.value (context machine.locals environment machine.state start level) e
+    c_value level = V.value (context structs machine.locals environment machine.state start level) e
 
     abbrev pub program : Ends M.Answer M.Failure
-    program = M.runs layout b.choice body environment b.depth (M.functions_below final b.choice b.turns) start
+    program = M.runs (layout structs) b.choice body environment b.depth (M.functions_below final b.choice b.turns) start
 
     abbrev number_answer : ℕ → M.Answer
     number_answer n = record { values = Number (pos n) ∷ []; state = start }
@@ -115,10 +116,10 @@ module _ (name : Name) (params : List Name) (e : C.Expr) (body : Mon) where
     plain_ends = c_ends c_unit R.plain c_function b
 
     c_ends_are : (watch : Name → Level) → c_ends c_unit watch c_function b ≡ returned (c_value (watch name)) machine
-    c_ends_are watch = ap (λ t. R.function_runs layout b.choice watch (if t then Some c_function else None) b.depth (R.functions_below c_unit watch b.choice b.turns) (record { name = name; arguments = b.arguments; state = machine.state })) (same_itself name)
+    c_ends_are watch = ap (λ t. R.function_runs (layout structs) b.choice watch (if t then Some c_function else None) b.depth (R.functions_below c_unit watch b.choice b.turns) (record { name = name; arguments = b.arguments; state = machine.state })) (same_itself name)
 
     program_ends_are : p_ends ≡ program
-    program_ends_are = ap (λ t. M.function_runs layout b.choice (if t then Some final_function else None) b.depth (M.functions_below final b.choice b.turns) (record { name = name; arguments = views_at (kinds_of (variables Ilp32 Numbers (map c_parameter params))) b.arguments; state = start })) (same_itself name)
+    program_ends_are = ap (λ t. M.function_runs (layout structs) b.choice (if t then Some final_function else None) b.depth (M.functions_below final b.choice b.turns) (record { name = name; arguments = views_at (kinds_of (variables Ilp32 Numbers (map c_parameter params))) b.arguments; state = start })) (same_itself name)
 
     to_program : (end : Outcome M.Answer M.Failure) → p_ends end → program end
     to_program end h = subst (λ (q : Ends M.Answer M.Failure). q end) program_ends_are h
@@ -150,13 +151,13 @@ module _ (name : Name) (params : List Name) (e : C.Expr) (body : Mon) where
       memory_in (OnBytes m) = m
       memory_in (OnTypes cells) = b.memory
 
-      returns_as : (r : M.Answer) → p_ends (Done r) → ReturnsAs layout (Some (NatKind 32)) heap plain_ends r
+      returns_as : (r : M.Answer) → p_ends (Done r) → ReturnsAs (layout structs) (Some (NatKind 32)) heap plain_ends r
       returns_as r h =
           let is : r ≡ number_answer n = p_only (Done r) h in
-          subst (λ r. ReturnsAs layout (Some (NatKind 32)) heap plain_ends r) (sym is)
+          subst (λ r. ReturnsAs (layout structs) (Some (NatKind 32)) heap plain_ends r) (sym is)
           (record { value = Some (bits n); memory = b.memory; returns = plain_does; values = refl; heap_is = refl })
 
-      given_back : (r : M.Answer) → ReturnsAs layout (Some (NatKind 32)) heap plain_ends r → p_ends (Done r)
+      given_back : (r : M.Answer) → ReturnsAs (layout structs) (Some (NatKind 32)) heap plain_ends r → p_ends (Done r)
       given_back r h =
           let is : record { result = h.value; state = state_of (OnBytes h.memory) r.state.globals } ≡ result (bits n) machine = plain_only (Done (record { result = h.value; state = state_of (OnBytes h.memory) r.state.globals })) h.returns in
           let values : r.values ≡ Number (pos n) ∷ [] = h.values ∙ ap (λ z. seen (Some (NatKind 32)) z.result) is in
@@ -164,11 +165,11 @@ module _ (name : Name) (params : List Name) (e : C.Expr) (body : Mon) where
           let globals : r.state.globals ≡ b.globals = ap (λ z. z.state.globals) is in
           subst (λ r. p_ends (Done r)) (λ i. record { values = sym values i; state = record { heap = sym heap_is i; globals = sym globals i } }) p_does
 
-      keeps_all : (r : Returned) (m : Memory) → plain_ends (Done r) → r.state.heap ≡ OnBytes m → KeepsMemory layout true b.memory m
+      keeps_all : (r : Returned) (m : Memory) → plain_ends (Done r) → r.state.heap ≡ OnBytes m → KeepsMemory (layout structs) true b.memory m
       keeps_all r m h e =
           let is : r ≡ result (bits n) machine = plain_only (Done r) h in
           let memory : b.memory ≡ m = sym (ap (λ z. memory_in z.state.heap) is) ∙ ap memory_in e in
-          subst (λ m. KeepsMemory layout true b.memory m) memory (record { tags = refl; bytes = λ _ x _. refl })
+          subst (λ m. KeepsMemory (layout structs) true b.memory m) memory (record { tags = refl; bytes = λ _ x _. refl })
 
       give_exact : ExactFrom c_unit levels final c_function b heap
       give_exact = record {

@@ -11,6 +11,7 @@ use Rattle.c_values.specs.Word.{word}
 use Rattle.c_values.specs.Number.{Add, number_op, is_between}
 use Rattle.c_values.specs.Value.{Value, Bits, Number, Truth, Parts, number_in}
 use Rattle.c_values.specs.Path.{IsBits}
+use Rattle.c_values.specs.Layout.{StructDef}
 use Rattle.ac_expr.specs.Expression.{Exp, Arith, Between}
 use Rattle.ac_expr.specs.Sort.{Level, Bytes, Numbers, NatKind}
 use Rattle.ac_expr.specs.Evaluation as E
@@ -65,12 +66,12 @@ same_with : (v w a b : Value) (t : Bool) → Same v w → Same a b → Same (if 
 same_with v w a b true h k = h
 same_with v w a b false h k = k
 
-keeps : (xs : List Name) (vs : List Value) (c m : E.Env) (y : Name) → AreArguments layout (map c_parameter xs) vs → Same (c y) (m y) → Same (c_bound xs vs c y) (m_bound xs vs m y)
-keeps [] [] c m y h s = s
-keeps [] (v ∷ vs) c m y h s = absurd h
-keeps (x ∷ xs) [] c m y h s = absurd h
-keeps (x ∷ xs) (v ∷ vs) c m y h s =
-    keeps xs vs (with_name x v c) (with_name x (view_at (NatKind 32) v) m) y h.1
+keeps : (structs : List StructDef) (xs : List Name) (vs : List Value) (c m : E.Env) (y : Name) → AreArguments (layout structs) (map c_parameter xs) vs → Same (c y) (m y) → Same (c_bound xs vs c y) (m_bound xs vs m y)
+keeps structs [] [] c m y h s = s
+keeps structs [] (v ∷ vs) c m y h s = absurd h
+keeps structs (x ∷ xs) [] c m y h s = absurd h
+keeps structs (x ∷ xs) (v ∷ vs) c m y h s =
+    keeps structs xs vs (with_name x v c) (with_name x (view_at (NatKind 32) v) m) y h.1
     (same_with v (view_at (NatKind 32) v) (c y) (m y) (same_name x y) (argument_is v h.0) s)
 
 -- a name is this one, or among the others
@@ -82,14 +83,14 @@ this_or_other {P} x y others h this other =
     ] refl h
 
 -- each parameter stands for the same on both sides
-pub parameter_is : (xs : List Name) (vs : List Value) (c m : E.Env) (x : Name) → AreArguments layout (map c_parameter xs) vs → is_among x xs ≡ true → Same (c_bound xs vs c x) (m_bound xs vs m x)
-parameter_is [] vs c m x h among = absurd (false≢true among)
-parameter_is (y ∷ ys) [] c m x h among = absurd h
-parameter_is (y ∷ ys) (v ∷ vs) c m x h among =
+pub parameter_is : (structs : List StructDef) (xs : List Name) (vs : List Value) (c m : E.Env) (x : Name) → AreArguments (layout structs) (map c_parameter xs) vs → is_among x xs ≡ true → Same (c_bound xs vs c x) (m_bound xs vs m x)
+parameter_is structs [] vs c m x h among = absurd (false≢true among)
+parameter_is structs (y ∷ ys) [] c m x h among = absurd h
+parameter_is structs (y ∷ ys) (v ∷ vs) c m x h among =
     this_or_other {P = Same (c_bound (y ∷ ys) (v ∷ vs) c x) (m_bound (y ∷ ys) (v ∷ vs) m x)} x y (is_among x ys) among
-    (λ same. keeps ys vs (with_name y v c) (with_name y (view_at (NatKind 32) v) m) x h.1
+    (λ same. keeps structs ys vs (with_name y v c) (with_name y (view_at (NatKind 32) v) m) x h.1
     (subst (λ t. Same (if t then v else c x) (if t then view_at (NatKind 32) v else m x)) (sym same) (argument_is v h.0)))
-    (λ other. parameter_is ys vs (with_name y v c) (with_name y (view_at (NatKind 32) v) m) x h.1 other)
+    (λ other. parameter_is structs ys vs (with_name y v c) (with_name y (view_at (NatKind 32) v) m) x h.1 other)
 
 and_right : (a b : Bool) → (a && b) ≡ true → b ≡ true
 and_right true b h = h
@@ -124,46 +125,46 @@ module _ (state : E.State) where
   tested_fails false rest h = fails refl
 
 -- where the expressions of one function are evaluated
-module _ (locals env : E.Env) (c_state m_state : E.State) where
+module _ (structs : List StructDef) (locals env : E.Env) (c_state m_state : E.State) where
   abbrev pub context : Level → V.Context
-  context level = record { layout = layout; level = level; locals = locals; state = c_state }
+  context level = record { layout = layout structs; level = level; locals = locals; state = c_state }
 
   -- a C expression and an abstract one have this number, watched or not
   pub record Means (a : C.Expr) (e : Exp) (n : ℕ) : Type 0 where
     pub small : n < 2 ^ 32
     pub watched : V.value (context Numbers) a ≡ Ok (bits n)
     pub unwatched : V.value (context Bytes) a ≡ Ok (bits n)
-    pub is : E.value layout env m_state e ≡ Number (pos n)
+    pub is : E.value (layout structs) env m_state e ≡ Number (pos n)
 
   -- a sum in C, whatever is watched
-  computed_is : (level : Level) (a b : C.Expr) (m n : ℕ) → V.value (context level) a ≡ Ok (bits m) → V.value (context level) b ≡ Ok (bits n) → V.value (context level) (C.Compute C.Add UInt a b) ≡ V.fitted layout level UInt (pos (m + n))
+  computed_is : (level : Level) (a b : C.Expr) (m n : ℕ) → V.value (context level) a ≡ Ok (bits m) → V.value (context level) b ≡ Ok (bits n) → V.value (context level) (C.Compute C.Add UInt a b) ≡ V.fitted (layout structs) level UInt (pos (m + n))
   computed_is level a b m n h k =
-      ap (λ r. r >>= λ v. V.value (context level) b >>= λ w. V.computed layout level UInt C.Add (V.number_at UInt v) (V.number_at UInt w)) h
-      ∙ ap (λ r. r >>= λ w. V.computed layout level UInt C.Add (pos m) (V.number_at UInt w)) k
+      ap (λ r. r >>= λ v. V.value (context level) b >>= λ w. V.computed (layout structs) level UInt C.Add (V.number_at UInt v) (V.number_at UInt w)) h
+      ∙ ap (λ r. r >>= λ w. V.computed (layout structs) level UInt C.Add (pos m) (V.number_at UInt w)) k
 
   -- an undefined operand makes a sum undefined
   pub left_undefined : (a b : C.Expr) (k : K.GuardKind) → V.value (context Numbers) a ≡ Err k → V.value (context Numbers) (C.Compute C.Add UInt a b) ≡ Err k
   left_undefined a b k h =
-      ap (λ r. r >>= λ v. V.value (context Numbers) b >>= λ w. V.computed layout Numbers UInt C.Add (V.number_at UInt v) (V.number_at UInt w)) h
+      ap (λ r. r >>= λ v. V.value (context Numbers) b >>= λ w. V.computed (layout structs) Numbers UInt C.Add (V.number_at UInt v) (V.number_at UInt w)) h
 
   pub right_undefined : (a b : C.Expr) (m : ℕ) (k : K.GuardKind) → V.value (context Numbers) a ≡ Ok (bits m) → V.value (context Numbers) b ≡ Err k → V.value (context Numbers) (C.Compute C.Add UInt a b) ≡ Err k
   right_undefined a b m k g h =
-      ap (λ r. r >>= λ v. V.value (context Numbers) b >>= λ w. V.computed layout Numbers UInt C.Add (V.number_at UInt v) (V.number_at UInt w)) g
-      ∙ ap (λ r. r >>= λ w. V.computed layout Numbers UInt C.Add (pos m) (V.number_at UInt w)) h
+      ap (λ r. r >>= λ v. V.value (context Numbers) b >>= λ w. V.computed (layout structs) Numbers UInt C.Add (V.number_at UInt v) (V.number_at UInt w)) g
+      ∙ ap (λ r. r >>= λ w. V.computed (layout structs) Numbers UInt C.Add (pos m) (V.number_at UInt w)) h
 
   -- with numbers a sum that doesn't fit is undefined, and otherwise it has its value
-  watched_is : (n : ℕ) → fits_test n ≡ true → V.fitted layout Numbers UInt (pos n) ≡ Ok (bits n)
+  watched_is : (n : ℕ) → fits_test n ≡ true → V.fitted (layout structs) Numbers UInt (pos n) ≡ Ok (bits n)
   watched_is n t =
-      ap (λ b. V.unless b K.Wrap (Ok (V.value_at layout UInt (pos n)))) t ∙ ap Ok (word_is n (small_sum n t))
+      ap (λ b. V.unless b K.Wrap (Ok (V.value_at (layout structs) UInt (pos n)))) t ∙ ap Ok (word_is n (small_sum n t))
 
-  watched_wraps : (n : ℕ) → fits_test n ≡ false → V.fitted layout Numbers UInt (pos n) ≡ Err K.Wrap
-  watched_wraps n t = ap (λ b. V.unless b K.Wrap (Ok (V.value_at layout UInt (pos n)))) t
+  watched_wraps : (n : ℕ) → fits_test n ≡ false → V.fitted (layout structs) Numbers UInt (pos n) ≡ Err K.Wrap
+  watched_wraps n t = ap (λ b. V.unless b K.Wrap (Ok (V.value_at (layout structs) UInt (pos n)))) t
 
-  unwatched_is : (n : ℕ) → fits_test n ≡ true → V.fitted layout Bytes UInt (pos n) ≡ Ok (bits n)
+  unwatched_is : (n : ℕ) → fits_test n ≡ true → V.fitted (layout structs) Bytes UInt (pos n) ≡ Ok (bits n)
   unwatched_is n t =
-      ap (λ b. V.unless (b || true) K.Signed (Ok (V.value_at layout UInt (pos n)))) t ∙ ap Ok (word_is n (small_sum n t))
+      ap (λ b. V.unless (b || true) K.Signed (Ok (V.value_at (layout structs) UInt (pos n)))) t ∙ ap Ok (word_is n (small_sum n t))
 
-  added_number : (e x : Exp) (m n : ℕ) → E.value layout env m_state e ≡ Number (pos m) → E.value layout env m_state x ≡ Number (pos n) → E.value layout env m_state (Arith Add e x) ≡ Number (pos (m + n))
+  added_number : (e x : Exp) (m n : ℕ) → E.value (layout structs) env m_state e ≡ Number (pos m) → E.value (layout structs) env m_state x ≡ Number (pos n) → E.value (layout structs) env m_state (Arith Add e x) ≡ Number (pos (m + n))
   added_number e x m n h k = λ i. Number (number_op Add (number_in (h i)) (number_in (k i)))
 
   pub adds : (a b : C.Expr) (e x : Exp) (m n : ℕ) → Means a e m → Means b x n → fits_test (m + n) ≡ true → Means (C.Compute C.Add UInt a b) (Arith Add e x) (m + n)
@@ -179,5 +180,5 @@ module _ (locals env : E.Env) (c_state m_state : E.State) where
   wraps a b e x m n h k t = computed_is Numbers a b m n h.watched k.watched ∙ watched_wraps (m + n) t
 
   -- the guard's test is the test of the sum
-  pub guard_is : (a b : C.Expr) (e x : Exp) (m n : ℕ) → Means a e m → Means b x n → E.holds layout env m_state (Between (pos 0) (Arith Add e x) (pos 4294967295)) ≡ fits_test (m + n)
+  pub guard_is : (a b : C.Expr) (e x : Exp) (m n : ℕ) → Means a e m → Means b x n → E.holds (layout structs) env m_state (Between (pos 0) (Arith Add e x) (pos 4294967295)) ≡ fits_test (m + n)
   guard_is a b e x m n h k = λ i. is_between (pos 0) (number_in (added_number e x m n h.is k.is i)) (pos 4294967295)

@@ -17,9 +17,13 @@ use Rattle.ac_base.specs.Count.{Rose}
 use Rattle.ac_base.specs.Shelf.{AreWhole, IsLonger}
 use Rattle.ac_base.specs.Sink.{grown, TakesPart}
 use Rattle.ac_core.specs.Words.{command_of, plain_show}
-use Rattle.ac_core.specs.Sum.{SumFunction, typed_unit_of, levels}
+use Rattle.c_values.specs.Types.{Ilp32}
+use Rattle.c_typed.specs.Typed.{TypedUnit}
+use Rattle.c_typing.specs.Unit.{IsTyped, IsFirstBad}
+use Rattle.c_typing.specs.declared.fault.TypeKind.{TypeKind}
+use Rattle.ac_core.specs.Sum.{SumFunction, levels}
 use Rattle.ac_core.specs.Class.{class_of}
-use Rattle.ac_core.specs.Refusal.{cause_text, source_line, limit_line}
+use Rattle.ac_core.specs.Refusal.{cause_text, kind_text, source_line, limit_line}
 use Rattle.ac_core.specs.Exact.{AreProgramsOf, IsExact}
 use Rattle.ac_core.specs.ProgramText.{unit_text}
 use Rattle.ac_core.specs.declared.status.Status.{Status}
@@ -39,27 +43,45 @@ pub record IsTree (ts : List Lexeme) (tree : List External) : Type 0 where
   pub spells : Spells tree ts
   pub within : first_limit tree ≡ None
 
--- The tree is of the class that is shown, and what is written is the text of the program of its C function: at the level of
+-- The unit is of the class that is shown, and what is written is the text of the programs of its C functions: at the level of
 -- numbers, in numbers form, and exact.
-pub record ShowsExact (tree : List External) (lines : List ℕ) : Type 0 where
-  pub function : SumFunction
+pub record ShowsExact (unit : TypedUnit) (lines : List ℕ) : Type 0 where
+  pub functions : List SumFunction
   pub programs : FinalUnit
-  pub of_class : class_of tree ≡ Some function
-  pub of_unit : AreProgramsOf (typed_unit_of function) levels programs
-  pub exact : IsExact (typed_unit_of function) levels programs
+  pub of_class : class_of unit ≡ Some functions
+  pub of_unit : AreProgramsOf unit levels programs
+  pub exact : IsExact unit levels programs
   pub numbers : AreInNumbers programs.functions
   pub written : lines ≡ unit_text programs
 
--- the tree is of no class that is shown so far
-pub record ShowsNothing (tree : List External) (lines : List ℕ) : Type 0 where
-  pub of_no_class : class_of tree ≡ None
+-- the unit is of no class that is shown so far
+pub record ShowsNothing (unit : TypedUnit) (lines : List ℕ) : Type 0 where
+  pub of_no_class : class_of unit ≡ None
   pub written : lines ≡ codes "not yet\n"
+
+-- the answer to a typed text
+abbrev pub IsUnitAnswer : TypedUnit → Status → List ℕ → Type 0
+IsUnitAnswer unit Done lines = ShowsExact unit lines
+IsUnitAnswer unit NotYet lines = ShowsNothing unit lines
+IsUnitAnswer unit _ lines = ⊥
+
+-- the text is typed as a unit, and this is the answer to that
+pub record OfUnit (tree : List External) (status : Status) (lines : List ℕ) : Type 0 where
+  pub unit : TypedUnit
+  pub typed : IsTyped Ilp32 tree unit
+  pub answer : IsUnitAnswer unit status lines
+
+-- the text isn't typed: this is its first bad node, and what is wrong with it
+pub record IsUntyped (tree : List External) (lines : List ℕ) : Type 0 where
+  pub at : ℕ
+  pub kind : TypeKind
+  pub first_bad : IsFirstBad Ilp32 tree at kind
+  pub written : lines ≡ source_line (kind_text kind) at
 
 -- the answer to a tree
 abbrev pub IsTreeAnswer : List External → Status → List ℕ → Type 0
-IsTreeAnswer tree Done lines = ShowsExact tree lines
-IsTreeAnswer tree NotYet lines = ShowsNothing tree lines
-IsTreeAnswer tree _ lines = ⊥
+IsTreeAnswer tree Source lines = IsUntyped tree lines
+IsTreeAnswer tree status lines = OfUnit tree status lines
 
 -- a tree spells the tokens and passes no limit, and this is the answer to it
 pub record OfTree (ts : List Lexeme) (status : Status) (lines : List ℕ) : Type 0 where
@@ -83,7 +105,7 @@ pub record IsPast (ts : List Lexeme) (lines : List ℕ) : Type 0 where
 
 -- the answer to the tokens of a text
 abbrev pub IsTokensAnswer : List Lexeme → Status → List ℕ → Type 0
-IsTokensAnswer ts Source lines = IsNoTree ts lines
+IsTokensAnswer ts Source lines = IsNoTree ts lines ⊎ OfTree ts Source lines
 IsTokensAnswer ts Limit lines = IsPast ts lines
 IsTokensAnswer ts status lines = OfTree ts status lines
 

@@ -1,72 +1,84 @@
--- The class of texts that are shown: one function whose result and parameters are unsigned ints, at least one, with names of
--- their own, and whose body returns a sum of the parameters and of constants of type unsigned int (C99 6.9.1, 6.5.6).
-use Rattle.std.specs.Prelude.{ℕ, ◌==◌, Bool, true, false, not, ◌&&◌, nat_lt, nat_le, List, [], ◌∷◌, Option, Some, None, if◌then◌else◌}
+-- The class of typed texts that are shown: no globals, and at most one function, whose result and parameters are unsigned ints,
+-- which has no locals, and whose body returns a sum of the parameters, of constants of type unsigned int, and of constants of
+-- type int that are converted to it (C99 6.5.6, 6.9.1). The target is ILP32.
+use Rattle.std.specs.Prelude.{Bool, true, false, not, ◌&&◌, List, [], ◌∷◌, Option, Some, None, if◌then◌else◌}
 use Rattle.c_values.specs.Name.{Name, is_among}
-use Rattle.ac_expr.specs.Sorted.{are_distinct}
-use Rattle.c_lex.specs.declared.token.Keyword.TheVariants as word
-use Rattle.c_grammar.specs.declared.operator.BinaryOperator.{BinaryOperator}
-use Rattle.c_grammar.specs.declared.operator.BinaryOperator.TheVariants as binary
-use Rattle.c_grammar.specs.Tree as T
-use Rattle.ac_core.specs.Sum.{Sum, Named, Constant, Plus, SumFunction}
+use Rattle.c_values.specs.Types.{Target, Ilp32, Lp64, Int, UInt, CType, Integer}
+use Rattle.c_typed.specs.Typed as C
+use Rattle.ac_core.specs.Sum.{Sum, Named, Constant, Converted, Plus, SumFunction}
 
--- the one word `unsigned`
-abbrev pub is_unsigned : T.Words → Bool
-is_unsigned (T.MoreWords (T.Reserved at word.Unsigned) T.NoWords) = true
+abbrev pub is_ilp32 : Target → Bool
+is_ilp32 Ilp32 = true
+is_ilp32 Lp64 = false
+
+abbrev pub is_unsigned : CType → Bool
+is_unsigned (Integer UInt) = true
 is_unsigned _ = false
-
--- a name without stars and array lengths
-abbrev pub plain_name : T.Declarator → Option Name
-plain_name (T.Declare [] at x T.NoDimensions) = Some x
-plain_name _ = None
-
-abbrev pub named : Bool → Option (ℕ × Name) → Option Name
-named true (Some x) = Some x.1
-named _ _ = None
-
--- `unsigned NAME`
-abbrev pub parameter_name : T.Param → Option Name
-parameter_name (T.Parameter words [] x T.NoBracket) = named (is_unsigned words) x
-parameter_name _ = None
 
 abbrev pub one_more : Option Name → Option (List Name) → Option (List Name)
 one_more (Some x) (Some xs) = Some (x ∷ xs)
 one_more _ _ = None
 
-abbrev pub parameter_names : List T.Param → Option (List Name)
-parameter_names [] = Some []
-parameter_names (p ∷ ps) = one_more (parameter_name p) (parameter_names ps)
+abbrev pub unsigned_name : C.Variable → Option Name
+unsigned_name v = if is_unsigned v.type then Some v.name else None
 
--- What `return` gives, in a body that is this one statement. A call is no value.
-abbrev pub returned : T.Items → Option T.Exp
-returned (T.StatementItem (T.Return at (Some (T.Value e))) T.NoItems) = Some e
+-- the names of parameters that are unsigned ints, each
+abbrev pub unsigned_names : List C.Variable → Option (List Name)
+unsigned_names [] = Some []
+unsigned_names (v ∷ vs) = one_more (unsigned_name v) (unsigned_names vs)
+
+abbrev pub plus : Option Sum → Option Sum → Option Sum
+plus (Some a) (Some b) = Some (Plus a b)
+plus _ _ = None
+
+-- an unsigned int's conversion is of a constant int alone
+abbrev pub converted : C.Expr → Option Sum
+converted (C.Constant Int n) = Some (Converted n)
+converted _ = None
+
+abbrev pub sum_of : List Name → C.Expr → Option Sum
+sum_of params (C.Local x t) = if is_unsigned t && is_among x params then Some (Named x) else None
+sum_of params (C.Constant UInt n) = Some (Constant n)
+sum_of params (C.Convert (Integer UInt) a) = converted a
+sum_of params (C.Compute C.Add UInt a b) = plus (sum_of params a) (sum_of params b)
+sum_of params _ = None
+
+-- what a body gives that is one return
+abbrev pub returned : C.Statements → Option C.Expr
+returned (C.next (C.Return e) C.no_statements) = Some e
 returned _ = None
-
--- The constant's type is unsigned int where an int has 32 bits (C99 6.4.4.1): with the suffix `u` alone where the type holds the
--- value, and with no suffix where it isn't decimal and the ints end before it.
-abbrev pub is_unsigned_int : ℕ → Bool → Bool → ℕ → Bool
-is_unsigned_int n decimal true longs = (longs == 0) && nat_lt n 4294967296
-is_unsigned_int n decimal false longs = (longs == 0) && not decimal && nat_le 2147483648 n && nat_lt n 4294967296
-
-abbrev pub added : BinaryOperator → Option Sum → Option Sum → Option Sum
-added binary.Add (Some a) (Some b) = Some (Plus a b)
-added _ _ _ = None
-
--- parentheses group, and are nothing else
-abbrev pub sum_in : List Name → T.Exp → Option Sum
-sum_in params (T.Variable at x) = if is_among x params then Some (Named x) else None
-sum_in params (T.Number at n decimal u longs) = if is_unsigned_int n decimal u longs then Some (Constant n) else None
-sum_in params (T.Parenthesis at e) = sum_in params e
-sum_in params (T.Binary op a b) = added op (sum_in params a) (sum_in params b)
-sum_in params _ = None
 
 abbrev pub function_with : Name → List Name → Option Sum → Option SumFunction
 function_with name params (Some sum) = Some (record { name = name; params = params; sum = sum })
 function_with name params None = None
 
-abbrev pub sum_function : Option Name → Option (List Name) → Option T.Exp → Option SumFunction
-sum_function (Some name) (Some (x ∷ xs)) (Some e) = if are_distinct (x ∷ xs) then function_with name (x ∷ xs) (sum_in (x ∷ xs) e) else None
-sum_function _ _ _ = None
+abbrev pub function_of : Name → Option (List Name) → Option C.Expr → Option SumFunction
+function_of name (Some params) (Some e) = function_with name params (sum_of params e)
+function_of _ _ _ = None
 
-abbrev pub class_of : T.Unit' → Option SumFunction
-class_of (T.Function words declarator params items ∷ []) = if is_unsigned words then sum_function (plain_name declarator) (parameter_names params) (returned items) else None
-class_of _ = None
+abbrev pub gives_unsigned : Option CType → Bool
+gives_unsigned (Some t) = is_unsigned t
+gives_unsigned None = false
+
+abbrev pub is_empty : {A : Type 0} → List A → Bool
+is_empty [] = true
+is_empty (x ∷ xs) = false
+
+-- nothing but a body: no local, and no conversion of pointers that is folded away
+abbrev pub is_bare : C.TypedFn → Bool
+is_bare f = gives_unsigned f.result && is_empty f.locals && not f.folds_cast
+
+abbrev pub sum_function : C.TypedFn → Option SumFunction
+sum_function f = if is_bare f then function_of f.name (unsigned_names f.params) (returned f.body) else None
+
+abbrev pub one_function : Option SumFunction → Option (List SumFunction)
+one_function (Some u) = Some (u ∷ [])
+one_function None = None
+
+abbrev pub sum_functions : List C.TypedFn → Option (List SumFunction)
+sum_functions [] = Some []
+sum_functions (f ∷ []) = one_function (sum_function f)
+sum_functions (f ∷ g ∷ fs) = None
+
+abbrev pub class_of : C.TypedUnit → Option (List SumFunction)
+class_of u = if is_ilp32 u.layout.target && is_empty u.globals then sum_functions u.functions else None

@@ -2,7 +2,6 @@ pub mod Exact
 pub mod Triple
 pub mod ProgramText
 pub mod Words
-pub mod Code
 pub mod Sum
 pub mod SumCode
 pub mod Refusal

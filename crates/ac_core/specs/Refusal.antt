@@ -3,6 +3,8 @@ use Rattle.std.specs.Prelude.{ℕ, List, ◌++◌, codes}
 use Rattle.std.specs.Fmt.{decimal}
 use Rattle.c_lex.specs.Front.{Cause, bad_byte, bad_number, open_comment, unsupported, long_name}
 use Rattle.c_lex.specs.Unsupported.{unsupported_text}
+use Rattle.c_typing.specs.declared.fault.TypeKind.{TypeKind}
+use Rattle.c_typing.specs.declared.fault.TypeKind.TheVariants as kind
 use Rattle.c_limits.specs.declared.limits.Limit.{Limit}
 use Rattle.c_limits.specs.declared.limits.Limit.TheVariants.{Functions, Statements, Blocks, Depth, Nodes}
 
@@ -13,6 +15,19 @@ cause_text bad_number = codes "bad number"
 cause_text open_comment = codes "open comment"
 cause_text (unsupported word) = codes "unsupported " ++ unsupported_text word
 cause_text long_name = codes "long name"
+
+-- what is wrong with a node that isn't typed
+abbrev pub kind_text : TypeKind → List ℕ
+kind_text kind.Unknown = codes "unknown"
+kind_text kind.Twice = codes "twice"
+kind_text kind.Mismatch = codes "mismatch"
+kind_text kind.NotLvalue = codes "not an lvalue"
+kind_text kind.Incomplete = codes "incomplete"
+kind_text kind.NoBody = codes "no body"
+kind_text kind.Arity = codes "arity"
+kind_text kind.FallThrough = codes "fall through"
+kind_text kind.OutOfSubset = codes "out of subset"
+kind_text kind.Large = codes "too large"
 
 -- a kind of refusal, and the offset of its place
 abbrev pub source_line : List ℕ → ℕ → List ℕ

@@ -3,20 +3,23 @@
 ghost use Rattle.std.specs.Prelude.{◌≡◌, ◌≤◌, ℕ, List, map, length, IfOk, None, Some, codes, string_bytes, ◌++◌};
 ghost use Rattle.ac_core.specs.Words.{command_of, plain_show};
 ghost use Rattle.c_lex.specs.Lexeme.{lexemes_of};
-ghost use Rattle.c_grammar.specs.View.{unit_of};
-ghost use Rattle.ac_core.specs.Answer.{IsAnswer, IsUnshown, IsFileAnswer, IsTextAnswer, IsTokensAnswer, IsTreeAnswer};
+ghost use Rattle.c_grammar.specs.View.{unit_of as tree_of};
+ghost use Rattle.c_typed.specs.View.{unit_of};
+ghost use Rattle.ac_core.specs.Answer.{IsAnswer, IsUnshown, IsFileAnswer, IsTextAnswer, IsTokensAnswer, IsTreeAnswer, IsUnitAnswer};
 ghost use Rattle.ac_core.specs.declared.status.Status.{Status};
 
 use crate::Status;
 use crate::class::class_of;
 use crate::program_text::write_program;
-use crate::refusal::{lex_refusal, past, syntax};
+use crate::refusal::{lex_refusal, past, syntax, untyped};
 use crate::sum::translate;
 use crate::words::{is_form, shown_file};
 use ac_base::{ReadTrouble, Shelf, read_whole};
 use c_grammar::tree::Unit;
 use c_lex::{Token, tokens};
 use c_parse::{ParseFault, parse};
+use c_types::{TypeFault, TypedUnit, check_unit};
+use c_values::Target;
 use std::alloc::{AllocError, Global};
 
 /// A status with the lines of the answer.
@@ -87,7 +90,7 @@ fn show_tokens(alloc: Global, tokens: &[Token]) -> Result<Answer, AllocError>
     ensures { IfOk result (λ a. IsTokensAnswer (lexemes_of tokens.now) a.status a.lines.items) }
 {
     match parse(alloc, tokens) {
-        Ok(unit) => show_unit(alloc, &unit),
+        Ok(tree) => show_tree(alloc, &tree),
         Err(ParseFault::Syntax(at)) => syntax(alloc, at),
         Err(ParseFault::Limit(limit, _at)) => past(alloc, limit),
         Err(ParseFault::Memory) => Err(AllocError),
@@ -95,13 +98,24 @@ fn show_tokens(alloc: Global, tokens: &[Token]) -> Result<Answer, AllocError>
 }
 
 // What is shown of a tree.
-fn show_unit(alloc: Global, unit: &Unit) -> Result<Answer, AllocError>
-    ensures { IfOk result (λ a. IsTreeAnswer (unit_of unit.now) a.status a.lines.items) }
+fn show_tree(alloc: Global, tree: &Unit) -> Result<Answer, AllocError>
+    ensures { IfOk result (λ a. IsTreeAnswer (tree_of tree.now) a.status a.lines.items) }
 {
-    match class_of(alloc, unit)? {
+    match check_unit(alloc, Target::Ilp32, tree) {
+        Ok(unit) => show_unit(alloc, unit),
+        Err(TypeFault::Bad { at, kind }) => untyped(alloc, at, kind),
+        Err(TypeFault::Memory) => Err(AllocError),
+    }
+}
+
+// What is shown of a typed text.
+fn show_unit(alloc: Global, unit: TypedUnit) -> Result<Answer, AllocError>
+    ensures { IfOk result (λ a. IsUnitAnswer (unit_of unit) a.status a.lines.items) }
+{
+    match class_of(alloc, &unit)? {
         None => line(alloc, Status::NotYet, "not yet\n"),
-        Some(function) => {
-            let programs = translate(alloc, &function)?;
+        Some(functions) => {
+            let programs = translate(alloc, unit.layout, &functions)?;
             Ok(Answer {
                 status: Status::Done,
                 lines: write_program(alloc, &programs)?,

@@ -1,96 +1,119 @@
-//! Which texts are shown, by their trees: those of one function that returns a sum of its unsigned parameters and of
-//! constants.
+//! Which typed texts are shown: those without globals that have at most one function, which returns a sum of its unsigned
+//! parameters and of constants.
 
-ghost use Rattle.std.specs.Prelude.{◌≡◌, map, IfOk, Some, None, option_map, string_bytes, if◌then◌else◌};
-ghost use Rattle.c_grammar.specs.View.{exp_of, words_of, declarator_of, items_of, param_of, unit_of};
-ghost use Rattle.c_grammar.specs.declared.operator.BinaryOperator.{BinaryOperator};
-ghost use Rattle.ac_expr.specs.Sorted as sorted;
+ghost use Rattle.std.specs.Prelude.{◌≡◌, map, IfOk, option_map, string_bytes};
+ghost use Rattle.c_values.specs.CodeTypes.{target_of, type_of};
+ghost use Rattle.c_typed.specs.View.{expr_of, function_of, statements_of, unit_of, variable_of};
 ghost use Rattle.ac_core.specs.Class as shown;
-ghost use Rattle.ac_core.specs.SumCode.{sum_of, function_of};
+ghost use Rattle.ac_core.specs.SumCode as code;
 
 use crate::sum::{Sum, SumFunction};
 use crate::words::is_among;
-use c_grammar::BinaryOperator;
-use c_grammar::tree::{
-    Bracket, CExp, Decl, Declarator, Dimensions, Items, Param, Rhs, Stmt, Unit, Word, Words,
-};
-use c_lex::Keyword;
+use c_typed::tree::{Arithmetic, Expr, Statement, Statements, TypedFn, TypedUnit, Variable};
+use c_values::{CType, IntType, Target};
 use std::alloc::{AllocError, Global};
-use std::collections::HashSet;
 
-/// The function of a text that is shown, and `None` for any other text.
-pub(crate) fn class_of(alloc: Global, unit: &Unit) -> Result<Option<SumFunction>, AllocError>
-    ensures { IfOk result (λ found. option_map function_of found ≡ shown.class_of (unit_of unit.now)) }
+/// The functions of a text that is shown, and `None` for any other text.
+pub(crate) fn class_of(
+    alloc: Global,
+    unit: &TypedUnit,
+) -> Result<Option<Vec<SumFunction>>, AllocError>
+    ensures { IfOk result (λ found. option_map (λ us. map code.function_of us.items) found ≡ shown.class_of (unit_of unit.now)) }
 {
-    match unit.externals.as_slice() {
-        [Decl::Function(words, declarator, params, items)] if is_unsigned(words) => {
-            sum_function(alloc, declarator, params, items)
-        }
+    if is_ilp32(unit.layout.target()) && unit.globals.is_empty() {
+        sum_functions(alloc, &unit.functions)
+    } else {
+        Ok(None)
+    }
+}
+
+fn is_ilp32(target: Target) -> bool
+    ensures { result ≡ shown.is_ilp32 (target_of target) }
+{
+    match target {
+        Target::Ilp32 => true,
+        Target::Lp64 => false,
+    }
+}
+
+fn sum_functions(
+    alloc: Global,
+    functions: &[TypedFn],
+) -> Result<Option<Vec<SumFunction>>, AllocError>
+    ensures { IfOk result (λ found. option_map (λ us. map code.function_of us.items) found ≡ shown.sum_functions (map function_of functions.now)) }
+{
+    match functions {
+        [] => Ok(Some(Vec::new(alloc))),
+        [function] => one_function(alloc, sum_function(alloc, function)?),
         _ => Ok(None),
     }
 }
 
-fn sum_function(
+fn one_function(
     alloc: Global,
-    declarator: &Declarator,
-    params: &[Param],
-    items: &Items,
-) -> Result<Option<SumFunction>, AllocError>
-    ensures { IfOk result (λ found. option_map function_of found ≡ shown.sum_function (shown.plain_name (declarator_of declarator.now)) (shown.parameter_names (map param_of params.now)) (shown.returned (items_of items.now))) }
+    function: Option<SumFunction>,
+) -> Result<Option<Vec<SumFunction>>, AllocError>
+    ensures { IfOk result (λ found. option_map (λ us. map code.function_of us.items) found ≡ shown.one_function (option_map code.function_of function)) }
 {
-    let Some(name) = plain_name(declarator) else {
+    let Some(function) = function else {
         return Ok(None);
     };
-    let Some(params) = parameter_names(alloc, params)? else {
-        return Ok(None);
-    };
-    let Some(value) = returned(items) else {
-        return Ok(None);
-    };
-    if params.is_empty() || !are_distinct(alloc, &params)? {
+    let mut functions = Vec::new(alloc);
+    functions.push(function)?;
+    Ok(Some(functions))
+}
+
+fn sum_function(alloc: Global, function: &TypedFn) -> Result<Option<SumFunction>, AllocError>
+    ensures { IfOk result (λ found. option_map code.function_of found ≡ shown.sum_function (function_of function.now)) }
+{
+    if !is_bare(function) {
         return Ok(None);
     }
-    let Some(sum) = sum_in(alloc, &params, value)? else {
+    let Some(params) = unsigned_names(alloc, &function.params)? else {
+        return Ok(None);
+    };
+    let Some(value) = returned(&function.body) else {
+        return Ok(None);
+    };
+    let Some(sum) = sum_of(alloc, &params, value)? else {
         return Ok(None);
     };
     Ok(Some(SumFunction {
-        name: name.clone()?,
+        name: function.name.clone()?,
         params,
         sum,
     }))
 }
 
-// The one word `unsigned`.
-fn is_unsigned(words: &Words) -> bool
-    ensures { result ≡ shown.is_unsigned (words_of words.now) }
+// A function with an unsigned result that has nothing but its body: no local, and no conversion of pointers that is folded away.
+fn is_bare(function: &TypedFn) -> bool
+    ensures { result ≡ shown.is_bare (function_of function.now) }
 {
-    match words {
-        Words::More(word, rest) => matches!(
-            (&**word, &**rest),
-            (Word::Reserved(_, Keyword::Unsigned), Words::None)
-        ),
-        Words::None => false,
+    gives_unsigned(&function.result) && function.locals.is_empty() && !function.folds_cast
+}
+
+fn gives_unsigned(given: &Option<CType>) -> bool
+    ensures { result ≡ shown.gives_unsigned (option_map type_of given.now) }
+{
+    match given {
+        Some(ty) => is_unsigned(ty),
+        None => false,
     }
 }
 
-// A name without stars and array lengths.
-fn plain_name(declarator: &Declarator) -> Option<&String>
-    ensures { option_map (λ name. string_bytes name.now) result ≡ shown.plain_name (declarator_of declarator.now) }
+fn is_unsigned(ty: &CType) -> bool
+    ensures { result ≡ shown.is_unsigned (type_of ty.now) }
 {
-    let Declarator::Declare(stars, _, name, dimensions) = declarator;
-    match **dimensions {
-        Dimensions::None if stars.is_empty() => Some(name),
-        _ => None,
-    }
+    matches!(ty, CType::Int(IntType::UInt))
 }
 
-// The names of parameters that are `unsigned NAME` each.
-fn parameter_names(alloc: Global, params: &[Param]) -> Result<Option<Vec<String>>, AllocError>
-    ensures { IfOk result (λ found. option_map (λ names. map string_bytes names.items) found ≡ shown.parameter_names (map param_of params.now)) }
+// The names of parameters that are unsigned ints, each.
+fn unsigned_names(alloc: Global, params: &[Variable]) -> Result<Option<Vec<String>>, AllocError>
+    ensures { IfOk result (λ found. option_map (λ names. map string_bytes names.items) found ≡ shown.unsigned_names (map variable_of params.now)) }
 {
     let mut names = Vec::new(alloc);
     for param in params {
-        let Some(name) = parameter_name(param) else {
+        let Some(name) = unsigned_name(param) else {
             return Ok(None);
         };
         names.push(name.clone()?)?;
@@ -98,65 +121,59 @@ fn parameter_names(alloc: Global, params: &[Param]) -> Result<Option<Vec<String>
     Ok(Some(names))
 }
 
-fn parameter_name(param: &Param) -> Option<&String>
-    ensures { option_map (λ name. string_bytes name.now) result ≡ shown.parameter_name (param_of param.now) }
+fn unsigned_name(param: &Variable) -> Option<&String>
+    ensures { option_map (λ name. string_bytes name.now) result ≡ shown.unsigned_name (variable_of param.now) }
 {
-    match (&param.name, &param.bracket) {
-        (Some((_, name)), Bracket::None) if param.stars.is_empty() && is_unsigned(&param.words) => {
-            Some(name)
-        }
-        _ => None,
+    if is_unsigned(&param.ty) {
+        Some(&param.name)
+    } else {
+        None
     }
 }
 
-fn are_distinct(alloc: Global, names: &[String]) -> Result<bool, AllocError>
-    ensures { IfOk result (λ answer. answer ≡ sorted.are_distinct (map string_bytes names.now)) }
+// What a body gives that is one return.
+fn returned(body: &Statements) -> Option<&Expr>
+    ensures { option_map (λ value. expr_of value.now) result ≡ shown.returned (statements_of body.now) }
 {
-    let mut seen = HashSet::new(alloc);
-    for name in names {
-        if !seen.insert(name.as_str())? {
-            return Ok(false);
-        }
-    }
-    Ok(true)
-}
-
-// What `return` gives, in a body that is this one statement.
-fn returned(items: &Items) -> Option<&CExp>
-    ensures { option_map (λ value. exp_of value.now) result ≡ shown.returned (items_of items.now) }
-{
-    match items {
-        Items::Statement(statement, rest) => match (&**statement, &**rest) {
-            (Stmt::Return(_, Some(Rhs::Value(value))), Items::None) => Some(value),
+    match body {
+        Statements::Next(statement, others) => match (&**statement, &**others) {
+            (Statement::Return(value), Statements::None) => Some(value),
             _ => None,
         },
-        _ => None,
+        Statements::None => None,
     }
 }
 
-// A sum of parameters and of constants of type unsigned int. Parentheses group, and are nothing else.
-fn sum_in(alloc: Global, params: &[String], exp: &CExp) -> Result<Option<Sum>, AllocError>
-    ensures { IfOk result (λ found. option_map sum_of found ≡ shown.sum_in (map string_bytes params.now) (exp_of exp.now)) }
+fn sum_of(alloc: Global, params: &[String], value: &Expr) -> Result<Option<Sum>, AllocError>
+    ensures { IfOk result (λ found. option_map code.sum_of found ≡ shown.sum_of (map string_bytes params.now) (expr_of value.now)) }
 {
-    match exp {
-        CExp::Name(_, name) if is_among(name.as_str(), params) => {
+    match value {
+        Expr::Local(name, ty) if is_unsigned(ty) && is_among(name.as_str(), params) => {
             Ok(Some(Sum::Named(name.clone()?)))
         }
-        CExp::Number(_, value, decimal, unsigned, longs) => {
-            Ok(constant(*value, *decimal, *unsigned, *longs).map(Sum::Constant))
-        }
-        CExp::Parenthesis(_, inner) => sum_in(alloc, params, inner),
-        CExp::Binary(BinaryOperator::Add, left, right) => plus(
+        Expr::Constant(IntType::UInt, n) => Ok(Some(Sum::Constant(*n))),
+        Expr::Convert(CType::Int(IntType::UInt), a) => Ok(converted(a)),
+        Expr::Compute(Arithmetic::Add, IntType::UInt, a, b) => plus(
             alloc,
-            sum_in(alloc, params, left)?,
-            sum_in(alloc, params, right)?,
+            sum_of(alloc, params, a)?,
+            sum_of(alloc, params, b)?,
         ),
         _ => Ok(None),
     }
 }
 
+// A constant int that is converted to an unsigned int.
+fn converted(value: &Expr) -> Option<Sum>
+    ensures { option_map code.sum_of result ≡ shown.converted (expr_of value.now) }
+{
+    match value {
+        Expr::Constant(IntType::Int, n) => Some(Sum::Converted(*n)),
+        _ => None,
+    }
+}
+
 fn plus(alloc: Global, left: Option<Sum>, right: Option<Sum>) -> Result<Option<Sum>, AllocError>
-    ensures { IfOk result (λ found. option_map sum_of found ≡ shown.added BinaryOperator.Add (option_map sum_of left) (option_map sum_of right)) }
+    ensures { IfOk result (λ found. option_map code.sum_of found ≡ shown.plus (option_map code.sum_of left) (option_map code.sum_of right)) }
 {
     match (left, right) {
         (Some(left), Some(right)) => Ok(Some(Sum::Plus(
@@ -164,17 +181,5 @@ fn plus(alloc: Global, left: Option<Sum>, right: Option<Sum>) -> Result<Option<S
             Box::new(alloc, right)?,
         ))),
         _ => Ok(None),
-    }
-}
-
-// A number whose type is unsigned int: with the suffix `u`, or past the ints and not decimal.
-fn constant(value: u64, decimal: bool, unsigned: bool, longs: u8) -> Option<u32>
-    ensures { result ≡ (if shown.is_unsigned_int value decimal unsigned longs then Some value else None) }
-{
-    let number = u32::try_from(value).ok()?;
-    if longs == 0 && (unsigned || (!decimal && number > u32::MAX / 2)) {
-        Some(number)
-    } else {
-        None
     }
 }

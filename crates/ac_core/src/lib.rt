@@ -14,4 +14,8 @@ pub use status::Status;
 pub use top::autocorres;
 
 #[cfg(test)]
+mod conversion_tests;
+#[cfg(test)]
 mod tests;
+#[cfg(test)]
+mod type_rows;

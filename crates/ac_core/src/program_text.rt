@@ -3,9 +3,8 @@
 ghost use Rattle.std.specs.Prelude.{◌≡◌, ◌++◌, List, map, pos, codes, string_bytes, OnOk, IfOk};
 ghost use Rattle.std.specs.Fmt.{decimal};
 ghost use Rattle.ac_expr.specs.Code.{exp_of, level_of, kind_of};
-ghost use Rattle.monad_lang.specs.Code.{mon_of, binder_of, final_fn_of};
+ghost use Rattle.monad_lang.specs.Code.{mon_of, binder_of, final_fn_of, final_unit_of};
 ghost use Rattle.ac_core.specs.ProgramText.{exp_text, spaced, row, kind_text, level_text, binder_text, program_text, then_texts, signature_text, function_text, unit_text};
-ghost use Rattle.ac_core.specs.Code.{final_unit_of};
 
 use ac_expr::{Exp, Kind, Level};
 use itoa::Buffer;

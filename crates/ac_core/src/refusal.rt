@@ -4,13 +4,14 @@ ghost use Rattle.std.specs.Prelude.{◌≡◌, ◌++◌, OnOk, IfOk, IsOk, codes
 ghost use Rattle.std.specs.Fmt.{decimal};
 ghost use Rattle.c_lex.specs.Answer.{Tells};
 ghost use Rattle.c_lex.specs.Unsupported.{unsupported_text};
-ghost use Rattle.ac_core.specs.Refusal.{cause_text, limit_line, limit_text, source_line};
+ghost use Rattle.ac_core.specs.Refusal.{cause_text, kind_text, limit_line, limit_text, source_line};
 ghost use Rattle.ac_core.specs.declared.status.Status.{Status};
 
 use crate::Status;
 use crate::answer::Answer;
 use c_lex::{LexFault, Unsupported};
 use c_parse::Limit;
+use c_types::TypeKind;
 use itoa::Buffer;
 use std::alloc::{AllocError, Global};
 
@@ -34,6 +35,30 @@ pub(crate) fn syntax(alloc: Global, at: usize) -> Result<Answer, AllocError>
     ensures { IfOk result (λ a. (a.status ≡ Status.Source) × (a.lines.items ≡ source_line (codes "syntax") at)) }
 {
     source(alloc, "syntax", at)
+}
+
+/// The answer to a text whose first bad node is this.
+pub(crate) fn untyped(alloc: Global, at: u32, kind: TypeKind) -> Result<Answer, AllocError>
+    ensures { IfOk result (λ a. (a.status ≡ Status.Source) × (a.lines.items ≡ source_line (kind_text kind) at)) }
+{
+    source(alloc, kind_name(kind), at as usize)
+}
+
+fn kind_name(kind: TypeKind) -> &'static str
+    ensures { result.now ≡ kind_text kind }
+{
+    match kind {
+        TypeKind::Unknown => "unknown",
+        TypeKind::Twice => "twice",
+        TypeKind::Mismatch => "mismatch",
+        TypeKind::NotLvalue => "not an lvalue",
+        TypeKind::Incomplete => "incomplete",
+        TypeKind::NoBody => "no body",
+        TypeKind::Arity => "arity",
+        TypeKind::FallThrough => "fall through",
+        TypeKind::OutOfSubset => "out of subset",
+        TypeKind::Large => "too large",
+    }
 }
 
 /// The answer to a text that passes a limit.

@@ -1,13 +1,15 @@
 //! Functions that return a sum of their unsigned parameters and constants, and the program of such a function.
 
-ghost use Rattle.std.specs.Prelude.{◌≡◌, map, IfOk, string_bytes};
+ghost use Rattle.std.specs.Prelude.{◌≡◌, [], map, IfOk, string_bytes};
+ghost use Rattle.c_values.specs.Types.{Ilp32};
 ghost use Rattle.ac_expr.specs.Code.{exp_of};
-ghost use Rattle.monad_lang.specs.Code.{mon_of, binder_of, final_fn_of};
-ghost use Rattle.ac_core.specs.Code.{final_unit_of};
+ghost use Rattle.monad_lang.specs.Code.{mon_of, binder_of, final_fn_of, final_unit_of};
 ghost use Rattle.ac_core.specs.Sum as sums;
 ghost use Rattle.ac_core.specs.SumCode.{sum_of, function_of};
 
 use ac_expr::{Exp, Kind, Level};
+use c_values::views::word;
+use c_values::{Layout, Number};
 use monad_lang::{Binder, FinalFn, FinalUnit, Mon};
 use std::alloc::{AllocError, Global};
 
@@ -16,8 +18,10 @@ use std::alloc::{AllocError, Global};
 pub(crate) enum Sum {
     /// A parameter.
     Named(String),
-    /// An unsigned number.
-    Constant(u32),
+    /// A constant of type unsigned int.
+    Constant(Number),
+    /// A constant of type int, converted to unsigned int.
+    Converted(Number),
     /// The left operand and the right one.
     Plus(Box<Sum>, Box<Sum>),
 }
@@ -30,13 +34,30 @@ pub(crate) struct SumFunction {
     pub(crate) sum: Sum,
 }
 
-/// The programs of a text that has this function alone.
-pub(crate) fn translate(alloc: Global, function: &SumFunction) -> Result<FinalUnit, AllocError>
-    ensures { IfOk result (λ programs. final_unit_of programs ≡ sums.final_unit_of (function_of function.now)) }
+/// The programs of a text that has these functions, and no global.
+pub(crate) fn translate(
+    alloc: Global,
+    layout: Layout,
+    functions: &[SumFunction],
+) -> Result<FinalUnit, AllocError>
+    requires { layout.target ≡ Ilp32 }
+    ensures { IfOk result (λ programs. final_unit_of programs ≡ sums.final_unit_of layout.structs (map function_of functions.now)) }
 {
-    let mut functions = Vec::new(alloc);
-    functions.push(final_function(alloc, function)?)?;
-    Ok(FinalUnit { functions })
+    Ok(FinalUnit {
+        layout,
+        globals: Vec::new(alloc),
+        functions: final_functions(alloc, functions)?,
+    })
+}
+
+fn final_functions(alloc: Global, functions: &[SumFunction]) -> Result<Vec<FinalFn>, AllocError>
+    ensures { IfOk result (λ programs. map final_fn_of programs.items ≡ map sums.final_fn_of (map function_of functions.now)) }
+{
+    let mut programs = Vec::new(alloc);
+    for function in functions {
+        programs.push(final_function(alloc, function)?)?;
+    }
+    Ok(programs)
 }
 
 fn final_function(alloc: Global, function: &SumFunction) -> Result<FinalFn, AllocError>
@@ -79,7 +100,7 @@ fn guarded(alloc: Global, sum: &Sum, rest: Mon) -> Result<Mon, AllocError>
     ensures { IfOk result (λ program. mon_of program ≡ sums.guarded (sum_of sum.now) (mon_of rest)) }
 {
     match sum {
-        Sum::Named(_) | Sum::Constant(_) => Ok(rest),
+        Sum::Named(_) | Sum::Constant(_) | Sum::Converted(_) => Ok(rest),
         Sum::Plus(a, b) => {
             let guard = guard(alloc, expression(alloc, sum)?)?;
             let rest = Mon::Bind(
@@ -105,7 +126,7 @@ fn expression(alloc: Global, sum: &Sum) -> Result<Exp, AllocError>
 {
     match sum {
         Sum::Named(name) => Ok(Exp::Var(name.clone()?)),
-        Sum::Constant(number) => Ok(Exp::Number(u64::from(*number))),
+        Sum::Constant(n) | Sum::Converted(n) => Ok(Exp::Number(word(32, *n).bits())),
         Sum::Plus(a, b) => Ok(Exp::Add(
             Box::new(alloc, expression(alloc, a)?)?,
             Box::new(alloc, expression(alloc, b)?)?,

@@ -1,5 +1,6 @@
 //! Answers of the top call over shelves and sinks in memory.
 
+use crate::type_rows::ROWS;
 use crate::{Status, autocorres};
 use ac_base::{MemoryShelf, MemorySink};
 use std::alloc::{AllocError, Global};
@@ -79,17 +80,17 @@ static READ: [(&str, Status, &str); 21] = [
         Status::Done,
         "(program (f numbers ((f (nat 32))) ((nat 32)) (do () (guard (between 0 (add 2147483648 f) 4294967295)) (ret (add 2147483648 f)))))\n",
     ),
-    ("", Status::NotYet, "not yet\n"),
+    ("", Status::Done, "(program)\n"),
     ("int f(int a){return a;}", Status::NotYet, "not yet\n"),
     (
         "unsigned int f(unsigned a){return a;}",
-        Status::NotYet,
-        "not yet\n",
+        Status::Done,
+        "(program (f numbers ((a (nat 32))) ((nat 32)) (ret a)))\n",
     ),
     (
         "unsigned f(unsigned a){return a+0x7fffffff;}",
-        Status::NotYet,
-        "not yet\n",
+        Status::Done,
+        "(program (f numbers ((a (nat 32))) ((nat 32)) (do () (guard (between 0 (add a 2147483647) 4294967295)) (ret (add a 2147483647)))))\n",
     ),
     (
         "unsigned f(unsigned a){return a+2147483648;}",
@@ -108,20 +109,24 @@ static READ: [(&str, Status, &str); 21] = [
     ),
     (
         "unsigned f(unsigned a){return b;}",
-        Status::NotYet,
-        "not yet\n",
+        Status::Source,
+        "source: unknown at 30\n",
     ),
     (
         "unsigned f(unsigned a,unsigned a){return a;}",
-        Status::NotYet,
-        "not yet\n",
+        Status::Source,
+        "source: twice at 31\n",
     ),
     (
         "unsigned f(unsigned a){return a-a;}",
         Status::NotYet,
         "not yet\n",
     ),
-    ("unsigned f(void){return 1u;}", Status::NotYet, "not yet\n"),
+    (
+        "unsigned f(void){return 1u;}",
+        Status::Done,
+        "(program (f numbers () ((nat 32)) (ret 1)))\n",
+    ),
     (
         "unsigned f(unsigned a){;return a;}",
         Status::NotYet,
@@ -129,10 +134,10 @@ static READ: [(&str, Status, &str); 21] = [
     ),
     (
         "unsigned f(unsigned a){return g(a);}",
-        Status::NotYet,
-        "not yet\n",
+        Status::Source,
+        "source: unknown at 30\n",
     ),
-    ("unsigned f(unsigned a);", Status::NotYet, "not yet\n"),
+    ("unsigned f(unsigned a);", Status::Done, "(program)\n"),
     (
         "unsigned f(unsigned a){return a;}int x;",
         Status::NotYet,
@@ -182,7 +187,7 @@ static REFUSED: [(&str, Status, &str); 21] = [
         Status::Source,
         "source: syntax at 13\n",
     ),
-    ("", Status::NotYet, "not yet\n"),
+    ("", Status::Done, "(program)\n"),
     (
         "int f(int a,int b){return a- -b;}",
         Status::NotYet,
@@ -231,7 +236,12 @@ static REFUSED: [(&str, Status, &str); 21] = [
 static LIMITS: [(&str, usize, Status, &str); 17] = [
     ("int |n|;", 63, Status::NotYet, "not yet\n"),
     ("int |n|;", 64, Status::Source, "source: long name at 4\n"),
-    ("|void f(void){}|", 1024, Status::NotYet, "not yet\n"),
+    (
+        "|void f(void){}|",
+        1024,
+        Status::Source,
+        "source: twice at 19\n",
+    ),
     (
         "|void f(void){}|",
         1025,
@@ -248,8 +258,8 @@ static LIMITS: [(&str, usize, Status, &str); 17] = [
     (
         "void f(void){int a|,a|;for(int b;;);}",
         196,
-        Status::NotYet,
-        "not yet\n",
+        Status::Source,
+        "source: twice at 19\n",
     ),
     (
         "void f(void){int a|,a|;for(int b;;);}",
@@ -314,8 +324,8 @@ static DEEP: [(&str, usize, Status, &str); 18] = [
     (
         "void f(void){switch(a){case 1:|{||}|}}",
         31,
-        Status::NotYet,
-        "not yet\n",
+        Status::Source,
+        "source: unknown at 20\n",
     ),
     (
         "void f(void){switch(a){case 1:|{||}|}}",
@@ -323,9 +333,14 @@ static DEEP: [(&str, usize, Status, &str); 18] = [
         Status::Limit,
         "limit: blocks\n",
     ),
-    ("int a=|!|x;", 31, Status::NotYet, "not yet\n"),
+    ("int a=|!|x;", 31, Status::Source, "source: unknown at 37\n"),
     ("int a=|!|x;", 32, Status::Limit, "limit: depth\n"),
-    ("void g(void){f(x|+x|);}", 31, Status::NotYet, "not yet\n"),
+    (
+        "void g(void){f(x|+x|);}",
+        31,
+        Status::Source,
+        "source: unknown at 15\n",
+    ),
     (
         "void g(void){f(x|+x|);}",
         32,
@@ -362,7 +377,12 @@ static DEEP: [(&str, usize, Status, &str); 18] = [
         Status::Source,
         "source: syntax at 200013\n",
     ),
-    ("enum{a|,a|};", 100_000, Status::NotYet, "not yet\n"),
+    (
+        "enum{a|,a|};",
+        100_000,
+        Status::Source,
+        "source: twice at 7\n",
+    ),
     ("int a|[1]|;", 80_000, Status::NotYet, "not yet\n"),
     ("|;|", 262_144, Status::Source, "source: syntax at 0\n"),
     ("|(|", 262_144, Status::Source, "source: syntax at 0\n"),
@@ -436,6 +456,18 @@ fn deep_texts_are_answered(rt: HostRuntime) -> Result<(), Fail> {
     Ok(())
 }
 
+// Each text of the rows, and the line that it is answered with.
+#[test]
+fn texts_are_typed(rt: HostRuntime) -> Result<(), Fail> {
+    for row in ROWS.lines() {
+        let (text, line) = row.split_once(" => ").unwrap_or((row, ""));
+        let (_, mut taken) = run(rt.alloc(), &["show", "a.c"], text.as_bytes(), &SOUND)?;
+        assert_eq!(rt; taken.pop(), Some(b'\n'));
+        assert_eq!(rt; taken.as_slice(), line.as_bytes());
+    }
+    Ok(())
+}
+
 #[test]
 fn words_have_forms(rt: HostRuntime) -> Result<(), Fail> {
     let all: [(&[&str], Status, &str); 9] = [
@@ -465,7 +497,7 @@ fn words_have_forms(rt: HostRuntime) -> Result<(), Fail> {
 fn long_texts_pass_the_limit(rt: HostRuntime) -> Result<(), Fail> {
     let mut text = vec![in rt.alloc(); b' '; 262_144]?;
     let (fits, _) = run(rt.alloc(), &["show", "a.c"], &text, &SOUND)?;
-    assert_eq!(rt; fits, Status::NotYet);
+    assert_eq!(rt; fits, Status::Done);
     text.push(b' ')?;
     let (long, taken) = run(rt.alloc(), &["show", "a.c"], &text, &SOUND)?;
     assert_eq!(rt; long, Status::Limit);

@@ -6,6 +6,9 @@ ghost use Rattle.c_lex.specs.Lexeme.{Lexeme};
 ghost use Rattle.c_lex.specs.Tokens.{Tokens};
 ghost use Rattle.c_grammar.specs.Tree.{External};
 ghost use Rattle.ac_core.specs.Words.{command_of, plain_show};
+ghost use Rattle.c_values.specs.Types.{Ilp32};
+ghost use Rattle.c_typed.specs.Typed.{TypedUnit};
+ghost use Rattle.c_typing.specs.Unit.{IsTyped};
 ghost use Rattle.ac_core.specs.Sum.{SumFunction};
 ghost use Rattle.ac_core.specs.Class.{class_of};
 ghost use Rattle.ac_core.specs.Answer.{EndsWith, IsTree, source_limit};
@@ -18,8 +21,8 @@ use std::alloc::Global;
 /// Does what the words ask for: reads the files that they name from the shelf, and writes the answer, or the line of a
 /// fault, to the sink.
 ///
-/// So far `show FILE` is built, for a text that is one function of unsigned parameters which returns a sum of them and
-/// of constants.
+/// So far `show FILE` is built, for a text without globals that has at most one function, of unsigned parameters, which returns a
+/// sum of them and of constants.
 pub fn autocorres<H: Shelf, K: Sink>(
     alloc: Global,
     words: &[String],
@@ -31,10 +34,10 @@ pub fn autocorres<H: Shelf, K: Sink>(
         (K.taken sink.old) (K.taken sink.new) (K.faults sink.old) (K.faults sink.new) result }
 
     // A text that can be shown is shown, where neither its file nor the sink fails, unless memory runs out.
-    ensures complete { (file text : List ℕ) (ts : List Lexeme) (tree : List External) (function : SumFunction) →
+    ensures complete { (file text : List ℕ) (ts : List Lexeme) (tree : List External) (unit : TypedUnit) (functions : List SumFunction) →
         plain_show (command_of (map string_bytes words.now)) ≡ Some file →
         H.contents shelf.old file ≡ Some text → length text ≤ source_limit →
-        Tokens text ts → IsTree ts tree → class_of tree ≡ Some function →
+        Tokens text ts → IsTree ts tree → IsTyped Ilp32 tree unit → class_of unit ≡ Some functions →
         ¬ Rose (H.faults shelf.old file) (H.faults shelf.new file) → ¬ Rose (K.faults sink.old) (K.faults sink.new) →
         (result ≡ Status.Done) ⊎ (result ≡ Status.Memory) }
 

@@ -1,6 +1,7 @@
 //! Programs as plain data. `specs/Program` has the whole language, and `specs/Run` what programs do.
 
 use ac_expr::{Exp, Kind, Level};
+use c_values::{GlobalVar, Layout};
 
 /// A monadic program. It has the cases that straight-line programs need.
 #[derive(Debug, Drop)]
@@ -30,8 +31,13 @@ pub struct FinalFn {
     pub body: Mon,
 }
 
-/// The programs of a text, in the order of its functions.
+/// The programs of a text.
 #[derive(Debug, Drop)]
 pub struct FinalUnit {
+    /// The target, and the structs with a body.
+    pub layout: Layout,
+    /// The globals in the order of the text.
+    pub globals: Vec<GlobalVar>,
+    /// One for each function with a body, in the order of the bodies.
     pub functions: Vec<FinalFn>,
 }

@@ -7,9 +7,9 @@ use Rattle.ac_core.proofs.answer.show_tokens.Goals as goal
 
 pub returns-in-Ok : goal.returns-in-Ok
 returns-in-Ok c =
-    of_result c.show_unit.result _ _
-    (λ a. tree_answer (lexemes_of c.args.tokens.now) (unit_of c.in-Ok.unit) a.status a.lines.items (record { spells = c.in-Ok.ensures.found.0; within = c.in-Ok.ensures.found.1 }))
-    c.show_unit.ensures
+    of_result c.show_tree.result _ _
+    (λ a. tree_answer (lexemes_of c.args.tokens.now) (unit_of c.in-Ok.tree) a.status a.lines.items (record { spells = c.in-Ok.ensures.found.0; within = c.in-Ok.ensures.found.1 }))
+    c.show_tree.ensures
 
 pub returns-in-Err-Syntax : goal.returns-in-Err-Syntax
 returns-in-Err-Syntax c =

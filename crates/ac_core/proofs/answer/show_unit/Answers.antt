@@ -1,26 +1,33 @@
-use Rattle.std.proofs.Common.{◌≡◌, Some, sym, subst}
+use Rattle.std.proofs.Common.{◌≡◌, ◌∙◌, Some, map, ap, sym, subst}
+use Rattle.c_typed.specs.Typed.{TypedUnit}
+use Rattle.c_typed.specs.View.{unit_of}
+use Rattle.monad_lang.specs.Code.{final_unit_of}
 use Rattle.monad_lang.specs.Program.{FinalUnit}
-use Rattle.c_grammar.specs.View.{unit_of}
-use Rattle.ac_core.specs.Code.{final_unit_of}
 use Rattle.ac_core.specs.Class.{class_of}
 use Rattle.ac_core.specs.Exact.{AreProgramsOf, IsExact}
-use Rattle.ac_core.specs.Sum.{typed_unit_of, levels}
+use Rattle.ac_core.specs.Sum.{levels}
+use Rattle.ac_core.specs.Sum as sums
 use Rattle.ac_core.specs.SumCode.{function_of}
 use Rattle.ac_core.specs.Answer.{AreInNumbers}
 use Rattle.ac_core.proofs.ClassIsSum.{found_is_sum}
-use Rattle.ac_core.proofs.ExactSum.{sum_exact, sum_numbers, sum_programs}
+use Rattle.ac_core.proofs.ExactSum.{sum_exact, all_numbers, sum_programs}
 use Rattle.ac_core.proofs.answer.show_unit.Goals as goal
 
 pub returns-in_ok-write_program-in-Some : goal.returns-in_ok-write_program-in-Some
 returns-in_ok-write_program-in-Some c =
-    let function = function_of c.in-Some.function in
-    let of_class : class_of (unit_of c.args.unit.now) ≡ Some function = sym (rw c.in-Some.is at c.in_ok-class_of.ensures) in
+    let unit = unit_of c.args.unit in
+    let functions = map function_of c.deref.result.now in
+    let of_class : class_of unit ≡ Some functions =
+    sym (rw c.in-Some.is at c.in_ok-class_of.ensures) ∙ ap (λ xs. Some (map function_of xs)) (sym c.deref.ensures.value) in
+    let found = found_is_sum unit functions of_class in
     record {
-      function = function;
+      functions = functions;
       programs = final_unit_of c.in_ok-programs-in-Some.programs;
       of_class = of_class;
-      of_unit = subst (λ (programs : FinalUnit). AreProgramsOf (typed_unit_of function) levels programs) (sym c.in_ok-programs-in-Some.ensures) (sum_programs function);
-      exact = subst (λ (programs : FinalUnit). IsExact (typed_unit_of function) levels programs) (sym c.in_ok-programs-in-Some.ensures) (sum_exact function (found_is_sum (unit_of c.args.unit.now) function of_class));
-      numbers = subst (λ (programs : FinalUnit). AreInNumbers programs.functions) (sym c.in_ok-programs-in-Some.ensures) (sum_numbers function.sum, tt);
+      of_unit = subst (λ (programs : FinalUnit). AreProgramsOf unit levels programs) (sym c.in_ok-programs-in-Some.ensures)
+          (subst (λ (u : TypedUnit). AreProgramsOf u levels (sums.final_unit_of unit.layout.structs functions)) found.0 (sum_programs unit.layout.structs functions));
+      exact = subst (λ (programs : FinalUnit). IsExact unit levels programs) (sym c.in_ok-programs-in-Some.ensures)
+          (subst (λ (u : TypedUnit). IsExact u levels (sums.final_unit_of unit.layout.structs functions)) found.0 (sum_exact unit.layout.structs functions found.1));
+      numbers = subst (λ (programs : FinalUnit). AreInNumbers programs.functions) (sym c.in_ok-programs-in-Some.ensures) (all_numbers functions);
       written = c.in_ok-write_program-in-Some.ensures;
     }

@@ -1,0 +1,6 @@
+typedef unsigned count;
+
+count increase(count a)
+{
+    return a + 1;
+}

@@ -1,0 +1,4 @@
+unsigned first(unsigned *p)
+{
+    return p;
+}
