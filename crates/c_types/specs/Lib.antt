@@ -1,10 +1,1 @@
-pub mod CodeScope
-pub mod CodeDeclared
-pub mod CodeFields
-pub mod CodeTail
-pub mod CodeCalls
-pub mod CodeStatements
 pub mod CodeUnit
-pub mod CodeKeys
-pub mod CodeLabels
-pub mod CodeGlobals

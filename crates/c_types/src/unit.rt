@@ -1,10 +1,10 @@
 //! Texts: their functions and declarations in order.
 
-ghost use Rattle.std.specs.Prelude.{◌≡◌, ◌∷◌, [], ◌||◌, map, true, string_bytes, IfOk, IfErr, OnOk};
+ghost use Rattle.std.specs.Prelude.{◌≡◌, ◌∷◌, [], ◌||◌, map, string_bytes, IfOk, IfErr, OnOk};
 ghost use Rattle.std.specs.List.{filter_map};
 ghost use Rattle.std.specs.HashSet.{contains_text};
 ghost use Rattle.std.specs.Option.{option_map};
-ghost use Rattle.c_values.specs.Name.{Name, is_among, with_name};
+ghost use Rattle.c_values.specs.Name.{Name, is_among};
 ghost use Rattle.c_values.specs.CodeTypes.{target_of, type_of};
 ghost use Rattle.c_values.specs.Layout.{scalar_width};
 ghost use Rattle.c_values.specs.Word as words;
@@ -12,21 +12,23 @@ ghost use Rattle.c_values.specs.CodeValue as values;
 ghost use Rattle.c_values.specs.Value.{Bits};
 ghost use Rattle.c_grammar.specs.View.{decl_of, unit_of as text_of};
 ghost use Rattle.c_typing.specs.Answers.{Answers};
-ghost use Rattle.c_types.specs.CodeScope as scopes;
-ghost use Rattle.c_types.specs.CodeStatements.{behind};
-ghost use Rattle.c_types.specs.CodeUnit.{IsBadText, in_front};
+ghost use Rattle.c_scope.specs.CodeScope as scopes;
+ghost use Rattle.c_expressions.specs.Behind.{behind};
+ghost use Rattle.c_types.specs.CodeUnit.{IsBadText};
+ghost use Rattle.c_scope.specs.InFront.{in_front};
 ghost use Rattle.c_typing.specs.Unit as rules;
 ghost use Rattle.c_typed.specs.View.{function_of, unit_of};
 
-use crate::file::GlobalSoFar;
 use crate::functions::{function, note};
-use crate::globals::declaration;
-use crate::scope::Scope;
+use c_declarations::globals::declaration;
 use c_grammar::tree::{Decl, Declarator, Unit};
+use c_scope::file::GlobalSoFar;
+use c_scope::scope::Scope;
 use c_typed::tree::{TypedFn, TypedUnit};
 use c_typing::fault::TypeFault;
 use c_values::views::word;
 use c_values::{CType, GlobalVar, Layout, Number, Target, Value, address_width, width_of, zeros};
+use indexmap::IndexMap;
 use std::alloc::{AllocError, Global};
 use std::collections::HashSet;
 
@@ -73,7 +75,7 @@ fn add_body_name(external: &Decl, names: &mut HashSet<String>) -> Result<(), All
 {
     match body_name(external) {
         Some(name) => {
-            add_name(name, names)?;
+            note(name.clone()?, names)?;
             Ok(())
         }
         None => Ok(()),
@@ -88,13 +90,6 @@ fn body_name(external: &Decl) -> Option<&String>
         Decl::Function(_, Declarator::Declare(_, _, name, _), _, _) => Some(name),
         Decl::Declaration(_, _, _) => None,
     }
-}
-
-fn add_name(name: &String, names: &mut HashSet<String>) -> Result<(), AllocError>
-    ensures { OnOk result ((λ q. contains_text names.new q) ≡ with_name (string_bytes name.now) true (λ q. contains_text names.old q)) }
-{
-    note(name.clone()?, names)?;
-    Ok(())
 }
 
 // The functions of a text.
@@ -141,7 +136,7 @@ fn typed_unit(alloc: Global, scope: Scope, functions: Vec<TypedFn>) -> Result<Ty
     ensures { IfOk result (λ u. unit_of u ≡ rules.unit_in (map function_of functions.items) (scopes.scope_of scope)) }
 {
     let Scope { layout, file, .. } = scope;
-    let globals = global_vars(alloc, &layout, file.globals.into_iter().collect(alloc)?)?;
+    let globals = global_vars(alloc, &layout, file.globals)?;
     Ok(TypedUnit {
         layout,
         globals,
@@ -153,9 +148,9 @@ fn typed_unit(alloc: Global, scope: Scope, functions: Vec<TypedFn>) -> Result<Ty
 fn global_vars(
     alloc: Global,
     layout: &Layout,
-    globals: Vec<(String, GlobalSoFar)>,
+    globals: IndexMap<String, GlobalSoFar>,
 ) -> Result<Vec<GlobalVar>, AllocError>
-    ensures { IfOk result (λ vars. map values.global_of vars.items ≡ map (rules.global_var layout.now) (map scopes.global_of globals.items)) }
+    ensures { IfOk result (λ vars. map values.global_of vars.items ≡ map (rules.global_var layout.now) (map scopes.global_of globals.entries)) }
 {
     let mut vars = Vec::new(alloc);
     for global in globals {

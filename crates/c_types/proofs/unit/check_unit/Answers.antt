@@ -11,8 +11,8 @@ use Rattle.c_typing.specs.Answers.{IsFaultOf}
 use Rattle.c_typing.specs.Checked.{Good}
 use Rattle.c_typing.specs.Unit.{body_name, externals}
 use Rattle.c_typed.specs.View.{function_of, unit_of}
-use Rattle.c_types.specs.CodeScope.{scope_of}
-use Rattle.c_types.proofs.Answered.{text_bad, text_typed}
+use Rattle.c_scope.specs.CodeScope.{scope_of}
+use Rattle.c_types.proofs.TextAnswer.{text_bad, text_typed}
 use Rattle.c_types.proofs.unit.check_unit.Goals as goal
 
 pub returns-in_err-functions-clause-first_bad : goal.returns-in_err-functions-clause-first_bad

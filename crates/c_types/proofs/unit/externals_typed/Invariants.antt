@@ -3,8 +3,8 @@ use Rattle.std.proofs.Common.{◌≡◌, length, map}
 use Rattle.c_grammar.specs.View.{decl_of}
 use Rattle.c_typing.specs.Unit.{externals}
 use Rattle.c_typed.specs.View.{function_of}
-use Rattle.c_types.specs.CodeScope.{scope_of}
-use Rattle.c_types.specs.CodeStatements.{behind}
+use Rattle.c_scope.specs.CodeScope.{scope_of}
+use Rattle.c_expressions.specs.Behind.{behind}
 use Rattle.c_types.proofs.unit.externals_typed.Given as goal
 
 abbrev pub invariant-loop-external : goal.invariant-loop-external

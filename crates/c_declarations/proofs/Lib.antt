@@ -1,0 +1,4 @@
+pub mod SwappedNames
+pub mod GlobalsSoFar
+pub mod NamedParameters
+pub mod KeptConstants

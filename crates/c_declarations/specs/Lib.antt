@@ -1,0 +1,2 @@
+pub mod CodeParameters
+pub mod CodeGlobals

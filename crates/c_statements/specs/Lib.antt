@@ -1,0 +1,4 @@
+pub mod CodeCalls
+pub mod CodeStatements
+pub mod CodeKeys
+pub mod CodeLabels
