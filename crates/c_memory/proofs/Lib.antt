@@ -31,3 +31,4 @@ pub mod Joined
 pub mod Put
 pub mod Read
 pub mod Copied
+pub mod Written

@@ -1,14 +1,16 @@
 //! Heaps of bytes and typed heaps, at values that are known from elsewhere.
 
-ghost use Rattle.std.specs.Prelude.{◌≡◌, ◌^◌, ◌<◌, true, map, Some, IfOk, IfSome};
+ghost use Rattle.std.specs.Prelude.{◌≡◌, ◌^◌, ◌<◌, true, map, Some, All, IfOk, IfSome};
 ghost use Rattle.std.specs.Option.{option_map};
-ghost use Rattle.c_values.specs.Layout.{IsLayout, shape_of, space, is_object, is_scalar, scalar_width};
+ghost use Rattle.c_values.specs.Layout.{Layout as Table, IsLayout, shape_of, space, is_object, is_scalar, scalar_width};
 ghost use Rattle.c_values.specs.Path.{spot};
 ghost use Rattle.c_values.specs.Width.{IsWidth};
 ghost use Rattle.c_values.specs.Types.{address_width};
 ghost use Rattle.c_values.specs.CodeTypes.{target_of, type_of};
 ghost use Rattle.c_memory.specs.CodeStep.{step_of};
+ghost use Rattle.c_memory.specs.CodeTag.{tag_of};
 ghost use Rattle.c_memory.specs.CodeHeap.{memory_of};
+ghost use Rattle.c_memory.specs.TagFault.{IsRoot};
 ghost use Rattle.c_memory.specs.Tags.{is_root_type, IsWellTagged};
 ghost use Rattle.c_memory.specs.Heap.{IsHeap, OnBytes};
 ghost use Rattle.typed_heap.specs.CodeCells.{typed_content};
@@ -275,25 +277,6 @@ fn element(negative: bool, magnitude: u128) -> [Step; 3] {
 }
 
 #[test]
-fn tags_at_fault(rt: HostRuntime) -> Result<(), Fail> {
-    let alloc = rt.alloc();
-    let l = layout(alloc, Target::Ilp32)?;
-    let rows = [
-        (4098, 8192, HeapFault::Misaligned(0)),
-        (4096, 0, HeapFault::Null(1)),
-        (4096, 4294967296, HeapFault::Past(1)),
-        (4096, 4096, HeapFault::Overlap(1)),
-    ];
-    for (first, second, want) in rows {
-        match zero_bytes(alloc, &l, (first, UINT), (second, UINT)) {
-            Ok(_) => assert!(rt; false, "no fault at {second}"),
-            Err(fault) => assert_eq!(rt; fault, want),
-        }
-    }
-    Ok(())
-}
-
-#[test]
 fn padding_stays(rt: HostRuntime) -> Result<(), Fail> {
     let alloc = rt.alloc();
     let p = CType::Struct(String::from_str(alloc, "p")?);
@@ -382,5 +365,39 @@ fn roots_of_two_types(rt: HostRuntime) -> Result<(), Fail> {
     assert_eq!(rt; h.words(&BYTE, 4104, &[]), (Some(6), Some(6)));
     assert_eq!(rt; h.words(&UINT, 8196, &[]), (Some(7), Some(0)));
     assert_eq!(rt; h.words(&UINT, 8192, &[]), (Some(0), Some(0)));
+    Ok(())
+}
+
+// So many tags of an `unsigned`, one after the other.
+fn row_of_tags(alloc: Global, count: u16) -> Result<Vec<(u64, CType)>, AllocError>
+    ensures { IfOk result (λ tags. (l : Table) → All (IsRoot l) (map tag_of tags.items)) }
+{
+    let mut tags = Vec::new(alloc);
+    for k in 0..count {
+        tags.push((4096 + 4 * u64::from(k), UINT))?;
+    }
+    Ok(tags)
+}
+
+// The heap of a row of tags, with a number in its first bytes.
+fn heap_of_row(alloc: Global, l: &Layout, count: u16) -> Result<ByteHeap, HeapFault>
+    ensures { IfOk result (λ h. IsHeap l.now (OnBytes (memory_of h))) }
+{
+    let tags = row_of_tags(alloc, count)?;
+    ByteHeap::new(alloc, l, &[], &tags)
+}
+
+#[test]
+fn views_of_many_tags(rt: HostRuntime) -> Result<(), Fail> {
+    let alloc = rt.alloc();
+    let l = layout(alloc, Target::Ilp32)?;
+    for count in [100, 1000, 10000] {
+        let mut h = heap_of_row(alloc, &l, count)?;
+        let last = 4092 + 4 * u64::from(count);
+        put_word(alloc, &mut h, &l, &UINT, last, &[], 7)?;
+        let cells = typed(alloc, &l, &h)?;
+        assert_eq!(rt; word_at(&cells, &l, &UINT, last, &[]), Some(7));
+        assert_eq!(rt; word_at(&cells, &l, &UINT, last + 4, &[]), Some(0));
+    }
     Ok(())
 }
