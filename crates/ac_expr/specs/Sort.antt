@@ -197,7 +197,7 @@ abbrev mutual
   sort_of g (Expression.Read t p path) = where_holds (is_object g.layout t && is_word_of (address_width g.layout.target) (sort_of g p)) (of_shape (shape_along g path (shape_of g.layout t)) sort_at)
   sort_of g (Expression.Tagged t p) = where_holds (is_object g.layout t && is_word_of (address_width g.layout.target) (sort_of g p)) truth_sort
   sort_of g (Expression.PtrOk t p) = where_holds (is_object g.layout t && is_word_of (address_width g.layout.target) (sort_of g p)) truth_sort
-  sort_of g (Expression.Global x path) = of_type (g.globals x) (λ t. of_shape (shape_along g path (shape_of g.layout t)) sort_at)
+  sort_of g (Expression.Global x path) = of_type (g.globals x) (λ t. where_holds (is_object g.layout t) (of_shape (shape_along g path (shape_of g.layout t)) sort_at))
   sort_of g (Expression.Sel e path) = where_holds (is_one_step path) (of_shape (parts_shape g.layout (sort_of g e)) (λ s. of_shape (shape_along g path s) sort_at))
   sort_of g (Expression.Upd e path v) = of_shape (parts_shape g.layout (sort_of g e)) (λ s. of_shape (shape_along g path s) (λ q. where_holds (are_same (sort_at q) (sort_of g v)) (sort_of g e)))
 

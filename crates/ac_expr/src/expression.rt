@@ -1,40 +1,72 @@
 //! Expressions as programs hold them.
 
-ghost use Rattle.std.specs.Prelude.{◌≡◌, IfOk};
-ghost use Rattle.ac_expr.specs.Code.{exp_of};
+use crate::paths::Path;
+use c_values::{CType, Number, NumberOp, ShiftOp, UnaryOp, Word, WordOp, WordTest};
 
-use std::alloc::{AllocError, Global};
+/// To a larger width by the unsigned or the signed value, or to a smaller one.
+#[derive(Clone, Copy, Debug, PartialEq, Eq)]
+pub enum CastOp {
+    Zext,
+    Sext,
+    Trunc,
+}
 
-/// An expression. It has the cases that programs over sums of numbers need; `specs/Expression` has the language.
+/// An expression. Each has one value in an environment and a state (`specs/Evaluation`), and a sort where it is well-sorted
+/// (`specs/Sort`).
 #[derive(Debug, Drop)]
+#[cycle(exp)]
 pub enum Exp {
     /// A name's value.
     Var(String),
-    /// A number that isn't negative.
-    Number(u64),
-    /// The sum of two numbers.
-    Add(Box<Exp>, Box<Exp>),
+    Word(Word),
+    Number(Number),
+    Truth(bool),
+    /// An operation on two words of one width.
+    WordBinary(WordOp, Box<Exp>, Box<Exp>),
+    /// A word, shifted by a number.
+    WordShift(ShiftOp, Box<Exp>, Box<Exp>),
+    WordUnary(UnaryOp, Box<Exp>),
+    /// An order test of two words of one width.
+    WordCompare(WordTest, Box<Exp>, Box<Exp>),
+    /// A word at another width.
+    Cast(CastOp, u8, Box<Exp>),
+    /// The unsigned value of a word.
+    ToNat(Box<Exp>),
+    /// The signed value of a word.
+    ToInt(Box<Exp>),
+    /// A number modulo 2 to a width.
+    ToWord(u8, Box<Exp>),
+    /// An operation on two numbers.
+    Arith(NumberOp, Box<Exp>, Box<Exp>),
+    Negate(Box<Exp>),
+    Lt(Box<Exp>, Box<Exp>),
+    Le(Box<Exp>, Box<Exp>),
     /// Whether a number lies between two constants, both included.
-    Between(u64, Box<Exp>, u64),
-}
-
-impl Exp {
-    /// A copy.
-    pub fn copy(&self, alloc: Global) -> Result<Exp, AllocError>
-        ensures { IfOk result (λ copy. exp_of copy ≡ exp_of self.now) }
-    {
-        match self {
-            Exp::Var(name) => Ok(Exp::Var(name.clone()?)),
-            Exp::Number(number) => Ok(Exp::Number(*number)),
-            Exp::Add(a, b) => Ok(Exp::Add(
-                Box::new(alloc, a.copy(alloc)?)?,
-                Box::new(alloc, b.copy(alloc)?)?,
-            )),
-            Exp::Between(low, a, high) => Ok(Exp::Between(
-                *low,
-                Box::new(alloc, a.copy(alloc)?)?,
-                *high,
-            )),
-        }
-    }
+    Between(Number, Box<Exp>, Number),
+    /// Whether two values of one sort are equal.
+    Eq(Box<Exp>, Box<Exp>),
+    And(Box<Exp>, Box<Exp>),
+    Or(Box<Exp>, Box<Exp>),
+    Imp(Box<Exp>, Box<Exp>),
+    Not(Box<Exp>),
+    /// The second where the first holds, else the third.
+    If(Box<Exp>, Box<Exp>, Box<Exp>),
+    /// A pointer, and so many objects of a type further on.
+    Padd(CType, Box<Exp>, Box<Exp>),
+    /// The address of a place: a root of a type and a path into it.
+    At(CType, Box<Exp>, Path),
+    /// What the bytes at a place are.
+    Load(CType, Box<Exp>, Path),
+    /// What the heap has at a place.
+    Read(CType, Box<Exp>, Path),
+    /// Whether a root is covered.
+    Tagged(CType, Box<Exp>),
+    /// Whether a pointer is aligned, not null, and all of its object in the space.
+    PtrOk(CType, Box<Exp>),
+    /// A part of a global.
+    Global(String, Path),
+    /// A part of a value, in assertions alone.
+    Sel(Box<Exp>, Path),
+    /// A value with a part replaced, in assertions alone.
+    Upd(Box<Exp>, Path, Box<Exp>),
 }

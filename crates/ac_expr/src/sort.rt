@@ -1,4 +1,22 @@
-//! Levels of programs and kinds of names.
+//! Sorts of values, levels of programs and kinds of names.
+
+use c_values::CType;
+
+/// What a value is that has no parts.
+#[derive(Clone, Copy, Debug, PartialEq, Eq)]
+pub enum Scalar {
+    /// A word of so many bits.
+    Word(u8),
+    Num,
+    Truth,
+}
+
+/// What a value is: a scalar, or the parts of a struct or an array.
+#[derive(Clone, Copy)]
+pub enum Sort<'a> {
+    Of(Scalar),
+    Parts(&'a CType),
+}
 
 /// What a function's program works on.
 #[derive(Clone, Copy, Debug, PartialEq, Eq)]

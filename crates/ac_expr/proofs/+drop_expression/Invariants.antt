@@ -1,0 +1,7 @@
+-- What is left is no deeper than what was to be dropped.
+use Rattle.std.proofs.Common.{◌≤◌}
+use Rattle.ac_expr.specs.declared.paths.Path.{size-Path}
+use Rattle.ac_expr.proofs.+drop_expression.Given as goal
+
+abbrev pub invariant-paths::Path::drop-loop-self : goal.invariant-paths::Path::drop-loop-self
+invariant-paths::Path::drop-loop-self l = size-Path l.self ≤ size-Path l.initial.self

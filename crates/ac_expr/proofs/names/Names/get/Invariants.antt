@@ -1,0 +1,7 @@
+-- The name is looked up in what is left of the chain.
+use Rattle.std.proofs.Common.{◌≡◌}
+use Rattle.ac_expr.specs.CodeSort.{names_of}
+use Rattle.ac_expr.proofs.names.Names.get.Given as goal
+
+abbrev pub invariant-loop-names : goal.invariant-loop-names
+invariant-loop-names l = names_of l.names l.name ≡ names_of l.fn.self l.name

@@ -1,0 +1,19 @@
+-- The steps so far, and those of the rest of the path, are the path's.
+use Rattle.std.proofs.Common.{◌≡◌, ◌≤◌, ◌++◌, map}
+use Rattle.c_memory.specs.CodeStep.{step_of}
+use Rattle.ac_expr.specs.declared.paths.Path.{size-Path}
+use Rattle.ac_expr.specs.Evaluation.{steps}
+use Rattle.ac_expr.specs.Wide.{wide_in}
+use Rattle.ac_expr.specs.Code.{path_of}
+use Rattle.ac_expr.specs.CodeScene.{scene_of, ReadyAlong}
+use Rattle.ac_expr.proofs.scene.Scene.+values.Given as goal
+
+abbrev pub invariant-steps-steps : goal.invariant-steps-steps
+invariant-steps-steps g l =
+    let s = scene_of g.H.Heap.content l.self in
+    record {
+      so_far : map step_of l.steps.items ++ steps s.layout s.env s.state (path_of l.rest) ≡ steps s.layout s.env s.state (path_of l.fn.path);
+      none : wide_in s.layout s.env s.state (path_of l.fn.path) ≡ wide_in s.layout s.env s.state (path_of l.rest);
+      ready : ReadyAlong s (path_of l.rest);
+      smaller : size-Path l.rest ≤ size-Path l.fn.path;
+    }

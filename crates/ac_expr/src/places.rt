@@ -1,0 +1,108 @@
+//! Where paths lead.
+
+ghost use Rattle.std.specs.Prelude.{◌≡◌, ◌<◌, true, map, IfSome};
+ghost use Rattle.std.specs.Option.{option_map};
+ghost use Rattle.c_values.specs.Layout.{IsLayout, shape_of, is_object, space};
+ghost use Rattle.c_values.specs.Path.{Field, Index, spot, step_spot};
+ghost use Rattle.c_values.specs.CodeTypes.{target_of, type_of};
+ghost use Rattle.c_memory.specs.CodeStep.{step_of};
+ghost use Rattle.c_memory.specs.Place.{place_of, place_from};
+
+use crate::addresses::{element_address, moved};
+use c_memory::Step;
+use c_values::{CType, Layout, Number, Target, size_of};
+
+/// An address, and the type of what lies there.
+#[derive(Clone, Copy)]
+pub(crate) struct Place<'a> {
+    pub(crate) address: u64,
+    pub(crate) ty: &'a CType,
+}
+
+/// Where a path into a type leads from an address, by plain address arithmetic. There is none exactly where the type has
+/// no such path.
+pub(crate) fn place_at<'a>(
+    l: &'a Layout,
+    t: &'a CType,
+    address: u64,
+    path: &[Step],
+) -> Option<Place<'a>>
+    requires object { is_object l.now (type_of t.now) ≡ true }
+    requires address { address < space l.now }
+    ensures place { option_map (λ p. place_of l.now p.address (type_of p.ty.now)) result
+        ≡ place_from (space l.now) address (spot (shape_of l.now (type_of t.now)) (map step_of path.now)) }
+    ensures object { IfSome result (λ p. is_object l.now (type_of p.ty.now) ≡ true) }
+    ensures address { IfSome result (λ p. p.address < space l.now) }
+    ensures layout { IsLayout l.now }
+{
+    let target = l.target();
+    let mut place = Place { address, ty: t };
+    for step in path {
+        place = place_in(l, target, place, *step)?;
+    }
+    Some(place)
+}
+
+// The place to which one step leads.
+fn place_in<'a>(l: &'a Layout, target: Target, whole: Place<'a>, step: Step) -> Option<Place<'a>>
+    requires layout { IsLayout l.now }
+    requires target { target_of target ≡ l.now.target }
+    requires object { is_object l.now (type_of whole.ty.now) ≡ true }
+    ensures place { option_map (λ p. place_of l.now p.address (type_of p.ty.now)) result
+        ≡ place_from (space l.now) whole.entry.address (step_spot (shape_of l.now (type_of whole.entry.ty.now)) (step_of step)) }
+    ensures object { IfSome result (λ p. is_object l.now (type_of p.ty.now) ≡ true) }
+    ensures address { IfSome result (λ p. p.address < space l.now) }
+{
+    match step {
+        Step::Field(k) => member_of(l, target, whole, k),
+        Step::Index(index) => element_of(l, target, whole, index),
+    }
+}
+
+// The place of a member.
+fn member_of<'a>(l: &'a Layout, target: Target, whole: Place<'a>, k: u32) -> Option<Place<'a>>
+    requires layout { IsLayout l.now }
+    requires target { target_of target ≡ l.now.target }
+    requires object { is_object l.now (type_of whole.ty.now) ≡ true }
+    ensures place { option_map (λ p. place_of l.now p.address (type_of p.ty.now)) result
+        ≡ place_from (space l.now) whole.entry.address (step_spot (shape_of l.now (type_of whole.entry.ty.now)) (Field k)) }
+    ensures object { IfSome result (λ p. is_object l.now (type_of p.ty.now) ≡ true) }
+    ensures address { IfSome result (λ p. p.address < space l.now) }
+{
+    let CType::Struct(name) = whole.ty else {
+        return None;
+    };
+    let (offset, ty) = l.member(name.as_str(), k)?;
+    Some(Place {
+        address: moved(target, whole.address, u64::from(offset)),
+        ty,
+    })
+}
+
+// The place of an element.
+fn element_of<'a>(
+    l: &'a Layout,
+    target: Target,
+    whole: Place<'a>,
+    index: Number,
+) -> Option<Place<'a>>
+    requires layout { IsLayout l.now }
+    requires target { target_of target ≡ l.now.target }
+    requires object { is_object l.now (type_of whole.ty.now) ≡ true }
+    ensures place { option_map (λ p. place_of l.now p.address (type_of p.ty.now)) result
+        ≡ place_from (space l.now) whole.entry.address (step_spot (shape_of l.now (type_of whole.entry.ty.now)) (Index index)) }
+    ensures object { IfSome result (λ p. is_object l.now (type_of p.ty.now) ≡ true) }
+    ensures address { IfSome result (λ p. p.address < space l.now) }
+{
+    match whole.ty {
+        CType::Array(element, _) => {
+            let ty = &**element;
+            Some(Place {
+                address: element_address(target, whole.address, index, size_of(l, ty)),
+                ty,
+            })
+        }
+        CType::Struct(_) => None,
+        CType::Int(_) | CType::Void | CType::Ptr(_) => None,
+    }
+}

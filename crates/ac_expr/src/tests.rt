@@ -1,0 +1,171 @@
+//! Sorts and values of expressions that are known from elsewhere.
+
+use crate::equality::same_value;
+use crate::{Env, EvalFault, Exp, Names, Path, Scalar, Sort, eval, sort_of};
+use c_memory::ByteHeap;
+use c_values::{CType, IntType, Layout, Number, NumberOp, Target, Value, Word};
+use std::alloc::{AllocError, Global};
+use std::test::Fail;
+
+fn truth(alloc: Global, truth: bool) -> Result<Box<Exp>, AllocError> {
+    Ok(Box::new(alloc, Exp::Truth(truth))?)
+}
+
+fn operation(alloc: Global, op: NumberOp, a: u128, b: u128) -> Result<Box<Exp>, AllocError> {
+    let a = Box::new(alloc, Exp::Number(Number::new(false, a)))?;
+    let b = Box::new(alloc, Exp::Number(Number::new(false, b)))?;
+    Ok(Box::new(alloc, Exp::Arith(op, a, b))?)
+}
+
+// A test that adds two numbers to 2^128.
+fn wide_test(alloc: Global) -> Result<Box<Exp>, AllocError> {
+    let sum = operation(alloc, NumberOp::Add, u128::MAX, 1)?;
+    let zero = Box::new(alloc, Exp::Number(Number::new(false, 0)))?;
+    Ok(Box::new(alloc, Exp::Lt(sum, zero))?)
+}
+
+// The value of an expression without names, in a heap whose words at 4096 are 7 and 8.
+fn value_of(alloc: Global, e: &Exp) -> Result<Result<Value, EvalFault>, Fail> {
+    let l = Layout::build(Target::Ilp32, Vec::new(alloc))?;
+    let words = Vec::from_slice(alloc, &[7, 0, 0, 0, 8, 0, 0, 0])?;
+    let heap = ByteHeap::new(alloc, &l, &[(4096, words)], &[])?;
+    let env: Env = Vec::new(alloc);
+    match sort_of(e, &Names::new(), &l, &[]) {
+        Some(_) => Ok(eval(alloc, e, &env, &heap, &l, &[], &[])),
+        None => Err(Fail::from("not well-sorted")),
+    }
+}
+
+fn is_wide(alloc: Global, e: &Exp) -> Result<bool, Fail> {
+    let value = value_of(alloc, e)?;
+    Ok(matches!(value, Err(EvalFault::Wide(_, _, _))))
+}
+
+#[test]
+fn operations_at_the_limit(rt: HostRuntime) -> Result<(), Fail> {
+    let rows = [
+        (NumberOp::Add, u128::MAX, 0, false),
+        (NumberOp::Add, u128::MAX, 1, true),
+        (NumberOp::Sub, 0, u128::MAX, false),
+        (NumberOp::Mul, 1 << 64, u128::from(u64::MAX), false),
+        (NumberOp::Mul, 1 << 64, 1 << 64, true),
+    ];
+    for (op, a, b, wide) in rows {
+        let e = operation(rt.alloc(), op, a, b)?;
+        assert_eq!(rt; is_wide(rt.alloc(), &e)?, wide, "{op:?}");
+    }
+    Ok(())
+}
+
+#[test]
+fn operands_that_are_left_open(rt: HostRuntime) -> Result<(), Fail> {
+    let alloc = rt.alloc();
+    for left in [false, true] {
+        let and = Exp::And(truth(alloc, left)?, wide_test(alloc)?);
+        assert_eq!(rt; is_wide(alloc, &and)?, left);
+        let or = Exp::Or(truth(alloc, left)?, wide_test(alloc)?);
+        assert_eq!(rt; is_wide(alloc, &or)?, !left);
+        let imp = Exp::Imp(truth(alloc, left)?, wide_test(alloc)?);
+        assert_eq!(rt; is_wide(alloc, &imp)?, left);
+        let choice = Exp::If(truth(alloc, left)?, wide_test(alloc)?, truth(alloc, true)?);
+        assert_eq!(rt; is_wide(alloc, &choice)?, left);
+    }
+    Ok(())
+}
+
+// An array of two `unsigned`, which are at 4096.
+fn pair(alloc: Global) -> Result<(CType, Box<Exp>), AllocError> {
+    let word = Box::new(alloc, CType::Int(IntType::UInt))?;
+    let pointer = Box::new(alloc, Exp::Word(Word::new(32, 4096)))?;
+    Ok((CType::Array(word, 2), pointer))
+}
+
+// A path to an element.
+fn element(alloc: Global, negative: bool, magnitude: u128) -> Result<Path, AllocError> {
+    let index = Exp::Number(Number::new(negative && magnitude != 0, magnitude));
+    let here = Box::new(alloc, Path::Here)?;
+    Ok(Path::Index(Box::new(alloc, index)?, here))
+}
+
+#[test]
+fn indices_of_any_size(rt: HostRuntime) -> Result<(), Fail> {
+    let alloc = rt.alloc();
+    // 4 * 2^127 is 0 modulo 2^32, and 4 * -(2^127 - 1) is 4.
+    let rows = [
+        (false, 1, 4100, 8),
+        (false, 1 << 127, 4096, 7),
+        (true, 1 << 127, 4096, 7),
+        (true, (1 << 127) - 1, 4100, 8),
+    ];
+    for (negative, magnitude, address, bits) in rows {
+        let (ty, pointer) = pair(alloc)?;
+        let load = Exp::Load(ty, pointer, element(alloc, negative, magnitude)?);
+        let (ty, pointer) = pair(alloc)?;
+        let at = Exp::At(ty, pointer, element(alloc, negative, magnitude)?);
+        let (_, pointer) = pair(alloc)?;
+        let index = Exp::Number(Number::new(negative, magnitude));
+        let padd = Exp::Padd(CType::Int(IntType::UInt), pointer, Box::new(alloc, index)?);
+        for (e, want) in [(&load, bits), (&at, address), (&padd, address)] {
+            let value = value_of(alloc, e)?.ok().ok_or("no value")?;
+            assert!(rt;
+                same_value(&value, &Value::Word(Word::new(32, want))),
+                "{magnitude}"
+            );
+        }
+    }
+    Ok(())
+}
+
+#[test]
+fn types_of_any_size(rt: HostRuntime) -> Result<(), Fail> {
+    let alloc = rt.alloc();
+    let l = Layout::build(Target::Lp64, Vec::new(alloc))?;
+    let mut ty = CType::Int(IntType::UInt);
+    for _ in 0..1000u32 {
+        ty = CType::Array(Box::new(alloc, ty)?, u32::MAX);
+    }
+    let pointer = Box::new(alloc, Exp::Word(Word::new(64, 4096)))?;
+    let e = Exp::PtrOk(ty, pointer);
+    assert!(rt; sort_of(&e, &Names::new(), &l, &[]).is_none());
+    Ok(())
+}
+
+#[test]
+fn names_that_hide_others(rt: HostRuntime) -> Result<(), Fail> {
+    let alloc = rt.alloc();
+    let l = Layout::build(Target::Lp64, Vec::new(alloc))?;
+    let outer = Names::new();
+    let outer = outer.push("x", Scalar::Word(8));
+    let inner = outer.push("x", Scalar::Truth);
+    let e = Exp::Var(String::from_str(alloc, "x")?);
+    let sort = sort_of(&e, &inner, &l, &[]);
+    assert!(rt; matches!(sort, Some(Sort::Of(Scalar::Truth))));
+    Ok(())
+}
+
+#[test]
+fn long_paths(rt: HostRuntime) -> Result<(), Fail> {
+    let alloc = rt.alloc();
+    let mut path = Path::Here;
+    for _ in 0..100000u32 {
+        path = Path::Field(0, Box::new(alloc, path)?);
+    }
+    let e = Exp::Global(String::from_str(alloc, "g")?, path);
+    let copy = e.copy(alloc)?;
+    let l = Layout::build(Target::Lp64, Vec::new(alloc))?;
+    assert!(rt; sort_of(&copy, &Names::new(), &l, &[]).is_none());
+    Ok(())
+}
+
+#[test]
+fn deep_expressions(rt: HostRuntime) -> Result<(), Fail> {
+    let alloc = rt.alloc();
+    let mut e = truth(alloc, true)?;
+    for _ in 0..4096u32 {
+        e = Box::new(alloc, Exp::Not(e))?;
+    }
+    let copy = e.copy(alloc)?;
+    let value = value_of(alloc, &copy)?.ok().ok_or("no value")?;
+    assert!(rt; same_value(&value, &Value::Truth(true)));
+    Ok(())
+}
