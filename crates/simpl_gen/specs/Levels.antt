@@ -1,9 +1,8 @@
 -- The level of each function. By default a function works on bytes where it, or a function that it calls, makes a pointer
 -- to a type that isn't void from something of another type, null pointer constants apart, or where it is named so; every other one works on typed heaps. The least
 -- set with three rules; the code goes over the functions until nothing changes.
-use Rattle.std.specs.Prelude.{◌≡◌, Bool, true, false, not, ◌&&◌, ◌||◌, List, [], ◌∷◌, ◌++◌, Option, Some, None, if◌then◌else◌}
+use Rattle.std.specs.Prelude.{◌≡◌, Bool, true, false, ◌||◌, List, [], ◌∷◌, ◌++◌, Option, Some, None, if◌then◌else◌}
 use Rattle.c_values.specs.Name.{Name, is_among}
-use Rattle.c_values.specs.Types.{CType, Void, Ptr, same_type}
 use Rattle.ac_expr.specs.Sort.{Level, Bytes, Words, Numbers}
 use Rattle.c_typed.specs.Cast.{casts_to, has_cast, place_has_cast}
 use Rattle.c_typed.specs.Typed as C

@@ -3,3 +3,5 @@ pub mod CRun
 pub mod Levels
 pub mod Guards
 pub mod Generate
+pub mod WellTyped
+pub mod Fitting

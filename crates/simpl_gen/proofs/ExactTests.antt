@@ -1,0 +1,53 @@
+-- Tests that are made of several, and what is chosen by a test.
+use Rattle.std.proofs.Common.{◌≡◌, Bool, true, false, Option, Some, None, refl}
+use Rattle.std.specs.Prelude.{◌&&◌, if◌then◌else◌}
+use Rattle.std.proofs.lemmas.Bool.{false≢true}
+
+pub all_of_two : (a b : Bool) → (a && b) ≡ true → (a ≡ true) × (b ≡ true)
+all_of_two true true h = (refl, refl)
+all_of_two true false h = absurd (false≢true h)
+all_of_two false b h = absurd (false≢true h)
+
+pub all_of_three : (a b c : Bool) → (a && b && c) ≡ true → (a ≡ true) × (b ≡ true) × (c ≡ true)
+all_of_three true true true h = (refl, refl, refl)
+all_of_three true true false h = absurd (false≢true h)
+all_of_three true false c h = absurd (false≢true h)
+all_of_three false b c h = absurd (false≢true h)
+
+pub all_of_four : (a b c d : Bool) → (a && b && c && d) ≡ true → (a ≡ true) × (b ≡ true) × (c ≡ true) × (d ≡ true)
+all_of_four true true true true h = (refl, refl, refl, refl)
+all_of_four true true true false h = absurd (false≢true h)
+all_of_four true true false d h = absurd (false≢true h)
+all_of_four true false c d h = absurd (false≢true h)
+all_of_four false b c d h = absurd (false≢true h)
+
+pub all_of_five : (a b c d e : Bool) → (a && b && c && d && e) ≡ true → (a ≡ true) × (b ≡ true) × (c ≡ true) × (d ≡ true) × (e ≡ true)
+all_of_five true true true true true h = (refl, refl, refl, refl, refl)
+all_of_five true true true true false h = absurd (false≢true h)
+all_of_five true true true false e h = absurd (false≢true h)
+all_of_five true true false d e h = absurd (false≢true h)
+all_of_five true false c d e h = absurd (false≢true h)
+all_of_five false b c d e h = absurd (false≢true h)
+
+pub same_some : {A : Type 0} {a b : A} → ◌≡◌ {A = Option A} (Some a) (Some b) → a ≡ b
+same_some h = cc
+
+pub none_is_none : {A : Type 0} {a : A} → ◌≡◌ {A = Option A} None (Some a) → ⊥
+none_is_none h = cc
+
+-- what holds of both choices, each under its test
+pub by_test : {A : Type 0} (P : A → Type 0) (b : Bool) (x y : A) → (b ≡ true → P x) → (b ≡ false → P y) → P (if b then x else y)
+by_test P true x y h k = h refl
+by_test P false x y h k = k refl
+
+pub by_cases : (P : Type 0) (b : Bool) → (b ≡ true → P) → (b ≡ false → P) → P
+by_cases P true h k = h refl
+by_cases P false h k = k refl
+
+pub where_true : {A : Type 0} (b : Bool) (x y : A) → b ≡ true → (if b then x else y) ≡ x
+where_true true x y e = refl
+where_true false x y e = absurd (false≢true e)
+
+pub where_false : {A : Type 0} (b : Bool) (x y : A) → b ≡ false → (if b then x else y) ≡ y
+where_false true x y e = absurd (let c : ◌≡◌ {A = Bool} true false = e in cc)
+where_false false x y e = refl
