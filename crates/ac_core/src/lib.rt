@@ -3,6 +3,7 @@
 
 mod answer;
 mod class;
+mod expression_text;
 mod program_text;
 mod refusal;
 mod status;

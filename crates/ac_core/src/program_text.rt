@@ -1,13 +1,12 @@
 //! The canonical text of programs, for the programs that there are so far. `specs/ProgramText` has the whole language.
 
-ghost use Rattle.std.specs.Prelude.{◌≡◌, ◌++◌, List, map, pos, codes, string_bytes, OnOk, IfOk};
-ghost use Rattle.std.specs.Fmt.{decimal};
+ghost use Rattle.std.specs.Prelude.{◌≡◌, ◌++◌, map, string_bytes, OnOk, IfOk};
 ghost use Rattle.ac_expr.specs.Code.{exp_of, level_of, kind_of};
 ghost use Rattle.monad_lang.specs.Code.{mon_of, binder_of, final_fn_of, final_unit_of};
 ghost use Rattle.ac_core.specs.ProgramText.{exp_text, spaced, row, kind_text, level_text, binder_text, program_text, then_texts, signature_text, function_text, unit_text};
 
+use crate::expression_text::{push, push_count, push_exp, push_name};
 use ac_expr::{Exp, Kind, Level};
-use itoa::Buffer;
 use monad_lang::{Binder, FinalFn, FinalUnit, Mon};
 use std::alloc::{AllocError, Global};
 
@@ -127,7 +126,7 @@ fn push_kind(out: &mut Vec<u8>, kind: &Kind) -> Result<(), AllocError>
         Kind::Bool => return push(out, "bool"),
     };
     push(out, head)?;
-    push_number(out, u64::from(width))?;
+    push_count(out, u64::from(width))?;
     push(out, ")")
 }
 
@@ -209,47 +208,4 @@ fn push_values(out: &mut Vec<u8>, values: &[Exp]) -> Result<(), AllocError>
         push_exp(out, value)?;
     }
     Ok(())
-}
-
-fn push_exp(out: &mut Vec<u8>, exp: &Exp) -> Result<(), AllocError>
-    ensures { OnOk result (out.new.items ≡ out.old.items ++ exp_text (exp_of exp.now)) }
-{
-    match exp {
-        Exp::Var(name) => push_name(out, name),
-        Exp::Number(number) => push_number(out, *number),
-        Exp::Add(a, b) => {
-            push(out, "(add ")?;
-            push_exp(out, a)?;
-            push(out, " ")?;
-            push_exp(out, b)?;
-            push(out, ")")
-        }
-        Exp::Between(low, a, high) => {
-            push(out, "(between ")?;
-            push_number(out, *low)?;
-            push(out, " ")?;
-            push_exp(out, a)?;
-            push(out, " ")?;
-            push_number(out, *high)?;
-            push(out, ")")
-        }
-    }
-}
-
-fn push_number(out: &mut Vec<u8>, number: u64) -> Result<(), AllocError>
-    ensures { OnOk result (out.new.items ≡ out.old.items ++ decimal number) }
-{
-    out.extend_from_slice(Buffer::new().format(number).as_bytes())
-}
-
-fn push_name(out: &mut Vec<u8>, name: &String) -> Result<(), AllocError>
-    ensures { OnOk result (out.new.items ≡ out.old.items ++ string_bytes name.now) }
-{
-    push(out, name.as_str())
-}
-
-fn push(out: &mut Vec<u8>, text: &str) -> Result<(), AllocError>
-    ensures { OnOk result (out.new.items ≡ out.old.items ++ text.now) }
-{
-    out.extend_from_slice(text.as_bytes())
 }

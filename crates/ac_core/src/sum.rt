@@ -9,7 +9,7 @@ ghost use Rattle.ac_core.specs.SumCode.{sum_of, function_of};
 
 use ac_expr::{Exp, Kind, Level};
 use c_values::views::word;
-use c_values::{Layout, Number};
+use c_values::{Layout, Number, NumberOp, nat};
 use monad_lang::{Binder, FinalFn, FinalUnit, Mon};
 use std::alloc::{AllocError, Global};
 
@@ -118,7 +118,11 @@ fn guarded(alloc: Global, sum: &Sum, rest: Mon) -> Result<Mon, AllocError>
 fn guard(alloc: Global, number: Exp) -> Result<Mon, AllocError>
     ensures { IfOk result (λ guard. mon_of guard ≡ sums.guard (exp_of number)) }
 {
-    Ok(Mon::Guard(Exp::Between(0, Box::new(alloc, number)?, u64::from(u32::MAX))))
+    Ok(Mon::Guard(Exp::Between(
+        Number::new(false, 0),
+        Box::new(alloc, number)?,
+        Number::new(false, u128::from(u32::MAX)),
+    )))
 }
 
 fn expression(alloc: Global, sum: &Sum) -> Result<Exp, AllocError>
@@ -126,8 +130,9 @@ fn expression(alloc: Global, sum: &Sum) -> Result<Exp, AllocError>
 {
     match sum {
         Sum::Named(name) => Ok(Exp::Var(name.clone()?)),
-        Sum::Constant(n) | Sum::Converted(n) => Ok(Exp::Number(word(32, *n).bits())),
-        Sum::Plus(a, b) => Ok(Exp::Add(
+        Sum::Constant(n) | Sum::Converted(n) => Ok(Exp::Number(nat(word(32, *n)))),
+        Sum::Plus(a, b) => Ok(Exp::Arith(
+            NumberOp::Add,
             Box::new(alloc, expression(alloc, a)?)?,
             Box::new(alloc, expression(alloc, b)?)?,
         )),
