@@ -20,8 +20,8 @@ use Rattle.monad_lang.specs.Program.{Place, Mon, Ret, Bind}
 use Rattle.monad_lang.specs.Form.{program_has, is_stored, no_place, is_numbers}
 use Rattle.monad_lang.specs.Run as M
 use Rattle.c_typed.specs.Typed as C
-use Rattle.simpl_gen.specs.CValue as V
-use Rattle.simpl_gen.specs.Generate.{variables}
+use Rattle.c_meaning.specs.CValue as V
+use Rattle.c_meaning.specs.Generate.{variables}
 use Rattle.ac_core.specs.Exact.{AreArguments, Begin, state_of, heap_for, ExactFrom, Exact, IsExact, ArePrograms, AreProgramsOf}
 use Rattle.ac_core.specs.Answer.{AreInNumbers}
 use Rattle.ac_core.specs.Sum.{Sum, Named, Constant, Converted, Plus, SumFunction, IsSum, layout, c_sum, c_parameter, typed_fn_of, typed_unit_of, levels, constant, exp_of_sum, guard, guarded, body, parameter, final_fn_of, final_unit_of}

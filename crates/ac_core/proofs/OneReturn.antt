@@ -17,9 +17,9 @@ use Rattle.simpl_lang.specs.Exec.{Machine, machine_with, Returned}
 use Rattle.monad_lang.specs.Program.{Mon, FinalFn, FinalUnit}
 use Rattle.monad_lang.specs.Run as M
 use Rattle.c_typed.specs.Typed as C
-use Rattle.simpl_gen.specs.CValue as V
-use Rattle.simpl_gen.specs.CRun as R
-use Rattle.simpl_gen.specs.Generate.{variables}
+use Rattle.c_meaning.specs.CValue as V
+use Rattle.c_meaning.specs.CRun as R
+use Rattle.c_meaning.specs.Generate.{variables}
 use Rattle.ac_core.specs.Exact.{Begin, state_of, c_ends, program_ends, Fails, IsUndefined, seen, ReturnsAs, KeepsMemory, ExactFrom}
 use Rattle.ac_core.specs.Sum.{unsigned_type, layout, c_parameter, parameter, levels}
 use Rattle.ac_core.proofs.Unsigned.{bits, same_itself, c_bound, m_bound, context}

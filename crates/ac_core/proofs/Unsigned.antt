@@ -20,9 +20,9 @@ use Rattle.ac_expr.specs.Signature.{names_of, kinds_of, bound}
 use Rattle.simpl_lang.specs.Command as K
 use Rattle.monad_lang.specs.Run as M
 use Rattle.c_typed.specs.Typed as C
-use Rattle.simpl_gen.specs.CValue as V
-use Rattle.simpl_gen.specs.CValue.{◌>>=◌}
-use Rattle.simpl_gen.specs.Generate.{variables}
+use Rattle.c_meaning.specs.CValue as V
+use Rattle.c_meaning.specs.CValue.{◌>>=◌}
+use Rattle.c_meaning.specs.Generate.{variables}
 use Rattle.ac_core.specs.Exact.{AreArguments}
 use Rattle.ac_core.specs.Sum.{layout, c_parameter, parameter}
 

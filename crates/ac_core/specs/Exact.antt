@@ -23,8 +23,8 @@ use Rattle.simpl_lang.specs.Exec.{Returned}
 use Rattle.monad_lang.specs.Program.{FinalUnit, FinalFn}
 use Rattle.monad_lang.specs.Run.{Answer, Failure, program_runs}
 use Rattle.c_typed.specs.Typed.{TypedUnit, TypedFn, Variable, typed_fn}
-use Rattle.simpl_gen.specs.CRun.{c_runs, plain}
-use Rattle.simpl_gen.specs.Generate.{variables, result_kind}
+use Rattle.c_meaning.specs.CRun.{c_runs, plain}
+use Rattle.c_meaning.specs.Generate.{variables, result_kind}
 
 -- each global has a value of its type
 abbrev pub AreGlobals : Layout → List GlobalVar → (Name → Value) → Type 0

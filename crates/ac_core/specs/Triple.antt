@@ -1,7 +1,7 @@
 -- Hoare triples (Hoare 1969, with logical variables), of an abstract program and of the C that it stands for.
 use Rattle.std.specs.Prelude.{◌≡◌, ℕ, Bool, true, false, not, ◌&&◌, List, [], ◌∷◌, ◌++◌, map, Option, Some, None, codes, if◌then◌else◌}
 use Rattle.correspondence.specs.Outcome.{Done, Failed}
-use Rattle.c_values.specs.Name.{Name}
+use Rattle.c_values.specs.Name.{Name, are_distinct}
 use Rattle.c_values.specs.Value.{Value, Number, Truth}
 use Rattle.c_values.specs.Path.{IsBits}
 use Rattle.c_values.specs.Choice.{Choice}
@@ -11,7 +11,7 @@ use Rattle.c_memory.specs.Heap.{Heap, OnBytes, OnTypes, IsHeap}
 use Rattle.ac_expr.specs.Expression.{Exp}
 use Rattle.ac_expr.specs.Sort.{Level, Scalar, WordSort, NumberSort, TruthSort, Scope, sort_of, is_truth, sort_of_kind, is_lifted}
 use Rattle.ac_expr.specs.Form.{has, is_load, is_read}
-use Rattle.ac_expr.specs.Sorted.{are_distinct, scope_with}
+use Rattle.ac_expr.specs.Sorted.{scope_with}
 use Rattle.ac_expr.specs.Evaluation.{State, holds}
 use Rattle.ac_expr.specs.View.{AreOfKinds, views_at}
 use Rattle.ac_expr.specs.Signature.{bound, no_env, names_of, kinds_of}
@@ -19,8 +19,8 @@ use Rattle.simpl_lang.specs.Exec.{Returned}
 use Rattle.monad_lang.specs.Program.{FinalUnit, FinalFn, final_fn}
 use Rattle.monad_lang.specs.Run.{Answer, program_runs}
 use Rattle.c_typed.specs.Typed.{TypedUnit, TypedFn, typed_fn}
-use Rattle.simpl_gen.specs.CRun.{plain}
-use Rattle.simpl_gen.specs.Generate.{variables, result_kind}
+use Rattle.c_meaning.specs.CRun.{plain}
+use Rattle.c_meaning.specs.Generate.{variables, result_kind}
 use Rattle.ac_core.specs.Exact.{AreGlobals, Begin, IsBegin, state_of, heap_for, c_ends, seen, IsUndefined}
 
 -- a variable that stands for the same value before and after

@@ -4,6 +4,7 @@
 mod answer;
 mod class;
 mod expression_text;
+mod generation_laws;
 mod program_text;
 mod refusal;
 mod status;
@@ -11,11 +12,14 @@ mod sum;
 mod top;
 mod words;
 
+pub use generation_laws::generated_texts_have_the_same_ends;
 pub use status::Status;
 pub use top::autocorres;
 
 #[cfg(test)]
 mod conversion_tests;
+#[cfg(test)]
+mod generation_tests;
 #[cfg(test)]
 mod tests;
 #[cfg(test)]

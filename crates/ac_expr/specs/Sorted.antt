@@ -1,16 +1,12 @@
 -- What programs and commands ask of their expressions: sorts of lists, of places and of calls.
 use Rattle.std.specs.Prelude.{Bool, true, false, not, ◌&&◌, List, [], ◌∷◌, map, Option, Some, None, if◌then◌else◌}
-use Rattle.c_values.specs.Name.{Name, with_name, is_among}
+use Rattle.c_values.specs.Name.{Name, with_name}
 use Rattle.c_values.specs.Types.{CType, address_width}
 use Rattle.c_values.specs.Layout.{Shape, is_object, shape_of}
 use Rattle.ac_expr.specs.Expression.{Exp, Path}
 use Rattle.ac_expr.specs.Sort.{Scalar, Sort, Of, PartsSort, Kind, Scope, sort_of, shape_along, sort_at, same_scalar, same_sort, is_word_of}
 use Rattle.ac_expr.specs.Form.{has, path_has, is_part_of_value}
 use Rattle.ac_expr.specs.Signature.{Signature, kinds_of}
-
-abbrev pub are_distinct : List Name → Bool
-are_distinct [] = true
-are_distinct (x ∷ xs) = not (is_among x xs) && are_distinct xs
 
 abbrev pub names_with : List Name → List Scalar → (Name → Option Scalar) → Name → Option Scalar
 names_with (x ∷ xs) (s ∷ ss) names = names_with xs ss (with_name x (Some s) names)

@@ -1,7 +1,4 @@
-pub mod CValue
-pub mod CRun
-pub mod Levels
-pub mod Guards
-pub mod Generate
-pub mod WellTyped
-pub mod Fitting
+pub mod Tests
+pub mod AtLevels
+pub mod CodeJump
+pub mod CodeAdded

@@ -1,8 +1,25 @@
-//! What C means, and the Simpl program that is generated for it.
+//! The Simpl program of a typed unit.
 #![tactic(auto)]
 
-mod generation_laws;
-mod run_laws;
+mod assignments;
+mod calls;
+mod checks;
+mod commands;
+mod functions;
+mod guards;
+mod jumps;
+mod kinds;
+mod layout_copies;
+mod locals;
+mod loops;
+mod names;
+mod operators;
+mod ranges;
+mod scalars;
+mod statements;
+mod switches;
+mod terms;
+mod values;
 
-pub use generation_laws::generated_has_the_same_ends;
-pub use run_laws::{statements_continue, statements_end_once, watching_keeps_ends};
+pub use c_levels::{Modes, Reason, default_modes, reasons};
+pub use functions::generate;

@@ -7,7 +7,7 @@ use Rattle.c_values.proofs.SameType.{same_type-refl}
 use Rattle.c_typing.specs.Operand.{path_then}
 use Rattle.c_typing.specs.Expressions.{Tail, Nothing, LastMember, LastElement, behind, tail, address}
 use Rattle.c_typed.specs.Typed as C
-use Rattle.simpl_gen.specs.WellTyped.{Scope, has_type, has_integer_type, shape_along, leads_to, is_typed, is_typed_place, are_typed_indices}
+use Rattle.c_typed.specs.WellTyped.{Scope, has_type, has_integer_type, shape_along, leads_to, is_typed, is_typed_place, are_typed_indices}
 use Rattle.well_typed.proofs.Tests.{both, left, right, none_some, some_same}
 use Rattle.well_typed.proofs.Parts.{along_some, if_some, object_type}
 use Rattle.well_typed.proofs.Places.{IsSound, place_rooted, place_from, place_at, along_then}

@@ -11,7 +11,7 @@ use Rattle.c_typing.specs.declared.operators.Arrival.TheVariants as A
 use Rattle.c_typing.specs.Operators.{is_void, is_pointer_to_none, pointed_in, adds, added, subtracts, subtracted, is_null, scalars, paired, equated, shifted, binary, chosen, arrives_from, arrived, is_struct, converted, cast, integer_in}
 use Rattle.c_typing.specs.Operators as O
 use Rattle.c_typed.specs.Typed as C
-use Rattle.simpl_gen.specs.WellTyped.{Scope, is_integer}
+use Rattle.c_typed.specs.WellTyped.{Scope, is_integer}
 use Rattle.well_typed.proofs.Tests.{both, neither, not_false, name_is}
 use Rattle.well_typed.proofs.Rulings.{Rules, ruled, refused, refused_or, rules_then}
 use Rattle.well_typed.proofs.Growth.{IsGrown, object_kept}

@@ -3,10 +3,10 @@ use Rattle.std.proofs.Common.{◌≡◌, ℕ, true, List, ◌++◌, sym, ap, ◌
 use Rattle.c_values.specs.Name.{Name}
 use Rattle.c_values.specs.Types.{CType}
 use Rattle.c_typed.specs.Typed as C
+use Rattle.c_typed.specs.WellTyped as W
 use Rattle.c_typing.specs.declared.fault.TypeKind.{TypeKind}
 use Rattle.c_typing.specs.Scope.{Scope, opened, closed, outer}
 use Rattle.c_typing.specs.Checked.{Checked, Good, Bad, Judgement, then, Ruling, Ruled, Refused, ruled, in_block}
-use Rattle.simpl_gen.specs.WellTyped as W
 use Rattle.well_typed.proofs.Rulings.{Rules, rules_value}
 use Rattle.well_typed.proofs.Scopes.{Variables, Fits, fits_more, has_block}
 use Rattle.well_typed.proofs.Later.{IsLater, later_itself, later_twice, IsWithin, within_before, within_fewer, opened_later, block_opened, block_closed, within_closed}

@@ -12,8 +12,8 @@ use Rattle.c_typing.specs.Operators.{converted}
 use Rattle.c_typing.specs.Expressions.{value}
 use Rattle.c_typing.specs.Calls.{Called, Callee, callee, passed, called, one_call_more, values, call, calls_for, ignored, goes_to, result_for, Right, Computed, Resulting, right, assigned, returned}
 use Rattle.c_typed.specs.Typed as C
-use Rattle.simpl_gen.specs.WellTyped.{has_type, is_type, is_typed, is_typed_target, are_arguments, is_use_of, is_call_of, is_statement}
-use Rattle.simpl_gen.specs.WellTyped as W
+use Rattle.c_typed.specs.WellTyped.{has_type, is_type, is_typed, is_typed_target, are_arguments, is_use_of, is_call_of, is_statement}
+use Rattle.c_typed.specs.WellTyped as W
 use Rattle.well_typed.specs.Written.{Each, IsExp, IsCall, IsRhs}
 use Rattle.well_typed.proofs.Tests as tests
 use Rattle.well_typed.proofs.Tests.{both, not_false}

@@ -4,14 +4,13 @@ use Rattle.std.proofs.lemmas.Bool.{false≢true, true≢false, or_cases, or_left
 use Rattle.std.proofs.lemmas.List.Sums.{sum_by-append}
 use Rattle.std.specs.Option.{option_map_or}
 use Rattle.std.specs.List.{cons_option}
-use Rattle.c_values.specs.Name.{Name, same_name, is_among}
+use Rattle.c_values.specs.Name.{Name, same_name, is_among, are_distinct}
 use Rattle.c_values.proofs.SameType.{same_type-refl}
-use Rattle.ac_expr.specs.Sorted.{are_distinct}
 use Rattle.c_typing.specs.Scope.{Scope, Local, declare, outer, opened}
 use Rattle.c_typing.specs.Progress.{at_start}
 use Rattle.c_typing.specs.Functions.{Parameter, variables, types, add_parameter, add_parameters, enter}
 use Rattle.c_typed.specs.Typed as C
-use Rattle.simpl_gen.specs.WellTyped.{variable_type, is_type, are_variables, is_own_name}
+use Rattle.c_typed.specs.WellTyped.{variable_type, is_type, are_variables, is_own_name}
 use Rattle.well_typed.specs.Written.{IsName, Each}
 use Rattle.well_typed.proofs.Tests.{both, left, right, name_is, name_itself}
 use Rattle.well_typed.proofs.Numbered.{numbered_own}

@@ -15,7 +15,7 @@ use Rattle.c_typing.specs.Operators.{promoting, with_scalar}
 use Rattle.c_typing.specs.Operators as O
 use Rattle.c_typing.specs.Expressions.{target, followed, stepped, array_of, indexed_at, indexed, member_of, member_in, member_in_struct, member_among, pointer_member, member_of_operand, addressed, valued, unary, size_constant}
 use Rattle.c_typed.specs.Typed as C
-use Rattle.simpl_gen.specs.WellTyped.{Scope, has_type, is_in_memory, is_array_of, is_typed, is_typed_place, is_typed_target}
+use Rattle.c_typed.specs.WellTyped.{Scope, has_type, is_in_memory, is_array_of, is_typed, is_typed_place, is_typed_target}
 use Rattle.well_typed.proofs.Tests.{both, left, right, not_false}
 use Rattle.well_typed.proofs.Rulings.{Rules, ruled, refused, refused_or, rules_then, rules_weaker}
 use Rattle.well_typed.proofs.Growth.{IsGrown, object_kept}

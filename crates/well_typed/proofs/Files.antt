@@ -6,6 +6,7 @@ use Rattle.c_values.specs.Types.{CType, Void, Integer, Ptr, Struct, Array, same_
 use Rattle.c_values.specs.Layout.{Layout}
 use Rattle.c_values.proofs.SameType.{type_is}
 use Rattle.c_grammar.specs.Tree as tree
+use Rattle.c_typed.specs.WellTyped as W
 use Rattle.c_typing.specs.File.{GlobalSoFar}
 use Rattle.c_typing.specs.Scope.{Scope, Entity, Enumerator, Global, Function, Local, Hidden, Names, entity, is_declared_here, with_entity, outer, opened, closed}
 use Rattle.c_typing.specs.Checked.{in_block}
@@ -13,7 +14,6 @@ use Rattle.c_typing.specs.Declarations.{Declared}
 use Rattle.c_typing.specs.Expressions.{declarator, dimensions}
 use Rattle.c_typing.specs.Functions.{Parameter, parameters, types, result_type, same_result, same_types, agrees, is_result, function_rule, add_function}
 use Rattle.c_typing.specs.Unit.{declared_name}
-use Rattle.simpl_gen.specs.WellTyped as W
 use Rattle.well_typed.specs.Written.{Each, IsParam, IsDeclarator}
 use Rattle.well_typed.proofs.Tests.{left, right, neither, not_false}
 use Rattle.well_typed.proofs.Rulings.{Rules, refused_or}

@@ -11,8 +11,8 @@ use Rattle.c_typing.specs.Statements.{items, listed}
 use Rattle.c_typing.specs.Functions.{Parameter, parameters, types, variables, body_rule, add_function, add_body, enter, around_body, body, function_of, finished, fresh, function}
 use Rattle.c_typing.specs.Unit.{declared_name}
 use Rattle.c_typed.specs.Typed as C
-use Rattle.simpl_gen.specs.WellTyped.{are_statements, nowhere}
-use Rattle.simpl_gen.specs.WellTyped as W
+use Rattle.c_typed.specs.WellTyped.{are_statements, nowhere}
+use Rattle.c_typed.specs.WellTyped as W
 use Rattle.well_typed.specs.Written.{Each, AreWords, IsDeclarator, IsParam, AreItems}
 use Rattle.well_typed.proofs.Tests.{name_itself}
 use Rattle.well_typed.specs.Count.{locals_among}

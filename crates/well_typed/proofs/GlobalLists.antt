@@ -1,10 +1,9 @@
 -- The globals so far with one changed, or one more.
 use Rattle.std.proofs.Common.{◌≡◌, Bool, true, false, not, cond, List, [], ◌∷◌, map, Option, Some, option_map, refl, sym, ap, ◌∙◌, subst}
 use Rattle.std.proofs.lemmas.Bool.{true≢false, not_from_false, not-true, or_from}
-use Rattle.c_values.specs.Name.{Name, same_name, is_among}
+use Rattle.c_values.specs.Name.{Name, same_name, is_among, are_distinct}
 use Rattle.c_values.specs.Types.{CType}
 use Rattle.c_values.specs.Layout.{Layout, is_object}
-use Rattle.ac_expr.specs.Sorted.{are_distinct}
 use Rattle.c_typing.specs.File.{GlobalSoFar, global_named, with_global}
 use Rattle.c_typing.specs.Scope.{Entity, Global, Names}
 use Rattle.well_typed.proofs.Tests.{both, left, right, neither, name_is, name_itself, none_some, some_same}

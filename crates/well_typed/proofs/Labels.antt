@@ -6,14 +6,14 @@ use Rattle.std.specs.List.{list_any}
 use Rattle.c_values.specs.Types.{Target, IntType, Integer}
 use Rattle.c_values.specs.Number.{is_of_type}
 use Rattle.c_grammar.specs.Tree as tree
+use Rattle.c_typed.specs.Labels.{is_label}
+use Rattle.c_typed.specs.WellTyped.{are_values, are_different}
+use Rattle.c_typed.specs.WellTyped as W
 use Rattle.c_typing.specs.Scope.{Scope}
 use Rattle.c_typing.specs.Constant.{number_at}
 use Rattle.c_typing.specs.Operand.{ForValue}
 use Rattle.c_typing.specs.Expressions.{first, operand, integer_constant}
 use Rattle.c_typing.specs.Statements.{Labels, no_labels, both, case_label, default_label, label, labels}
-use Rattle.simpl_gen.specs.CRun.{is_label}
-use Rattle.simpl_gen.specs.WellTyped.{are_values, are_different}
-use Rattle.simpl_gen.specs.WellTyped as W
 use Rattle.well_typed.specs.Written.{Each, IsLabel}
 use Rattle.well_typed.proofs.Tests as tests
 use Rattle.well_typed.proofs.Rulings.{Rules, ruled, refused_or}

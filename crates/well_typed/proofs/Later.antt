@@ -6,8 +6,8 @@ use Rattle.c_values.specs.Types.{CType}
 use Rattle.c_values.specs.Layout.{global_type}
 use Rattle.c_typing.specs.Scope.{Scope, Global, Function, Names, is_declared_here, outer, opened, closed}
 use Rattle.c_typed.specs.Typed as C
-use Rattle.simpl_gen.specs.WellTyped.{variable_type, is_type}
-use Rattle.simpl_gen.specs.WellTyped as W
+use Rattle.c_typed.specs.WellTyped.{variable_type, is_type}
+use Rattle.c_typed.specs.WellTyped as W
 use Rattle.well_typed.proofs.Growth.{IsGrown, grown_itself, grown_twice}
 use Rattle.well_typed.proofs.Places.{IsSound}
 use Rattle.well_typed.proofs.Scopes.{Variables, Fits, IsFit, Keeps, file_names, has_block, fits_opened, fits_closed, file_inside}

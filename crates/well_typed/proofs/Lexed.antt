@@ -10,7 +10,7 @@ use Rattle.c_lex.specs.Lexeme.{Kind, Lexeme, name, keyword, punct, character, nu
 use Rattle.c_lex.specs.Spelling.{IsCharacter, plain, simple, octal_escape, hexadecimal_escape, Spells}
 use Rattle.c_lex.specs.Spelling as spelling
 use Rattle.c_lex.specs.Tokens.{Leads, here, past_gap, past_token, Tokens}
-use Rattle.simpl_gen.specs.WellTyped.{dollar}
+use Rattle.c_typed.specs.WellTyped.{dollar}
 use Rattle.well_typed.specs.Written.{has_no_dollar, IsName}
 use Rattle.well_typed.proofs.Tests.{both, none_some, some_same}
 

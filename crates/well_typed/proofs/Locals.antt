@@ -12,7 +12,7 @@ use Rattle.c_typing.specs.Expressions.{base, declarator, dimensions, words_start
 use Rattle.c_typing.specs.Calls.{right}
 use Rattle.c_typing.specs.Locals.{local_name, add_local, name_local, initial, declared, init, inits, local}
 use Rattle.c_typed.specs.Typed as C
-use Rattle.simpl_gen.specs.WellTyped as W
+use Rattle.c_typed.specs.WellTyped as W
 use Rattle.well_typed.specs.Written.{IsName, Each, Where, IsDeclarator, IsRhs, IsInit, IsLocal}
 use Rattle.well_typed.proofs.Tests.{neither, not_false}
 use Rattle.well_typed.proofs.Rulings.{Rules, refused_or}

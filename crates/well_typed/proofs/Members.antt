@@ -11,7 +11,7 @@ use Rattle.c_typing.specs.Checked.{Ruling, Ruled}
 use Rattle.c_typing.specs.Operand.{place_then}
 use Rattle.c_typing.specs.Expressions.{member_from}
 use Rattle.c_typed.specs.Typed as C
-use Rattle.simpl_gen.specs.WellTyped.{Scope, member_shape, shape_along, is_typed_place}
+use Rattle.c_typed.specs.WellTyped.{Scope, member_shape, shape_along, is_typed_place}
 use Rattle.well_typed.proofs.Tests.{name_is, some_same}
 use Rattle.well_typed.proofs.Rulings.{Rules, ruled, refused}
 use Rattle.well_typed.proofs.Places.{IsSound, place_further}

@@ -3,8 +3,8 @@ use Rattle.std.proofs.Common.{◌≡◌, ℕ, ◌+◌, ◌^◌, ◌<◌, ◌==�
 use Rattle.std.proofs.lemmas.Bool.{false≢true, true≢false, eqb-true, eq-eqb, cases_Bool}
 use Rattle.std.proofs.lemmas.Fmt.{decimal_injective}
 use Rattle.c_values.specs.Name.{Name}
+use Rattle.c_typed.specs.WellTyped.{dollar, is_own_name}
 use Rattle.c_typing.specs.Progress.{numbered}
-use Rattle.simpl_gen.specs.WellTyped.{dollar, is_own_name}
 use Rattle.well_typed.specs.Written.{has_no_dollar, IsName}
 use Rattle.well_typed.proofs.Tests.{left, right, not_true}
 

@@ -9,7 +9,7 @@ use Rattle.c_typing.specs.Integers.{promoted, usual}
 use Rattle.c_typing.specs.Operators.{is_of, to_integer, is_void, is_void_pointer, to_void, integer_in, promotes, promotion, promoting, with_scalar, scalars, Balanced, balances, balance, balanced, shifts, shifted, is_pointer_to_none, pointed_in, adds, added, subtracts, subtracted, is_null, pointers_meet, meets, Pair, met, paired, equated, binary, chosen, arrives_from, arrived, is_struct, converted, cast}
 use Rattle.c_typing.specs.Operators as O
 use Rattle.c_typed.specs.Typed as C
-use Rattle.simpl_gen.specs.WellTyped.{Scope, is_integer, has_type, has_integer_type, is_typed, is_typed_at, is_typed_scalar}
+use Rattle.c_typed.specs.WellTyped.{Scope, is_integer, has_type, has_integer_type, is_typed, is_typed_at, is_typed_scalar}
 use Rattle.well_typed.proofs.Tests.{both, left, right, not_false}
 use Rattle.well_typed.proofs.Rulings.{Rules, ruled, refused, refused_or, rules_then}
 

@@ -3,10 +3,9 @@ use Rattle.std.proofs.Common.{◌≡◌, ℕ, suc, Bool, true, false, not, cond,
 use Rattle.std.proofs.lemmas.Bool.{false≢true, true≢false, false_from_ne_true, or_cases, not_from_false}
 use Rattle.std.specs.Option.{option_map_or}
 use Rattle.std.specs.List.{cons_option}
-use Rattle.c_values.specs.Name.{Name, same_name, is_among}
+use Rattle.c_values.specs.Name.{Name, same_name, is_among, are_distinct}
 use Rattle.c_values.specs.Types.{CType, Array}
 use Rattle.c_values.specs.Layout.{is_scalar}
-use Rattle.ac_expr.specs.Sorted.{are_distinct}
 use Rattle.c_grammar.specs.Tree as tree
 use Rattle.c_typing.specs.Scope.{Scope, Entity, Global, Local, Names, is_declared_here, with_entity, declare}
 use Rattle.c_typing.specs.Checked.{Good, rule}

@@ -9,7 +9,7 @@ use Rattle.c_values.proofs.Leads.{IsNth, first, next}
 use Rattle.c_values.proofs.Geometry.{nth_within}
 use Rattle.c_values.proofs.Parts.{formed_complete, nth_laid, laid_shape}
 use Rattle.c_typed.specs.Typed as C
-use Rattle.simpl_gen.specs.WellTyped.{member_shape, shape_along}
+use Rattle.c_typed.specs.WellTyped.{member_shape, shape_along}
 use Rattle.well_typed.proofs.Tests.{both, left, right, none_some, some_same}
 
 -- a shape that the layout gives its type, which is an object

@@ -7,7 +7,7 @@ use Rattle.c_values.specs.Layout.{IsLayout, Shape, Incomplete, Scalar, Record, R
 use Rattle.c_values.proofs.SameType.{type_is, same_type-refl}
 use Rattle.c_typing.specs.Operand.{path_then, place_then}
 use Rattle.c_typed.specs.Typed as C
-use Rattle.simpl_gen.specs.WellTyped.{Scope, has_type, has_integer_type, member_shape, shape_along, leads_to, shape_in, is_typed, is_typed_place, are_typed_indices}
+use Rattle.c_typed.specs.WellTyped.{Scope, has_type, has_integer_type, member_shape, shape_along, leads_to, shape_in, is_typed, is_typed_place, are_typed_indices}
 use Rattle.well_typed.proofs.Tests.{both, left, right, none_some, some_same}
 use Rattle.well_typed.proofs.Parts.{IsOwn, object_own, own_object, object_type, none_along, along_some, along_own, element_own}
 

@@ -2,11 +2,10 @@
 -- and its globals are objects with names of their own.
 use Rattle.std.proofs.Common.{◌≡◌, Bool, true, false, cond, List, [], ◌∷◌, map, Option, Some, None, is_some, option_map, ◌⊎◌, inl, inr, refl, sym, ap, ◌∙◌, subst}
 use Rattle.std.proofs.lemmas.Bool.{false≢true, true≢false, cond-true}
-use Rattle.c_values.specs.Name.{Name, same_name, with_name}
+use Rattle.c_values.specs.Name.{Name, same_name, with_name, are_distinct}
 use Rattle.c_values.specs.Types.{Target, Int, CType}
 use Rattle.c_values.specs.Number.{is_of_type}
 use Rattle.c_values.specs.Layout.{Layout, IsLayout, is_object}
-use Rattle.ac_expr.specs.Sorted.{are_distinct}
 use Rattle.c_typing.specs.File.{GlobalSoFar, global_named}
 use Rattle.c_typing.specs.Scope.{Scope, Entity, Enumerator, Global, Function, Local, Hidden, Names, entity, outer}
 use Rattle.well_typed.proofs.Tests.{none_some, some_same, name_is, name_itself}

@@ -13,8 +13,8 @@ use Rattle.c_typing.specs.Expressions.{first, place, value}
 use Rattle.c_typing.specs.Calls.{Right, right, call, calls_for, ignored}
 use Rattle.c_typing.specs.Simple.{assignment, value_at, update, step, simple}
 use Rattle.c_typed.specs.Typed as C
-use Rattle.simpl_gen.specs.WellTyped.{is_typed_target}
-use Rattle.simpl_gen.specs.WellTyped as W
+use Rattle.c_typed.specs.WellTyped.{is_typed_target}
+use Rattle.c_typed.specs.WellTyped as W
 use Rattle.well_typed.specs.Written.{IsSimple}
 use Rattle.well_typed.proofs.Tests.{both}
 use Rattle.well_typed.proofs.Rulings.{Rules, ruled, rules_then}

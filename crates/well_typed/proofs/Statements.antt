@@ -2,6 +2,8 @@
 use Rattle.std.proofs.Common.{suc, List, [], ◌∷◌, ◌++◌, Option, Some, None, refl, ap, ◌∙◌}
 use Rattle.c_values.specs.Types.{IntType}
 use Rattle.c_typed.specs.Typed as C
+use Rattle.c_typed.specs.WellTyped.{nowhere, in_a_loop}
+use Rattle.c_typed.specs.WellTyped as W
 use Rattle.c_grammar.specs.Tree as tree
 use Rattle.c_typing.specs.Scope.{Scope, hide_locals}
 use Rattle.c_typing.specs.Checked.{Good, rule, in_block}
@@ -11,8 +13,6 @@ use Rattle.c_typing.specs.Simple.{simple}
 use Rattle.c_typing.specs.Locals.{local}
 use Rattle.c_typing.specs.Progress.{next_switch, next_do_while}
 use Rattle.c_typing.specs.Statements.{Around, inside_loop, inside_switch, returns, switch_type, Labels, no_labels, both, labels, label_at, is_jump, ends_by_jump, is_last, separate, listed, start, loop_test, loop_step, optional_right, switch_number, do_while_number, statement, items, groups}
-use Rattle.simpl_gen.specs.WellTyped.{nowhere, in_a_loop}
-use Rattle.simpl_gen.specs.WellTyped as W
 use Rattle.well_typed.specs.Written.{Where, IsExp, IsRhs, IsSimple, IsStart, IsStmt, AreItems, AreGroups}
 use Rattle.well_typed.proofs.Tests as tests
 use Rattle.well_typed.proofs.Rulings.{rules_weaker}

@@ -1,11 +1,11 @@
 -- What judgements of the checker that declare no variables give: from a scope that fits, one that fits and is later, and what
 -- is well-typed in each whole that has it.
 use Rattle.std.proofs.Common.{◌≡◌, ℕ, refl, ◌∙◌}
+use Rattle.c_typed.specs.WellTyped as W
 use Rattle.c_typing.specs.declared.fault.TypeKind.{TypeKind}
 use Rattle.c_typing.specs.Scope.{Scope}
 use Rattle.c_typing.specs.Progress.{Progress}
 use Rattle.c_typing.specs.Checked.{Checked, Good, Bad, Judgement, then, Ruling, Ruled, Refused, ruled}
-use Rattle.simpl_gen.specs.WellTyped as W
 use Rattle.well_typed.proofs.Rulings.{Rules, rules_value}
 use Rattle.well_typed.proofs.Scopes.{Variables, Fits}
 use Rattle.well_typed.proofs.Later.{IsLater, later_itself, later_twice, IsWithin}

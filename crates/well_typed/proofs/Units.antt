@@ -3,8 +3,7 @@ use Rattle.std.proofs.Common.{ℕ, ◌≡◌, true, false, not, List, [], ◌∷
 use Rattle.std.proofs.lemmas.Bool.{false≢true, true≢false, or_cases, or_left, or_right, or_from, not_from_false, not-true, false_from_ne_true}
 use Rattle.std.proofs.lemmas.List.Folds.{list_any-append}
 use Rattle.std.specs.List.{cons_option}
-use Rattle.c_values.specs.Name.{Name, same_name, is_among}
-use Rattle.ac_expr.specs.Sorted.{are_distinct}
+use Rattle.c_values.specs.Name.{Name, same_name, is_among, are_distinct}
 use Rattle.c_grammar.specs.Tree as tree
 use Rattle.c_typing.specs.Scope.{Scope}
 use Rattle.c_typing.specs.Unit.{external, externals, declared_name, body_name}

@@ -2,15 +2,14 @@
 use Rattle.std.proofs.Common.{◌≡◌, ℕ, ◌+◌, ◌^◌, ◌<◌, Bool, true, false, not, cond, ◌&&◌, ◌||◌, List, [], ◌∷◌, ◌++◌, length, count_by, Some, None, refl, sym, ap, ◌∙◌, subst, arith, length-append, zero-add}
 use Rattle.std.proofs.lemmas.Bool.{false≢true, cond-true, cond-false, or_from, not_from_false}
 use Rattle.std.proofs.lemmas.List.Sums.{count_by-le-length, sum_by-append}
-use Rattle.c_values.specs.Name.{Name, same_name, is_among}
+use Rattle.c_values.specs.Name.{Name, same_name, is_among, are_distinct}
 use Rattle.c_values.specs.Types.{CType}
 use Rattle.c_values.specs.Layout.{is_scalar}
 use Rattle.c_values.proofs.Laid.{other_name}
 use Rattle.c_values.proofs.SameType.{same_type-refl}
-use Rattle.ac_expr.specs.Sorted.{are_distinct}
 use Rattle.c_typing.specs.Progress.{numbered}
 use Rattle.c_typed.specs.Typed as C
-use Rattle.simpl_gen.specs.WellTyped.{variable_type, is_type, are_variables, is_own_name}
+use Rattle.c_typed.specs.WellTyped.{variable_type, is_type, are_variables, is_own_name}
 use Rattle.well_typed.specs.Written.{IsName}
 use Rattle.well_typed.proofs.Tests.{both, left, right, neither, not_true, name_is, name_itself}
 use Rattle.well_typed.proofs.Scopes.{Variables}

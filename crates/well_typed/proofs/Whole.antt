@@ -1,10 +1,9 @@
 -- The unit of a text is well-typed.
 use Rattle.std.proofs.Common.{◌≡◌, ℕ, Bool, true, false, cond, List, [], ◌∷◌, ◌++◌, map, Option, Some, option_map, filter_map, ◌⊎◌, inl, inr, refl, sym, ap, ◌∙◌, subst, ◌<◌, ◌^◌, lt_of_le_of_lt}
 use Rattle.std.proofs.lemmas.Bool.{false≢true, true≢false, or_cases, cond-true, cond-false}
-use Rattle.c_values.specs.Name.{Name, same_name, is_among}
+use Rattle.c_values.specs.Name.{Name, same_name, is_among, are_distinct}
 use Rattle.c_values.specs.Types.{Target, CType}
 use Rattle.c_values.specs.Layout.{Layout, GlobalVar, global_type, is_object}
-use Rattle.ac_expr.specs.Sorted.{are_distinct}
 use Rattle.c_grammar.specs.Tree as tree
 use Rattle.c_typing.specs.File.{GlobalSoFar, global_named}
 use Rattle.c_typing.specs.Scope.{Scope, Entity, Function, Names}
@@ -12,7 +11,7 @@ use Rattle.c_typing.specs.declared.fault.TypeKind.{TypeKind}
 use Rattle.c_typing.specs.Checked.{Checked, Good, Bad}
 use Rattle.c_typing.specs.Unit.{externals, body_name, at_beginning, global_var, unit_in, whole, IsTyped}
 use Rattle.c_typed.specs.Typed as C
-use Rattle.simpl_gen.specs.WellTyped.{IsWellTyped, are_globals, are_functions, scope_in}
+use Rattle.c_typed.specs.WellTyped.{IsWellTyped, are_globals, are_functions, scope_in}
 use Rattle.well_typed.specs.Written.{Each, AreWritten}
 use Rattle.well_typed.specs.Count.{variables_in}
 use Rattle.well_typed.proofs.Tests.{both, left, right, name_is, name_itself, none_some, some_same}

@@ -3,7 +3,7 @@
 use Rattle.std.specs.Prelude.{◌≡◌, ◌<◌, ◌^◌, ◌==◌, Bool, true, false, not, ◌&&◌, List, [], ◌∷◌, Option, Some, None}
 use Rattle.c_grammar.specs.Tree.{Name, Exp, TypeName, Words, Word, Members, Declarators, Declarator, Dimensions, Enumerators, Enumerator, Call, Rhs, Simple, Init, Local, Label, Start, Stmt, Items, Groups, Bracket, Param, Top, External}
 use Rattle.c_grammar.specs.Tree as tree
-use Rattle.simpl_gen.specs.WellTyped.{dollar}
+use Rattle.c_typed.specs.WellTyped.{dollar}
 use Rattle.well_typed.specs.Count.{variables_in}
 
 abbrev pub has_no_dollar : Name → Bool

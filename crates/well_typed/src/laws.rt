@@ -7,8 +7,8 @@ ghost use Rattle.c_grammar.specs.Spells.{Spells};
 ghost use Rattle.c_values.specs.Types.{Target};
 ghost use Rattle.c_grammar.specs.Tree.{External};
 ghost use Rattle.c_typed.specs.Typed.{TypedUnit};
+ghost use Rattle.c_typed.specs.WellTyped.{IsWellTyped};
 ghost use Rattle.c_typing.specs.Unit.{IsTyped};
-ghost use Rattle.simpl_gen.specs.WellTyped.{IsWellTyped};
 ghost use Rattle.well_typed.specs.Written.{AreWritten};
 
 /// The unit of a typed text is well-typed: its layout can be, its globals are objects, each function's variables are scalars

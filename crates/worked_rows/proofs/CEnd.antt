@@ -13,9 +13,10 @@ use Rattle.ac_expr.specs.Signature.{Invocation, bound}
 use Rattle.simpl_lang.specs.Command as K
 use Rattle.simpl_lang.specs.Exec.{Machine, machine_with, with_local, Returned}
 use Rattle.c_typed.specs.Typed as C
-use Rattle.simpl_gen.specs.CValue.{◌>>=◌, value, values, located, accessible, converted, is_true, number_at}
-use Rattle.simpl_gen.specs.CRun as R
-use Rattle.simpl_gen.specs.CRun.{Flow, Next, Broken, Continued, Returning, Runs, Setting, Ended, context, stored, result_value, local_width, is_label, has_label}
+use Rattle.c_typed.specs.Labels.{is_label, has_label}
+use Rattle.c_meaning.specs.CValue.{◌>>=◌, value, values, located, accessible, converted, is_true, number_at}
+use Rattle.c_meaning.specs.CRun as R
+use Rattle.c_meaning.specs.CRun.{Flow, Next, Broken, Continued, Returning, Runs, Setting, Ended, context, stored, result_value, local_width}
 use Rattle.worked_rows.proofs.End.{given_end, given_ends, then_end, then_ends, choose_ends, FunctionsEnd, AllEnd, loop_end, loop_ends, called_end, called_ends, below_end, below_ends}
 
 abbrev pub FlowEnd : Type 0

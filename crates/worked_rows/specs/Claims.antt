@@ -14,8 +14,8 @@ use Rattle.ac_expr.specs.Signature.{Invocation}
 use Rattle.simpl_lang.specs.Command.{GuardKind}
 use Rattle.simpl_lang.specs.Exec.{Returned, simpl_runs}
 use Rattle.c_typed.specs.Typed.{TypedUnit}
-use Rattle.simpl_gen.specs.CRun.{c_runs}
-use Rattle.simpl_gen.specs.Generate.{generated}
+use Rattle.c_meaning.specs.CRun.{c_runs}
+use Rattle.c_meaning.specs.Generate.{generated}
 
 pub record Case : Type 0 where
   pub unit : TypedUnit

@@ -10,8 +10,8 @@ use Rattle.ac_expr.specs.Evaluation.{Env, holds}
 use Rattle.ac_expr.specs.Signature.{no_env}
 use Rattle.simpl_lang.specs.Command.{GuardKind, Condition}
 use Rattle.c_typed.specs.Typed.{Expr}
-use Rattle.simpl_gen.specs.CValue.{Context, value}
-use Rattle.simpl_gen.specs.Guards.{exp, guards}
+use Rattle.c_meaning.specs.CValue.{Context, value}
+use Rattle.c_meaning.specs.Guards.{exp, guards}
 use Rattle.worked_rows.specs.Claims.{no_memory}
 
 -- without locals, memory and globals

@@ -22,3 +22,6 @@ pub mod ExpressionClaims
 pub mod Edges
 pub mod Programs
 pub mod Generation
+pub mod ExpressionRows
+pub mod StatementRows
+pub mod GeneratedFind

@@ -2,11 +2,11 @@
 
 ghost use Rattle.std.specs.Prelude.{◌≡◌, [], take, codes};
 ghost use Rattle.ac_expr.specs.Sort.{Bytes, Numbers};
-ghost use Rattle.simpl_gen.specs.Guards.{guards};
-ghost use Rattle.simpl_gen.specs.Generate.{function_of};
+ghost use Rattle.c_meaning.specs.Guards.{guards};
+ghost use Rattle.c_meaning.specs.Generate.{function_of};
 ghost use Rattle.worked_rows.specs.Trees.{layout};
 ghost use Rattle.worked_rows.specs.NullTest;
-ghost use Rattle.simpl_gen.specs.Levels.{reason, ByCast, ByCall};
+ghost use Rattle.c_meaning.specs.Levels.{reason, ByCast, ByCall};
 ghost use Rattle.worked_rows.specs.Casts;
 ghost use Rattle.worked_rows.specs.Generation;
 

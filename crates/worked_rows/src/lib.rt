@@ -7,6 +7,7 @@
 mod calls;
 mod expressions;
 mod generation;
+pub mod generation_rows;
 mod programs;
 mod statements;
 

@@ -3,7 +3,7 @@
 ghost use Rattle.std.specs.Prelude.{Some, None, pos};
 ghost use Rattle.correspondence.specs.Outcome.{Turns};
 ghost use Rattle.simpl_lang.specs.Command.{Unreached};
-ghost use Rattle.simpl_gen.specs.CRun.{plain};
+ghost use Rattle.c_meaning.specs.CRun.{plain};
 ghost use Rattle.worked_rows.specs.Trees.{value};
 ghost use Rattle.worked_rows.specs.Claims.{Returns, Undefined, Stops};
 ghost use Rattle.worked_rows.specs.Statements;

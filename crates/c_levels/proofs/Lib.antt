@@ -1,0 +1,10 @@
+pub mod Marking
+pub mod Spread
+pub mod CallsBy
+pub mod Positions
+pub mod OnBytes
+pub mod DefaultLevels
+pub mod FirstPosition
+pub mod FirstReason
+pub mod Together
+pub mod NamePut

@@ -1,0 +1,4 @@
+pub mod CodeModes
+pub mod Spread
+pub mod CodeCalls
+pub mod CodeReason

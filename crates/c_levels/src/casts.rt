@@ -1,0 +1,141 @@
+//! Whether a function converts to a pointer to a type that isn't void, from another type, null pointer constants apart.
+
+ghost use Rattle.std.specs.Prelude.{◌≡◌, map};
+ghost use Rattle.c_values.specs.CodeTypes.{type_of};
+ghost use Rattle.c_typed.specs.Cast as rules;
+ghost use Rattle.c_typed.specs.View as typed;
+ghost use Rattle.c_meaning.specs.Levels as levels;
+
+use ac_expr::same_type;
+use c_typed::tree::{
+    Destination, Expr, Groups, Path, Place, Statement, Statements, Test, TypedFn, Use,
+};
+use c_typing::casts::has_cast;
+use c_values::CType;
+
+/// Whether a function does.
+pub(crate) fn casts(f: &TypedFn) -> bool
+    ensures { result ≡ levels.casts (typed.function_of f.now) }
+{
+    f.folds_cast || statements_have_cast(&f.body)
+}
+
+// Whether a conversion is one.
+fn casts_to(to: &CType, from: &CType) -> bool
+    ensures { result ≡ rules.casts_to (type_of to.now) (type_of from.now) }
+{
+    let CType::Ptr(object) = to else {
+        return false;
+    };
+    match &**object {
+        CType::Void => false,
+        CType::Int(_) | CType::Ptr(_) | CType::Struct(_) | CType::Array(_, _) => {
+            !same_type(to, from)
+        }
+    }
+}
+
+// In a place, which is a target and so no part of an expression: the checker's function asks an expression.
+fn place_has_cast(place: &Place) -> bool
+    ensures { result ≡ rules.place_has_cast (typed.place_of place.now) }
+{
+    match place {
+        Place::Through(_, pointer, path, _) => has_cast(pointer) || path_has_cast(path),
+        Place::InGlobal(_, path, _) => path_has_cast(path),
+    }
+}
+
+fn path_has_cast(path: &Path) -> bool
+    ensures { result ≡ rules.path_has_cast (typed.path_of path.now) }
+{
+    match path {
+        Path::Here => false,
+        Path::Member(_, rest) => path_has_cast(rest),
+        Path::Element(_, index, rest) => has_cast(index) || path_has_cast(rest),
+    }
+}
+
+fn some_has_cast(arguments: &[Expr]) -> bool
+    ensures { result ≡ levels.some_has_cast (map typed.expr_of arguments.now) }
+{
+    match arguments.split_first() {
+        None => false,
+        Some((first, rest)) => has_cast(first) || some_has_cast(rest),
+    }
+}
+
+fn target_has_cast(target: &Destination) -> bool
+    ensures { result ≡ levels.target_has_cast (typed.destination_of target.now) }
+{
+    match target {
+        Destination::ToLocal(_, _) => false,
+        Destination::ToPlace(place) => place_has_cast(place),
+    }
+}
+
+// A result that is converted on its way.
+fn use_has_cast(used: &Use) -> bool
+    ensures { result ≡ levels.use_has_cast (typed.use_of used.now) }
+{
+    match used {
+        Use::NoResult | Use::Ignored(_) => false,
+        Use::Assigned(from, target) => { casts_to(target.ty(), from) || target_has_cast(target) }
+        Use::Returned(from, to) => casts_to(to, from),
+    }
+}
+
+fn test_has_cast(test: &Test) -> bool
+    ensures { result ≡ levels.test_has_cast (typed.test_of test.now) }
+{
+    match test {
+        Test::Always => false,
+        Test::Tested(e) => has_cast(e),
+    }
+}
+
+#[cycle(statement_casts)]
+fn statement_has_cast(s: &Statement) -> bool
+    ensures { result ≡ levels.statement_has_cast (typed.statement_of s.now) }
+{
+    match s {
+        Statement::Empty
+        | Statement::Declare(_, _)
+        | Statement::Break
+        | Statement::Continue
+        | Statement::ReturnNothing => false,
+        Statement::Block(statements) => statements_have_cast(statements),
+        Statement::Assign(target, e) => has_cast(e) || target_has_cast(target),
+        Statement::Call(_, _, arguments, used) => some_has_cast(arguments) || use_has_cast(used),
+        Statement::If(e, a, b) => { has_cast(e) || statement_has_cast(a) || statement_has_cast(b) }
+        Statement::While(e, body) => has_cast(e) || statement_has_cast(body),
+        Statement::DoWhile(_, body, e) => statement_has_cast(body) || has_cast(e),
+        Statement::For(init, test, step, body) => {
+            statements_have_cast(init)
+                || test_has_cast(test)
+                || statement_has_cast(step)
+                || statement_has_cast(body)
+        }
+        Statement::Switch(_, _, e, groups) => has_cast(e) || groups_have_cast(groups),
+        Statement::Return(e) => has_cast(e),
+    }
+}
+
+#[cycle(statement_casts)]
+fn statements_have_cast(statements: &Statements) -> bool
+    ensures { result ≡ levels.statements_have_cast (typed.statements_of statements.now) }
+{
+    match statements {
+        Statements::None => false,
+        Statements::Next(first, rest) => statement_has_cast(first) || statements_have_cast(rest),
+    }
+}
+
+#[cycle(statement_casts)]
+fn groups_have_cast(groups: &Groups) -> bool
+    ensures { result ≡ levels.groups_have_cast (typed.groups_of groups.now) }
+{
+    match groups {
+        Groups::None => false,
+        Groups::Next(_, _, body, rest) => statements_have_cast(body) || groups_have_cast(rest),
+    }
+}

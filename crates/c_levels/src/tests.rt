@@ -1,0 +1,165 @@
+//! Tests of levels and of reasons.
+
+ghost use Rattle.std.specs.Prelude.{◌≡◌, IfOk};
+
+use crate::reasons::reason;
+use crate::{Reason, default_modes};
+use ac_expr::Level;
+use c_typed::tree::{Destination, Expr, Statement, Statements, TypedFn, TypedUnit, Use};
+use c_values::{CType, IntType, Layout, Target};
+use std::alloc::{AllocError, Global};
+use std::test::Fail;
+
+fn text(alloc: Global, text: &str) -> Result<String, AllocError> {
+    String::from_str(alloc, text)
+}
+
+fn pointer_to(alloc: Global, ty: CType) -> Result<CType, AllocError> {
+    Ok(CType::Ptr(Box::new(alloc, ty)?))
+}
+
+fn local(alloc: Global, name: &str, ty: CType) -> Result<Expr, AllocError> {
+    Ok(Expr::Local(text(alloc, name)?, ty))
+}
+
+fn next(alloc: Global, first: Statement, rest: Statements) -> Result<Statements, AllocError> {
+    let first = Box::new(alloc, first)?;
+    Ok(Statements::Next(first, Box::new(alloc, rest)?))
+}
+
+// A function without result, parameters and locals.
+fn function(alloc: Global, name: &str, body: Statements) -> Result<TypedFn, AllocError> {
+    Ok(TypedFn {
+        name: text(alloc, name)?,
+        result: None,
+        params: Vec::new(alloc),
+        locals: Vec::new(alloc),
+        folds_cast: false,
+        body,
+    })
+}
+
+// A text of these functions, without structs and globals.
+fn unit(alloc: Global, functions: Vec<TypedFn>) -> Result<TypedUnit, Fail>
+    ensures { IfOk result (λ u. u.functions.items ≡ functions.items) }
+{
+    Ok(TypedUnit {
+        layout: Layout::build(Target::Ilp32, Vec::new(alloc))?,
+        globals: Vec::new(alloc),
+        functions,
+    })
+}
+
+// unsigned char *c; c = (unsigned char *)p;
+fn casting(alloc: Global, name: &str) -> Result<TypedFn, AllocError> {
+    let p = local(alloc, "p", pointer_to(alloc, CType::Int(IntType::UInt))?)?;
+    let cast = Expr::Convert(
+        pointer_to(alloc, CType::Int(IntType::UChar))?,
+        Box::new(alloc, p)?,
+    );
+    let target = Destination::ToLocal(
+        text(alloc, "c")?,
+        pointer_to(alloc, CType::Int(IntType::UChar))?,
+    );
+    let body = next(alloc, Statement::Assign(target, cast), Statements::None)?;
+    function(alloc, name, body)
+}
+
+// A call of a function, and nothing else.
+fn calling(alloc: Global, name: &str, callee: &str) -> Result<TypedFn, AllocError> {
+    let call = Statement::Call(1, text(alloc, callee)?, Vec::new(alloc), Use::NoResult);
+    let body = next(alloc, call, Statements::None)?;
+    function(alloc, name, body)
+}
+
+// b1 calls b0, which casts; b2 calls b1; n calls w, which calls itself.
+fn levels_unit(alloc: Global) -> Result<TypedUnit, Fail> {
+    let mut functions = Vec::new(alloc);
+    functions.push(calling(alloc, "b2", "b1")?)?;
+    functions.push(calling(alloc, "b1", "b0")?)?;
+    functions.push(casting(alloc, "b0")?)?;
+    functions.push(calling(alloc, "n", "w")?)?;
+    functions.push(calling(alloc, "w", "w")?)?;
+    unit(alloc, functions)
+}
+
+#[test]
+fn default_levels_and_reasons(rt: HostRuntime) -> Result<(), Fail> {
+    let alloc = rt.alloc();
+    let u = levels_unit(alloc)?;
+    let mut words = Vec::new(alloc);
+    words.push(text(alloc, "w")?)?;
+    words.push(text(alloc, "b0")?)?;
+    let modes = default_modes(alloc, &u, &[], &words)?;
+    let shown = format!(in alloc; "{:?}", modes.levels)?;
+    assert_eq!(rt; shown.as_str(), "[Bytes, Bytes, Bytes, Numbers, Words]");
+    assert_eq!(rt; u.functions.len(), 5);
+    assert_eq!(rt; reason(&u, &modes, 0), Reason::Calls(1));
+    assert_eq!(rt; reason(&u, &modes, 1), Reason::Calls(2));
+    assert_eq!(rt; reason(&u, &modes, 2), Reason::Cast);
+    Ok(())
+}
+
+#[test]
+fn chosen_levels_and_reasons(rt: HostRuntime) -> Result<(), Fail> {
+    let alloc = rt.alloc();
+    let u = levels_unit(alloc)?;
+    let mut bytes = Vec::new(alloc);
+    bytes.push(text(alloc, "n")?)?;
+    bytes.push(text(alloc, "w")?)?;
+    let modes = default_modes(alloc, &u, &bytes, &bytes)?;
+    let shown = format!(in alloc; "{:?}", modes.levels)?;
+    assert_eq!(rt; shown.as_str(), "[Bytes, Bytes, Bytes, Bytes, Bytes]");
+    assert_eq!(rt; u.functions.len(), 5);
+    assert_eq!(rt; reason(&u, &modes, 3), Reason::Calls(4));
+    assert_eq!(rt; reason(&u, &modes, 4), Reason::Calls(4));
+    let mut bytes = Vec::new(alloc);
+    bytes.push(text(alloc, "n")?)?;
+    let modes = default_modes(alloc, &u, &bytes, &[])?;
+    let shown = format!(in alloc; "{:?}", modes.levels)?;
+    assert_eq!(rt; shown.as_str(), "[Bytes, Bytes, Bytes, Bytes, Numbers]");
+    assert_eq!(rt; reason(&u, &modes, 3), Reason::Chosen);
+    Ok(())
+}
+
+// So many functions, each of which calls the next; the last casts. Or the first does, and each other one calls the one
+// before.
+fn chain(alloc: Global, count: u32, rising: bool) -> Result<TypedUnit, Fail> {
+    let mut functions = Vec::new(alloc);
+    if !rising {
+        functions.push(casting(alloc, "f0")?)?;
+    }
+    for k in 0..count {
+        let own = if rising { k } else { k.saturating_add(1) };
+        let other = if rising { k.saturating_add(1) } else { k };
+        let name = format!(in alloc; "f{own}")?;
+        let callee = format!(in alloc; "f{other}")?;
+        functions.push(calling(alloc, name.as_str(), callee.as_str())?)?;
+    }
+    if rising {
+        let last = format!(in alloc; "f{count}")?;
+        functions.push(casting(alloc, last.as_str())?)?;
+    }
+    unit(alloc, functions)
+}
+
+// How many functions work on bytes.
+fn on_bytes(alloc: Global, u: &TypedUnit) -> Result<usize, AllocError> {
+    let modes = default_modes(alloc, u, &[], &[])?;
+    Ok(
+        modes
+            .levels
+            .iter()
+            .filter(|level| **level == Level::Bytes)
+            .count(),
+    )
+}
+
+#[test]
+fn long_chains_of_callers(rt: HostRuntime) -> Result<(), Fail> {
+    let rising = chain(rt.alloc(), 1023, true)?;
+    assert_eq!(rt; on_bytes(rt.alloc(), &rising)?, 1024);
+    let falling = chain(rt.alloc(), 1023, false)?;
+    assert_eq!(rt; on_bytes(rt.alloc(), &falling)?, 1024);
+    Ok(())
+}

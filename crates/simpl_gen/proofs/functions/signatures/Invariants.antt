@@ -1,0 +1,16 @@
+-- What was generated, and then the functions that are left, are all of them.
+use Rattle.std.proofs.Common.{◌≡◌, ◌++◌, map, length}
+use Rattle.c_typed.specs.View.{function_of}
+use Rattle.ac_expr.specs.Code.{level_of}
+use Rattle.ac_expr.specs.CodeSignature.{signature_of}
+use Rattle.c_meaning.specs.Generate as rules
+use Rattle.simpl_gen.specs.AtLevels.{at_levels}
+use Rattle.simpl_gen.proofs.functions.signatures.Given as goal
+
+abbrev pub invariant-functions : goal.invariant-functions
+invariant-functions l =
+    map signature_of l.signatures.items ++ at_levels (rules.signature_of l.l) (map function_of l.functions) (map level_of l.levels)
+    ≡ at_levels (rules.signature_of l.l) (map function_of l.initial.functions) (map level_of l.initial.levels)
+
+abbrev pub decreases-functions : goal.decreases-functions
+decreases-functions l = length l.functions

@@ -1,0 +1,90 @@
+//! Assignments: a value goes to its target.
+
+ghost use Rattle.std.specs.Prelude.{◌≡◌, ◌++◌, map, OnOk, IfOk};
+ghost use Rattle.c_typed.specs.Typed as C;
+ghost use Rattle.c_typed.specs.View as typed;
+ghost use Rattle.ac_expr.specs.Code.{exp_of, level_of};
+ghost use Rattle.simpl_lang.specs.CodeCommand.{condition_of, simpl_of};
+ghost use Rattle.c_meaning.specs.Guards.{guards, exp};
+ghost use Rattle.c_meaning.specs.Generate as rules;
+
+use crate::checks::add_accesses;
+use crate::commands::{guarded, set};
+use crate::guards::{add_guards, add_place_guards};
+use crate::values::{path_to, value};
+use ac_expr::{Exp, Level, copy_of};
+use c_typed::tree::{Destination, Expr, Place};
+use c_values::Layout;
+use simpl_lang::{Condition, Simpl};
+use std::alloc::{AllocError, Global};
+
+/// `x = e;`
+pub(crate) fn assign(
+    alloc: Global,
+    l: &Layout,
+    level: Level,
+    target: &Destination,
+    e: &Expr,
+) -> Result<Simpl, AllocError>
+    ensures { IfOk result (λ s. simpl_of s ≡ rules.guarded
+        (guards l.now (level_of level) (typed.expr_of e.now) ++ rules.target_guards l.now (level_of level) (typed.destination_of target.now))
+        (rules.assignment l.now (typed.destination_of target.now) (exp l.now (typed.expr_of e.now)))) }
+{
+    let mut guards = Vec::new(alloc);
+    add_guards(alloc, l, level, e, &mut guards)?;
+    add_target_guards(alloc, l, level, target, &mut guards)?;
+    let assignment = assignment(alloc, l, target, value(alloc, l, e)?)?;
+    guarded(alloc, guards, assignment)
+}
+
+/// A value that has been computed goes to its target.
+pub(crate) fn assignment(
+    alloc: Global,
+    l: &Layout,
+    target: &Destination,
+    value: Exp,
+) -> Result<Simpl, AllocError>
+    ensures { IfOk result (λ s. simpl_of s ≡ rules.assignment l.now (typed.destination_of target.now) (exp_of value)) }
+{
+    match target {
+        Destination::ToLocal(name, _) => Ok(set(name.clone()?, value)),
+        Destination::ToPlace(place) => stored(alloc, l, place, value),
+    }
+}
+
+// A value goes to a place.
+fn stored(alloc: Global, l: &Layout, place: &Place, e: Exp) -> Result<Simpl, AllocError>
+    ensures { IfOk result (λ s. simpl_of s ≡ rules.assignment l.now (C.ToPlace (typed.place_of place.now)) (exp_of e)) }
+{
+    match place {
+        Place::Through(root, pointer, path, _) => {
+            let pointer = value(alloc, l, pointer)?;
+            let path = path_to(alloc, l, path)?;
+            Ok(Simpl::Store(copy_of(alloc, root)?, pointer, path, e))
+        }
+        Place::InGlobal(name, path, _) => {
+            let name = name.clone()?;
+            Ok(Simpl::SetGlobal(name, path_to(alloc, l, path)?, e))
+        }
+    }
+}
+
+/// What has to hold before a value goes to its target.
+pub(crate) fn add_target_guards(
+    alloc: Global,
+    l: &Layout,
+    level: Level,
+    target: &Destination,
+    out: &mut Vec<Condition>,
+) -> Result<(), AllocError>
+    ensures { OnOk result (map condition_of out.new.items
+        ≡ map condition_of out.old.items ++ rules.target_guards l.now (level_of level) (typed.destination_of target.now)) }
+{
+    match target {
+        Destination::ToLocal(_, _) => Ok(()),
+        Destination::ToPlace(place) => {
+            add_place_guards(alloc, l, level, place, out)?;
+            add_accesses(alloc, l, level, place, out)
+        }
+    }
+}

@@ -1,0 +1,173 @@
+//! Calls, and what becomes of their results.
+
+ghost use Rattle.std.specs.Prelude.{◌≡◌, ◌++◌, Some, map, string_bytes, OnOk, IfOk};
+ghost use Rattle.c_values.specs.CodeTypes.{type_of};
+ghost use Rattle.c_typed.specs.Typed as C;
+ghost use Rattle.c_typed.specs.View as typed;
+ghost use Rattle.ac_expr.specs.Expression.{Var};
+ghost use Rattle.ac_expr.specs.Code.{exp_of, level_of};
+ghost use Rattle.simpl_lang.specs.Command.{Set, Seq, Call};
+ghost use Rattle.simpl_lang.specs.Exec.{result_local};
+ghost use Rattle.simpl_lang.specs.CodeCommand.{condition_of, simpl_of};
+ghost use Rattle.c_meaning.specs.Guards as values;
+ghost use Rattle.c_meaning.specs.Generate as rules;
+
+use crate::assignments::{add_target_guards, assignment};
+use crate::commands::{guarded, sequence, set};
+use crate::guards::add_guards;
+use crate::jumps::{Jump, jump_out};
+use crate::names::{call_local, result_local};
+use crate::scalars::bits_of_type;
+use crate::terms::cast_to;
+use crate::values::value;
+use ac_expr::{Exp, Level};
+use c_typed::tree::{Destination, Expr, Use};
+use c_values::{CType, Layout};
+use simpl_lang::{Condition, Simpl};
+use std::alloc::{AllocError, Global};
+
+/// A call with its number, and what becomes of its result.
+pub(crate) fn call(
+    alloc: Global,
+    l: &Layout,
+    level: Level,
+    n: u64,
+    function: &String,
+    arguments: &[Expr],
+    used: &Use,
+) -> Result<Simpl, AllocError>
+    ensures { IfOk result (λ s. simpl_of s
+        ≡ rules.call_of l.now (level_of level) n (string_bytes function.now) (map typed.expr_of arguments.now) (typed.use_of used.now)) }
+{
+    let mut guards = Vec::new(alloc);
+    add_argument_guards(alloc, l, level, arguments, &mut guards)?;
+    let values = values(alloc, l, arguments)?;
+    let call = used_call(alloc, l, level, n, function.clone()?, values, used)?;
+    guarded(alloc, guards, call)
+}
+
+// The same, the arguments being values.
+fn used_call(
+    alloc: Global,
+    l: &Layout,
+    level: Level,
+    n: u64,
+    function: String,
+    arguments: Vec<Exp>,
+    used: &Use,
+) -> Result<Simpl, AllocError>
+    ensures { IfOk result (λ s. simpl_of s
+        ≡ rules.call l.now (level_of level) n (string_bytes function) (map exp_of arguments.items) (typed.use_of used.now)) }
+{
+    match used {
+        Use::NoResult => Ok(Simpl::Call(None, function, arguments)),
+        Use::Ignored(_) => kept_call(alloc, n, function, arguments),
+        Use::Assigned(from, target) => {
+            let call = kept_call(alloc, n, function, arguments)?;
+            let assigned = assigned_result(alloc, l, level, n, from, target)?;
+            sequence(alloc, call, assigned)
+        }
+        Use::Returned(from, to) => {
+            let call = kept_call(alloc, n, function, arguments)?;
+            let returned = returned_result(alloc, l, n, from, to)?;
+            sequence(alloc, call, returned)
+        }
+    }
+}
+
+// A call that leaves its result in the call's local.
+fn kept_call(
+    alloc: Global,
+    n: u64,
+    function: String,
+    arguments: Vec<Exp>,
+) -> Result<Simpl, AllocError>
+    ensures { IfOk result (λ s. simpl_of s
+        ≡ Call (Some (rules.call_local n)) (string_bytes function) (map exp_of arguments.items)) }
+{
+    let local = call_local(alloc, n)?;
+    Ok(Simpl::Call(Some(local), function, arguments))
+}
+
+// A call's result goes to its target.
+fn assigned_result(
+    alloc: Global,
+    l: &Layout,
+    level: Level,
+    n: u64,
+    from: &CType,
+    target: &Destination,
+) -> Result<Simpl, AllocError>
+    ensures { IfOk result (λ s. simpl_of s
+        ≡ rules.guarded (rules.target_guards l.now (level_of level) (typed.destination_of target.now))
+        (rules.assignment l.now (typed.destination_of target.now)
+        (values.conversion l.now.target (C.target_type (typed.destination_of target.now)) (type_of from.now) (Var (rules.call_local n))))) }
+{
+    let mut guards = Vec::new(alloc);
+    add_target_guards(alloc, l, level, target, &mut guards)?;
+    let value = converted_result(alloc, l, n, from, target.ty())?;
+    let assignment = assignment(alloc, l, target, value)?;
+    guarded(alloc, guards, assignment)
+}
+
+// A call's result is the function's.
+fn returned_result(
+    alloc: Global,
+    l: &Layout,
+    n: u64,
+    from: &CType,
+    to: &CType,
+) -> Result<Simpl, AllocError>
+    ensures { IfOk result (λ s. simpl_of s
+        ≡ Seq (Set result_local (values.conversion l.now.target (type_of to.now) (type_of from.now) (Var (rules.call_local n)))) (rules.jump rules.returned)) }
+{
+    let value = converted_result(alloc, l, n, from, to)?;
+    let result = set(result_local(alloc)?, value);
+    let jump = jump_out(alloc, Jump::Return)?;
+    sequence(alloc, result, jump)
+}
+
+fn converted_result(
+    alloc: Global,
+    l: &Layout,
+    n: u64,
+    from: &CType,
+    to: &CType,
+) -> Result<Exp, AllocError>
+    ensures { IfOk result (λ e. exp_of e
+        ≡ values.conversion l.now.target (type_of to.now) (type_of from.now) (Var (rules.call_local n))) }
+{
+    let value = Exp::Var(call_local(alloc, n)?);
+    let width = bits_of_type(l.target(), to).width;
+    cast_to(alloc, width, bits_of_type(l.target(), from), value)
+}
+
+// The values of arguments.
+fn values(alloc: Global, l: &Layout, arguments: &[Expr]) -> Result<Vec<Exp>, AllocError>
+    ensures { IfOk result (λ es. map exp_of es.items ≡ values.exps l.now (map typed.expr_of arguments.now)) }
+{
+    let mut values = Vec::new(alloc);
+    let mut rest = arguments;
+    'rest: while let Some((first, others)) = rest.split_first() {
+        values.push(value(alloc, l, first)?)?;
+        rest = others;
+    }
+    Ok(values)
+}
+
+fn add_argument_guards(
+    alloc: Global,
+    l: &Layout,
+    level: Level,
+    arguments: &[Expr],
+    out: &mut Vec<Condition>,
+) -> Result<(), AllocError>
+    ensures { OnOk result (map condition_of out.new.items
+        ≡ map condition_of out.old.items ++ values.argument_guards l.now (level_of level) (map typed.expr_of arguments.now)) }
+{
+    let Some((first, rest)) = arguments.split_first() else {
+        return Ok(());
+    };
+    add_guards(alloc, l, level, first, out)?;
+    add_argument_guards(alloc, l, level, rest, out)
+}

@@ -1,0 +1,122 @@
+//! Loops around bodies that are generated already.
+
+ghost use Rattle.std.specs.Prelude.{◌≡◌, ◌++◌, map, OnOk, IfOk};
+ghost use Rattle.c_typed.specs.View as typed;
+ghost use Rattle.ac_expr.specs.Code.{exp_of, level_of};
+ghost use Rattle.simpl_lang.specs.Command.{Seq};
+ghost use Rattle.simpl_lang.specs.CodeCommand.{condition_of, simpl_of};
+ghost use Rattle.c_meaning.specs.Guards.{guards, truth};
+ghost use Rattle.c_meaning.specs.Generate as rules;
+
+use crate::commands::{sequence, set};
+use crate::guards::add_guards;
+use crate::jumps::{body_of_loop, looped};
+use crate::names::first_local;
+use crate::terms::{implied, not, or};
+use crate::values::truth;
+use ac_expr::{Exp, Level};
+use c_typed::tree::{Expr, Test};
+use c_values::Layout;
+use simpl_lang::{Condition, Simpl};
+use std::alloc::{AllocError, Global};
+
+/// `while (e) body`
+pub(crate) fn while_loop(
+    alloc: Global,
+    l: &Layout,
+    level: Level,
+    e: &Expr,
+    body: Simpl,
+) -> Result<Simpl, AllocError>
+    ensures { IfOk result (λ s. simpl_of s ≡ rules.looped (guards l.now (level_of level) (typed.expr_of e.now))
+        (truth l.now (typed.expr_of e.now)) (rules.body_of_loop (simpl_of body))) }
+{
+    let mut guards = Vec::new(alloc);
+    add_guards(alloc, l, level, e, &mut guards)?;
+    let test = truth(alloc, l, e)?;
+    let body = body_of_loop(alloc, body)?;
+    looped(alloc, guards, test, body)
+}
+
+/// `do body while (e);` with its number.
+pub(crate) fn do_while(
+    alloc: Global,
+    l: &Layout,
+    level: Level,
+    n: u64,
+    e: &Expr,
+    body: Simpl,
+) -> Result<Simpl, AllocError>
+    ensures { IfOk result (λ s. simpl_of s ≡ rules.do_while n (guards l.now (level_of level) (typed.expr_of e.now))
+        (truth l.now (typed.expr_of e.now)) (simpl_of body)) }
+{
+    let mut guards = Vec::new(alloc);
+    add_guards(alloc, l, level, e, &mut guards)?;
+    let guards = after_first(alloc, n, guards)?;
+    let is_first = Exp::Var(first_local(alloc, n)?);
+    let test = or(alloc, is_first, truth(alloc, l, e)?)?;
+    let body = body_of_loop(alloc, body)?;
+    let body = sequence(alloc, set(first_local(alloc, n)?, Exp::Truth(false)), body)?;
+    let turns = looped(alloc, guards, test, body)?;
+    sequence(alloc, set(first_local(alloc, n)?, Exp::Truth(true)), turns)
+}
+
+// Each condition, but not in front of the first turn.
+fn after_first(alloc: Global, n: u64, guards: Vec<Condition>) -> Result<Vec<Condition>, AllocError>
+    ensures { IfOk result (λ gs. map condition_of gs.items ≡ rules.after_first n (map condition_of guards.items)) }
+{
+    let mut later = Vec::new(alloc);
+    for guard in guards {
+        let Condition { kind, exp } = guard;
+        let is_first = Exp::Var(first_local(alloc, n)?);
+        let premise = not(alloc, is_first)?;
+        let exp = implied(alloc, premise, exp)?;
+        later.push(Condition { kind, exp })?;
+    }
+    Ok(later)
+}
+
+/// `for (..; test; step) body` without what is done first.
+pub(crate) fn for_loop(
+    alloc: Global,
+    l: &Layout,
+    level: Level,
+    test: &Test,
+    step: Simpl,
+    body: Simpl,
+) -> Result<Simpl, AllocError>
+    ensures { IfOk result (λ s. simpl_of s ≡ rules.looped (rules.test_guards l.now (level_of level) (typed.test_of test.now))
+        (rules.test_truth l.now (typed.test_of test.now)) (Seq (rules.body_of_loop (simpl_of body)) (simpl_of step))) }
+{
+    let mut guards = Vec::new(alloc);
+    add_test_guards(alloc, l, level, test, &mut guards)?;
+    let test = test_truth(alloc, l, test)?;
+    let body = body_of_loop(alloc, body)?;
+    let turn = sequence(alloc, body, step)?;
+    looped(alloc, guards, test, turn)
+}
+
+fn add_test_guards(
+    alloc: Global,
+    l: &Layout,
+    level: Level,
+    test: &Test,
+    out: &mut Vec<Condition>,
+) -> Result<(), AllocError>
+    ensures { OnOk result (map condition_of out.new.items
+        ≡ map condition_of out.old.items ++ rules.test_guards l.now (level_of level) (typed.test_of test.now)) }
+{
+    match test {
+        Test::Always => Ok(()),
+        Test::Tested(e) => add_guards(alloc, l, level, e, out),
+    }
+}
+
+fn test_truth(alloc: Global, l: &Layout, test: &Test) -> Result<Exp, AllocError>
+    ensures { IfOk result (λ x. exp_of x ≡ rules.test_truth l.now (typed.test_of test.now)) }
+{
+    match test {
+        Test::Always => Ok(Exp::Truth(true)),
+        Test::Tested(e) => truth(alloc, l, e),
+    }
+}

@@ -1,0 +1,12 @@
+-- What is left of the path is no longer than the path, and the same is asked of it.
+use Rattle.std.proofs.Common.{◌≡◌, ◌≤◌}
+use Rattle.ac_expr.specs.declared.paths.Path.{size-Path}
+use Rattle.ac_expr.specs.Form.{path_has, is_part_of_value}
+use Rattle.ac_expr.specs.Code.{path_of}
+use Rattle.simpl_lang.proofs.program_sorts.+parts.Given as goal
+
+abbrev pub invariant-path_has_part_of_value-steps : goal.invariant-path_has_part_of_value-steps
+invariant-path_has_part_of_value-steps l = record {
+  same : path_has is_part_of_value (path_of l.rest) ≡ path_has is_part_of_value (path_of l.path);
+  smaller : size-Path l.rest ≤ size-Path l.path;
+}

@@ -1,0 +1,95 @@
+//! Calls of functions of a unit.
+
+ghost use Rattle.std.specs.Prelude.{◌≡◌, map, string_bytes};
+ghost use Rattle.std.specs.Option.{option_map};
+ghost use Rattle.ac_expr.specs.Sort.{Of, word_sort_of};
+ghost use Rattle.ac_expr.specs.Signature.{signature, kinds_of};
+ghost use Rattle.ac_expr.specs.Sorted.{scalars_of, call_scalars};
+ghost use Rattle.ac_expr.specs.Code.{exp_of, kind_of};
+ghost use Rattle.ac_expr.specs.CodeSignature.{binder_of, signature_of};
+ghost use Rattle.ac_expr.specs.CodeSort.{names_of};
+ghost use Rattle.simpl_lang.specs.Sorted.{fits_target, is_scalar_of};
+ghost use Rattle.simpl_lang.specs.CodeForms.{scope_in, signatures_in, may_take, may_go_to};
+
+use crate::program_sorts::program_sort;
+use crate::scalars::{is_of, scalar_of_kind};
+use crate::units::SimplUnit;
+use ac_expr::{Binder, Exp, Kind, Names, Signature};
+
+/// Whether a call is of a function of the unit, with arguments and a target of its kinds.
+#[tactic(auto, using(crate::proofs::Arguments::calls_none, crate::proofs::Arguments::calls_one))]
+pub(crate) fn is_call_sorted(
+    u: &SimplUnit,
+    names: &Names<'_>,
+    target: &Option<String>,
+    function: &str,
+    arguments: &[Exp],
+) -> bool
+    ensures { let g = scope_in u.now names.now in
+        result ≡ fits_target g (option_map string_bytes target.now)
+        (call_scalars word_sort_of (signature (signatures_in u.now) function.now) (scalars_of g (map exp_of arguments.now))) }
+{
+    match signature(&u.signatures, function) {
+        Some(signature) => {
+            may_take(u, names, &signature.params, arguments)
+                && may_go_to(names, target, signature.result)
+        }
+        None => false,
+    }
+}
+
+// The signature of a function, where there is one of the name.
+fn signature<'a>(signatures: &'a [Signature], name: &str) -> Option<&'a Signature>
+    ensures { option_map (λ s. signature_of s.now) result ≡ signature (map signature_of signatures.now) name.now }
+{
+    'signatures: for signature in signatures {
+        if signature.name.as_str() == name {
+            return Some(signature);
+        }
+    }
+    None
+}
+
+// Whether there are as many arguments as parameters, each of its parameter's kind.
+#[tactic(auto, using(crate::proofs::Arguments::takes_one, crate::proofs::Arguments::takes_rest))]
+fn may_take(u: &SimplUnit, names: &Names<'_>, params: &[Binder], arguments: &[Exp]) -> bool
+    ensures { let g = scope_in u.now names.now in
+        result ≡ may_take (kinds_of (map binder_of params.now)) (scalars_of g (map exp_of arguments.now)) }
+{
+    let mut left = params;
+    let mut right = arguments;
+    'arguments: while let Some((param, params)) = left.split_first() {
+        let Some((argument, arguments)) = right.split_first() else {
+            return false;
+        };
+        if !is_of(scalar_of_kind(param.kind), program_sort(u, names, argument)) {
+            return false;
+        }
+        left = params;
+        right = arguments;
+    }
+    right.is_empty()
+}
+
+// Whether a function's result may go there: to a local of its kind, or nowhere where there is none.
+fn may_go_to(names: &Names<'_>, target: &Option<String>, kind: Option<Kind>) -> bool
+    ensures { result ≡ may_go_to (names_of names.now) (option_map string_bytes target.now) (option_map kind_of kind) }
+{
+    match target {
+        None => kind.is_none(),
+        Some(name) => match kind {
+            Some(kind) => is_local_of(names, name.as_str(), kind),
+            None => false,
+        },
+    }
+}
+
+// Whether it is a local of the kind.
+fn is_local_of(names: &Names<'_>, name: &str, kind: Kind) -> bool
+    ensures { result ≡ is_scalar_of (names_of names.now name.now) (Some (Of (word_sort_of (kind_of kind)))) }
+{
+    match names.get(name) {
+        Some(scalar) => scalar == scalar_of_kind(kind),
+        None => false,
+    }
+}

@@ -1,0 +1,102 @@
+//! Which commands are well-sorted.
+
+ghost use Rattle.std.specs.Prelude.{◌≡◌, map};
+ghost use Rattle.ac_expr.specs.Sorted.{program_sort};
+ghost use Rattle.ac_expr.specs.Code.{exp_of};
+ghost use Rattle.ac_expr.specs.CodeSort.{names_of};
+ghost use Rattle.simpl_lang.specs.Sorted.{is_sorted, is_scalar_of, is_local, are_conditions};
+ghost use Rattle.simpl_lang.specs.CodeCommand.{condition_of, simpl_of};
+ghost use Rattle.simpl_lang.specs.CodeForms.{scope_in, signatures_in};
+
+use crate::calls::is_call_sorted;
+use crate::command::{Condition, Simpl};
+use crate::places::{fits_global, fits_object};
+use crate::program_sorts::{is_test, program_sort};
+use crate::scalars::is_of;
+use crate::units::SimplUnit;
+use ac_expr::{Exp, Names};
+
+/// Whether a command is well-sorted where these names are in scope. It goes along a sequence by a loop, since a text may
+/// have long ones.
+pub(crate) fn is_sorted(c: &Simpl, names: &Names<'_>, u: &SimplUnit) -> bool
+    ensures { result ≡ is_sorted (scope_in u.now names.now) (signatures_in u.now) (simpl_of c.now) }
+{
+    let mut rest = c;
+    'down: loop {
+        match rest {
+            Simpl::Skip | Simpl::Throw => return true,
+            Simpl::Set(name, value) => return fits_local(u, names, name.as_str(), value),
+            Simpl::SetGlobal(name, path, value) => return fits_global(
+                u,
+                names,
+                name.as_str(),
+                path,
+                value,
+            ),
+            Simpl::Store(t, pointer, path, value) => return fits_object(
+                u, names, t, pointer, path, value,
+            ),
+            Simpl::Pick(name) => return is_local(names, name.as_str()),
+            Simpl::Call(target, function, arguments) => return is_call_sorted(
+                u,
+                names,
+                target,
+                function.as_str(),
+                arguments,
+            ),
+            Simpl::Seq(first, last) | Simpl::Catch(first, last) => {
+                if !is_sorted(first, names, u) {
+                    return false;
+                }
+                rest = &**last;
+            }
+            Simpl::Cond(test, first, last) => {
+                if !is_test(u, names, test) || !is_sorted(first, names, u) {
+                    return false;
+                }
+                rest = &**last;
+            }
+            Simpl::Guard(condition, last) => {
+                if !is_test(u, names, &condition.exp) {
+                    return false;
+                }
+                rest = &**last;
+            }
+            Simpl::While(conditions, test, last) => {
+                if !are_conditions(u, names, conditions) || !is_test(u, names, test) {
+                    return false;
+                }
+                rest = &**last;
+            }
+        }
+    }
+}
+
+// Whether a value may go to a local.
+fn fits_local(u: &SimplUnit, names: &Names<'_>, name: &str, value: &Exp) -> bool
+    ensures { let g = scope_in u.now names.now in
+        result ≡ is_scalar_of (g.names name.now) (program_sort g (exp_of value.now)) }
+{
+    match names.get(name) {
+        Some(scalar) => is_of(scalar, program_sort(u, names, value)),
+        None => false,
+    }
+}
+
+fn is_local(names: &Names<'_>, name: &str) -> bool
+    ensures { result ≡ is_local (names_of names.now name.now) }
+{
+    names.get(name).is_some()
+}
+
+// Whether each condition is a test.
+fn are_conditions(u: &SimplUnit, names: &Names<'_>, conditions: &[Condition]) -> bool
+    ensures { result ≡ are_conditions (scope_in u.now names.now) (map condition_of conditions.now) }
+{
+    'conditions: for condition in conditions {
+        if !is_test(u, names, &condition.exp) {
+            return false;
+        }
+    }
+    true
+}

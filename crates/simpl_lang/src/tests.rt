@@ -1,0 +1,26 @@
+//! Tests of long sequences.
+
+use crate::{Simpl, commands, is_flat};
+use std::alloc::{AllocError, Global};
+use std::test::Fail;
+
+// So many skips, and then a command.
+fn skips(alloc: Global, count: u32, last: Simpl) -> Result<Simpl, AllocError> {
+    let mut s = last;
+    for _ in 0..count {
+        let first = Box::new(alloc, Simpl::Skip)?;
+        s = Simpl::Seq(first, Box::new(alloc, s)?);
+    }
+    Ok(s)
+}
+
+#[test]
+fn long_sequences_are_walked_and_dropped(rt: HostRuntime) -> Result<(), Fail> {
+    let flat = skips(rt.alloc(), 1_000_000, Simpl::Skip)?;
+    assert!(rt; is_flat(&flat));
+    assert_eq!(rt; commands(&flat), 2_000_001);
+    let thrown = skips(rt.alloc(), 1_000_000, Simpl::Throw)?;
+    assert!(rt; !is_flat(&thrown));
+    assert_eq!(rt; commands(&thrown), 2_000_001);
+    Ok(())
+}

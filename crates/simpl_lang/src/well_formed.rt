@@ -1,0 +1,95 @@
+//! Which units are well-formed.
+
+ghost use Rattle.std.specs.Prelude.{◌≡◌, ◌&&◌, true, map};
+ghost use Rattle.c_values.specs.Name.{are_distinct};
+ghost use Rattle.ac_expr.specs.Sort.{are_kinds, word_sort_of};
+ghost use Rattle.ac_expr.specs.Signature.{names_of, kinds_of};
+ghost use Rattle.ac_expr.specs.Sorted.{scope_with};
+ghost use Rattle.ac_expr.specs.CodeSignature.{binder_of};
+ghost use Rattle.simpl_lang.specs.Sorted.{IsWellFormed, is_sorted, are_fns_sorted};
+ghost use Rattle.simpl_lang.specs.CodeCommand.{simpl_of, simpl_fn_of, simpl_unit_of};
+ghost use Rattle.simpl_lang.specs.CodeForms.{scope_in, signatures_in, is_fn_sorted, is_formed};
+
+use crate::command::Simpl;
+use crate::distinct_names::{are_functions_distinct, are_globals_distinct, are_locals_distinct};
+use crate::scalars::{is_kind, scalar_of_kind};
+use crate::signed::are_signed;
+use crate::sorted::is_sorted;
+use crate::units::{SimplFn, SimplUnit};
+use ac_expr::{Binder, Names};
+
+/// Whether a unit is well-formed. It takes no memory, and of the stack some for each local of a function.
+#[tactic(auto, using(crate::proofs::Formed::formed_sound, crate::proofs::Formed::formed_complete))]
+pub fn forms_ok(u: &SimplUnit) -> bool
+    ensures sound { result ≡ true → IsWellFormed (simpl_unit_of u.now) }
+    ensures complete { IsWellFormed (simpl_unit_of u.now) → result ≡ true }
+{
+    // Its layout is one.
+    let _ = u.layout.target();
+    is_formed(u)
+}
+
+// The same of all but the layout.
+fn is_formed(u: &SimplUnit) -> bool
+    ensures { result ≡ is_formed (simpl_unit_of u.now) }
+{
+    are_globals_distinct(&u.globals)
+        && are_functions_distinct(&u.functions)
+        && are_signed(&u.functions, &u.signatures)
+        && are_functions_sorted(u)
+}
+
+// Whether each function has distinct locals of kinds that are, and a well-sorted body.
+fn are_functions_sorted(u: &SimplUnit) -> bool
+    ensures { result ≡ are_fns_sorted (simpl_unit_of u.now) (map simpl_fn_of u.now.functions.items) }
+{
+    'functions: for f in &u.functions {
+        if !is_function_sorted(u, f) {
+            return false;
+        }
+    }
+    true
+}
+
+// The same of one function.
+fn is_function_sorted(u: &SimplUnit, f: &SimplFn) -> bool
+    ensures { result ≡ is_fn_sorted (simpl_unit_of u.now) (simpl_fn_of f.now) }
+{
+    are_locals_formed(&f.locals) && is_body_sorted(u, &Names::new(), &f.locals, &f.body)
+}
+
+// Whether locals are distinct and of kinds that are.
+fn are_locals_formed(locals: &[Binder]) -> bool
+    ensures { let bs = map binder_of locals.now in
+        result ≡ (are_kinds (kinds_of bs) && are_distinct (names_of bs)) }
+{
+    are_kinds(locals) && are_locals_distinct(locals)
+}
+
+// Whether each local is of a kind that is.
+fn are_kinds(locals: &[Binder]) -> bool
+    ensures { result ≡ are_kinds (kinds_of (map binder_of locals.now)) }
+{
+    'locals: for local in locals {
+        if !is_kind(local.kind) {
+            return false;
+        }
+    }
+    true
+}
+
+// Whether a body is well-sorted, once the locals are in scope too. Each call brings one into scope, since a link of the
+// chain of names borrows the one before.
+fn is_body_sorted(u: &SimplUnit, names: &Names<'_>, locals: &[Binder], body: &Simpl) -> bool
+    ensures { let bs = map binder_of locals.now in
+        let g = scope_with (names_of bs) (map word_sort_of (kinds_of bs)) (scope_in u.now names.now) in
+        result ≡ is_sorted g (signatures_in u.now) (simpl_of body.now) }
+{
+    match locals.split_first() {
+        Some((local, others)) => {
+            let inner = (&*names).push(local.name.as_str(), scalar_of_kind(local.kind));
+            is_body_sorted(u, &inner, others, body)
+        }
+        None => is_sorted(body, names, u),
+    }
+}

@@ -1,7 +1,0 @@
-use Rattle.simpl_gen.proofs.ExactUnits.{generated_has_same_ends}
-use Rattle.well_typed.proofs.SpelledTexts.{texts_are_written}
-use Rattle.well_typed.proofs.Whole.{typed_units_are_well_typed}
-use Rattle.well_typed.proofs.generation.generated_texts_have_the_same_ends.Goals as goal
-
-pub returns : goal.returns
-returns c text ts xs t u short tokens spelled typed = generated_has_same_ends u (typed_units_are_well_typed t xs u (texts_are_written text ts xs short tokens spelled) typed)
