@@ -2,7 +2,7 @@
 
 ghost use Rattle.std.specs.Prelude.{◌<◌};
 
-use c_typing::integers::{number_type, usual};
+use c_integers::{number_type, usual};
 use c_values::{IntType, Target};
 
 const TYPES: [IntType; 11] = [

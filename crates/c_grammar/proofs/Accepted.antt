@@ -6,7 +6,7 @@ use Rattle.c_grammar.specs.declared.symbol.Symbol.{Symbol}
 use Rattle.c_grammar.specs.declared.symbol.Symbol.TheVariants as symbol
 use Rattle.c_grammar.specs.Tree.{Name, External}
 use Rattle.c_grammar.specs.Spells as spells
-use Rattle.c_grammar.specs.Spells.{SpellsUnit, Spells}
+use Rattle.c_grammar.specs.Spells.{Spells}
 use Rattle.c_grammar.specs.Choice.{Choice, Refuse, Pass, Take, choice_of}
 use Rattle.c_grammar.specs.Build.{Value, Tok, OfUnit, act, acts}
 use Rattle.c_grammar.specs.Stack.{State, go, read, run, settle, advance, finish, is_type, noted, made_behind, next_behind}

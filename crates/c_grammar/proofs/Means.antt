@@ -15,7 +15,7 @@ use Rattle.c_grammar.specs.declared.symbol.Symbol.TheVariants as symbol
 use Rattle.c_grammar.specs.Tree.{Name, Exp, Words, Members, Declarators, Declarator, Dimensions, Enumerators, Enumerator, Rhs, Simple, Init, Label, Start, Stmt, Items, Groups, Bracket, Param, Top, External}
 use Rattle.c_grammar.specs.Operators.{is_made}
 use Rattle.c_grammar.specs.Spells as spells
-use Rattle.c_grammar.specs.Spells.{token, named, mark, reserved, names_of, names_after, SpellsStars, SpellsExp, SpellsType, SpellsWords, SpellsMembers, SpellsDeclarators, SpellsDeclarator, SpellsDimensions, SpellsEnumerators, SpellsEnumerator, SpellsExps, SpellsArguments, SpellsCall, SpellsRhs, SpellsSimple, SpellsInit, SpellsInits, SpellsLocal, SpellsLabel, SpellsLabels, SpellsStart, SpellsTest, SpellsStep, SpellsStmt, SpellsItems, SpellsGroups, SpellsBracket, SpellsParam, SpellsParams, SpellsParameters, SpellsTop, SpellsTops, SpellsDeclared, SpellsExternal, SpellsUnit}
+use Rattle.c_grammar.specs.Spells.{token, named, mark, reserved, names_of, names_after, SpellsStars, SpellsExp, SpellsWords, SpellsMembers, SpellsDeclarators, SpellsDeclarator, SpellsDimensions, SpellsEnumerators, SpellsEnumerator, SpellsExps, SpellsArguments, SpellsRhs, SpellsSimple, SpellsInit, SpellsInits, SpellsLabels, SpellsStart, SpellsTest, SpellsStep, SpellsStmt, SpellsItems, SpellsGroups, SpellsBracket, SpellsParam, SpellsParams, SpellsParameters, SpellsTop, SpellsTops, SpellsDeclared, SpellsExternal, SpellsUnit}
 use Rattle.c_grammar.specs.Choice.{Choice, Refuse, Pass, Take, least, and_then, only_if}
 use Rattle.c_grammar.specs.Stack.{noted, made_behind, next_behind}
 

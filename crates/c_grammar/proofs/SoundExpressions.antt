@@ -18,12 +18,12 @@ use Rattle.c_grammar.specs.declared.symbol.Wanted.TheVariants as wanted
 use Rattle.c_grammar.specs.declared.symbol.Production.TheVariants as ends
 use Rattle.c_grammar.specs.declared.symbol.Symbol.TheVariants as symbol
 use Rattle.c_grammar.specs.Tree as tree
-use Rattle.c_grammar.specs.Tree.{Name, Exp, Words, Declarator, Bracket, Param, Top, External, Call}
+use Rattle.c_grammar.specs.Tree.{Name, Exp, Words, Call}
 use Rattle.c_grammar.specs.Operators.{unary_sign, binary_sign, update_of, level, add, complete, is_made}
 use Rattle.c_grammar.specs.Spells as spells
-use Rattle.c_grammar.specs.Spells.{token, named, mark, reserved, declared, name_of, names_of, names_after, SpellsStars, SpellsExp, SpellsWords, SpellsDeclarator, SpellsArguments, SpellsCall, SpellsBracket, SpellsParam, SpellsTop, SpellsTops, SpellsExternal, SpellsUnit}
+use Rattle.c_grammar.specs.Spells.{token, named, mark, reserved, SpellsExp, SpellsArguments, SpellsCall}
 use Rattle.c_grammar.specs.Choice as choice
-use Rattle.c_grammar.specs.Choice.{Choice, Refuse, Pass, Take, take, least, expression, declarator, local_rest, parameter_rest, next_top, first_top, condition, choice_of}
+use Rattle.c_grammar.specs.Choice.{Refuse, Pass, take, least, expression}
 use Rattle.c_grammar.specs.Stack.{is_type}
 use Rattle.c_grammar.proofs.Steps.{false≢true, le_trans, le_zero, level_small}
 use Rattle.c_grammar.proofs.Means.{IsName, is_mark, is_name, same, Means, plain, All, nil, cons, Sound, then_sound, if_sound, only_sound, loosen}

@@ -8,12 +8,12 @@ use Rattle.c_grammar.specs.declared.symbol.Wanted.TheVariants as wanted
 use Rattle.c_grammar.specs.declared.symbol.Production.TheVariants as ends
 use Rattle.c_grammar.specs.declared.symbol.Symbol.TheVariants as symbol
 use Rattle.c_grammar.specs.Tree as tree
-use Rattle.c_grammar.specs.Tree.{Name, Exp, Words, Declarator, Bracket, Param, Top, External, Call}
+use Rattle.c_grammar.specs.Tree.{Name, Words, Declarator, Bracket, Param, Top}
 use Rattle.c_grammar.specs.Operators.{is_made}
 use Rattle.c_grammar.specs.Spells as spells
-use Rattle.c_grammar.specs.Spells.{token, named, mark, reserved, declared, name_of, names_of, names_after, SpellsStars, SpellsExp, SpellsWords, SpellsDeclarator, SpellsArguments, SpellsCall, SpellsBracket, SpellsParam, SpellsTop, SpellsTops, SpellsExternal, SpellsUnit}
+use Rattle.c_grammar.specs.Spells.{token, named, mark, reserved, declared, name_of, names_of, SpellsStars, SpellsWords, SpellsDeclarator, SpellsBracket, SpellsParam, SpellsTop, SpellsUnit}
 use Rattle.c_grammar.specs.Choice as choice
-use Rattle.c_grammar.specs.Choice.{Choice, Refuse, Pass, Take, take, least, expression, declarator, local_rest, parameter_rest, next_top, first_top, condition, choice_of}
+use Rattle.c_grammar.specs.Choice.{Refuse, Pass, Take, take, expression, parameter_rest, next_top, first_top}
 use Rattle.c_grammar.specs.Stack.{is_type}
 use Rattle.c_grammar.proofs.Means.{is_mark, is_word, is_name, same, MayHaveParameters, without_parameters, with_parameters, MayHaveValue, without_value, with_value, MayHaveName, without_name, with_name, Means, plain, new_name, top_more, typedef_tops, first_tops, first_parameters, first_rest, made_true, made_false, externals, All, nil, cons, Sound, then_sound, if_sound}
 use Rattle.c_grammar.proofs.SoundExpressions.{words_sound, operand_sound}

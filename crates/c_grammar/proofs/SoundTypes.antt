@@ -7,12 +7,12 @@ use Rattle.c_grammar.specs.declared.symbol.Seen.TheVariants as seen
 use Rattle.c_grammar.specs.declared.symbol.Production.TheVariants as ends
 use Rattle.c_grammar.specs.declared.symbol.Symbol.TheVariants as symbol
 use Rattle.c_grammar.specs.Tree as tree
-use Rattle.c_grammar.specs.Tree.{Name, Exp, Words, Declarator, Bracket, Param, Top, External, Call}
+use Rattle.c_grammar.specs.Tree.{Name, Words}
 use Rattle.c_grammar.specs.Operators.{is_made}
 use Rattle.c_grammar.specs.Spells as spells
-use Rattle.c_grammar.specs.Spells.{token, named, mark, reserved, declared, name_of, names_of, names_after, SpellsStars, SpellsExp, SpellsWords, SpellsDeclarator, SpellsArguments, SpellsCall, SpellsBracket, SpellsParam, SpellsTop, SpellsTops, SpellsExternal, SpellsUnit}
+use Rattle.c_grammar.specs.Spells.{token, named, mark, reserved}
 use Rattle.c_grammar.specs.Choice as choice
-use Rattle.c_grammar.specs.Choice.{Choice, Refuse, Pass, Take, take, least, expression, declarator, local_rest, parameter_rest, next_top, first_top, condition, choice_of}
+use Rattle.c_grammar.specs.Choice.{Refuse, take, expression, declarator}
 use Rattle.c_grammar.specs.Stack.{is_type}
 use Rattle.c_grammar.proofs.Means.{is_mark, is_name, same, Means, plain, All, nil, cons, Sound, then_sound, if_sound}
 use Rattle.c_grammar.proofs.SoundExpressions.{words_sound}

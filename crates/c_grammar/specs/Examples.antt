@@ -6,7 +6,7 @@ use Rattle.c_lex.specs.Lexeme.{Lexeme}
 use Rattle.c_grammar.specs.declared.operator.UnaryOperator.TheVariants as unary
 use Rattle.c_grammar.specs.declared.operator.BinaryOperator.TheVariants as binary
 use Rattle.c_grammar.specs.Tree as tree
-use Rattle.c_grammar.specs.Tree.{Exp, External, Name, Words}
+use Rattle.c_grammar.specs.Tree.{Exp, External, Name}
 use Rattle.c_grammar.specs.Spells.{mark, named, reserved}
 
 -- the names `a`, `b`, `c`, `d`, `f`, `t` and `x`

@@ -7,10 +7,8 @@ ghost use Rattle.c_typed.specs.View as typed;
 ghost use Rattle.c_meaning.specs.Levels as levels;
 
 use ac_expr::same_type;
-use c_typed::tree::{
-    Destination, Expr, Groups, Path, Place, Statement, Statements, Test, TypedFn, Use,
-};
-use c_typing::casts::has_cast;
+use c_typed::tree::{Destination, Expr, Groups, Statement, Statements, Test, TypedFn, Use};
+use c_typing::casts::{has_cast, place_has_cast};
 use c_values::CType;
 
 /// Whether a function does.
@@ -32,26 +30,6 @@ fn casts_to(to: &CType, from: &CType) -> bool
         CType::Int(_) | CType::Ptr(_) | CType::Struct(_) | CType::Array(_, _) => {
             !same_type(to, from)
         }
-    }
-}
-
-// In a place, which is a target and so no part of an expression: the checker's function asks an expression.
-fn place_has_cast(place: &Place) -> bool
-    ensures { result ≡ rules.place_has_cast (typed.place_of place.now) }
-{
-    match place {
-        Place::Through(_, pointer, path, _) => has_cast(pointer) || path_has_cast(path),
-        Place::InGlobal(_, path, _) => path_has_cast(path),
-    }
-}
-
-fn path_has_cast(path: &Path) -> bool
-    ensures { result ≡ rules.path_has_cast (typed.path_of path.now) }
-{
-    match path {
-        Path::Here => false,
-        Path::Member(_, rest) => path_has_cast(rest),
-        Path::Element(_, index, rest) => has_cast(index) || path_has_cast(rest),
     }
 }
 

@@ -6,7 +6,7 @@ use Rattle.c_lex.specs.Lexeme.{Kind, name, keyword, punct, character, number}
 use Rattle.c_grammar.specs.declared.symbol.Production.{Production}
 use Rattle.c_grammar.specs.declared.symbol.Production.TheVariants as ends
 use Rattle.c_grammar.specs.Tree as tree
-use Rattle.c_grammar.specs.Tree.{Exp, TypeName, Words, Word, Members, Declarators, Declarator, Dimensions, Enumerators, Enumerator, Call, Rhs, Simple, Init, Local, Label, Start, Stmt, Items, Groups, Bracket, Param, Top, External}
+use Rattle.c_grammar.specs.Tree.{TypeName, Declarator, Call, Simple, Init, Local, Param, Top}
 use Rattle.c_grammar.specs.Spells as spells
 use Rattle.c_grammar.specs.Build.{Value, Tok, OfExp, OfType, OfWord, OfWords, OfMembers, OfDeclarators, OfDeclarator, OfDimensions, OfStars, OfEnumerators, OfEnumerator, OfExps, OfCall, OfRhs, OfSimple, OfInit, OfInits, OfLocal, OfLabel, OfLabels, OfStart, OfTest, OfStep, OfStmt, OfItems, OfGroups, OfBracket, OfParamName, OfParam, OfParams, OfParameters, OfTop, OfTops, OfExternal, OfUnit, constant, act}
 use Rattle.c_limits.specs.FirstToken.{first_of, first_of_call, first_of_declarator, first_of_simple, first_of_stars, first_of_word, first_of_words}

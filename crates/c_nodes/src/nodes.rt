@@ -7,16 +7,16 @@ ghost use Rattle.c_typing.specs.Answers.{RulesAs};
 ghost use Rattle.c_typing.specs.Checked.{◌>=>◌};
 ghost use Rattle.c_typing.specs.CodeOperand.{operand_of, demand_of};
 ghost use Rattle.c_typing.specs.Expressions as expressions;
-ghost use Rattle.c_typing.specs.Integers as integers;
+ghost use Rattle.c_integers.specs.Integers as integers;
 ghost use Rattle.c_typing.specs.Operand as operands;
 ghost use Rattle.c_typing.specs.Operators as operators;
 ghost use Rattle.c_typed.specs.Typed as C;
 
 use crate::addresses::{addressed, followed, indexed, member_in, member_of_operand};
 use c_grammar::{BinaryOperator, UnaryOperator};
+use c_integers::number_type;
 use c_typed::tree::Expr;
 use c_typing::fault::TypeKind;
-use c_typing::integers::number_type;
 use c_typing::operands::{Demand, Operand, operand_type, used, value_in};
 use c_typing::operators::{binary, cast, chosen, complemented, inverted, kept, negated};
 use c_typing::rulings::{Refusal, refuse};

@@ -8,7 +8,7 @@ ghost use Rattle.c_scope.specs.CodeScope.{entity_of, names_of};
 
 use crate::file::File;
 use c_typing::progress::Progress;
-use c_values::{CType, Layout, LayoutFault, Number, Target};
+use c_values::{CType, Layout, Number, Target};
 use std::alloc::{AllocError, Global};
 use std::collections::{HashMap, HashSet};
 
@@ -67,10 +67,13 @@ impl Scope {
         alloc: Global,
         target: Target,
         with_body: HashSet<String>,
-    ) -> Result<Scope, LayoutFault>
+    ) -> Result<Scope, AllocError>
         ensures { IfOk result (λ scope. scope_of scope ≡ in_front (target_of target) (λ x. contains_text with_body x)) }
     {
-        let layout = Layout::build(target, Vec::new(alloc))?;
+        // a layout without structs needs memory alone
+        let Ok(layout) = Layout::build(target, Vec::new(alloc)) else {
+            return Err(AllocError);
+        };
         let mut blocks = Vec::new(alloc);
         blocks.push(HashMap::new(alloc))?;
         Ok(Scope {

@@ -15,7 +15,6 @@ ghost use Rattle.c_typing.specs.Answers.{Answers};
 ghost use Rattle.c_scope.specs.CodeScope as scopes;
 ghost use Rattle.c_expressions.specs.Behind.{behind};
 ghost use Rattle.c_types.specs.CodeUnit.{IsBadText};
-ghost use Rattle.c_scope.specs.InFront.{in_front};
 ghost use Rattle.c_typing.specs.Unit as rules;
 ghost use Rattle.c_typed.specs.View.{function_of, unit_of};
 
@@ -41,19 +40,9 @@ pub fn check_unit(alloc: Global, target: Target, unit: &Unit) -> Result<TypedUni
     ensures first_bad { IfErr result (IsBadText (target_of target) (text_of unit.now)) }
 {
     let with_body = bodies(alloc, unit.externals.as_slice())?;
-    let mut scope = beginning(alloc, target, with_body)?;
+    let mut scope = Scope::of_file(alloc, target, with_body)?;
     let functions = externals_typed(alloc, unit.externals.as_slice(), &mut scope)?;
     Ok(typed_unit(alloc, scope, functions)?)
-}
-
-// In front of a text with these functions that have a body. A layout without structs needs memory alone.
-fn beginning(alloc: Global, target: Target, with_body: HashSet<String>) -> Result<Scope, AllocError>
-    ensures { IfOk result (λ s. scopes.scope_of s ≡ in_front (target_of target) (λ x. contains_text with_body x)) }
-{
-    match Scope::of_file(alloc, target, with_body) {
-        Ok(scope) => Ok(scope),
-        Err(_) => Err(AllocError),
-    }
 }
 
 // The names of the functions that have a body.

@@ -1,4 +1,3 @@
 pub mod Layers
 pub mod Naming
-pub mod Finding
 pub mod Lengths

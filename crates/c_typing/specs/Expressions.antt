@@ -13,7 +13,7 @@ use Rattle.c_values.specs.Layout.{Layout, Member, StructDef, is_object, size_of}
 use Rattle.c_typing.specs.declared.fault.TypeKind.TheVariants.{Unknown, Mismatch, NotLvalue, Incomplete, OutOfSubset}
 use Rattle.c_typing.specs.Scope.{Scope, Entity, Enumerator, Global, Function, Local, Hidden, entity}
 use Rattle.c_typing.specs.Checked.{Judgement, pure, rule, changed, after, declares, ◌>>=◌, Ruling, Ruled, Refused, refuse, ◌>=>◌}
-use Rattle.c_typing.specs.Integers.{number_type}
+use Rattle.c_integers.specs.Integers.{number_type}
 use Rattle.c_typing.specs.Constant.{constant_value}
 use Rattle.c_typing.specs.Operand.{Operand, Valued, Variable, At, Demand, ForValue, ForElement, ForPlace, value_in, operand_type, operand_has_cast, used, place_then, is_array}
 use Rattle.c_typing.specs.Operators.{promoting, with_scalar, binary, chosen, cast, is_integer}

@@ -2,7 +2,6 @@ pub mod File
 pub mod Progress
 pub mod Scope
 pub mod Checked
-pub mod Integers
 pub mod Layers
 pub mod Constant
 pub mod Operand

@@ -13,7 +13,7 @@ use Rattle.c_typing.specs.declared.operators.Arrival.{Arrival}
 use Rattle.c_typing.specs.declared.operators.Arrival.TheVariants as A
 use Rattle.c_typing.specs.declared.fault.TypeKind.TheVariants.{Mismatch, Incomplete}
 use Rattle.c_typing.specs.Checked.{Ruling, Ruled, Refused, refuse, ◌>=>◌}
-use Rattle.c_typing.specs.Integers.{promoted, usual}
+use Rattle.c_integers.specs.Integers.{promoted, usual}
 use Rattle.c_typing.specs.Constant.{constant_value}
 use Rattle.c_typed.specs.Typed as C
 

@@ -9,7 +9,7 @@ use Rattle.c_grammar.specs.Tree as tree
 use Rattle.c_typing.specs.declared.fault.TypeKind.TheVariants.{Twice, Mismatch, FallThrough, OutOfSubset}
 use Rattle.c_typing.specs.Checked.{Judgement, Good, in_block, pure, ◌>>=◌, Ruling, Ruled, Refused, refuse, rule, changed}
 use Rattle.c_typing.specs.Scope.{hide_locals}
-use Rattle.c_typing.specs.Integers.{promoted}
+use Rattle.c_integers.specs.Integers.{promoted}
 use Rattle.c_typing.specs.Operators.{to_integer}
 use Rattle.c_typing.specs.Expressions.{value, integer_constant}
 use Rattle.c_typing.specs.Constant.{number_at}

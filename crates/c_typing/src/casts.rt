@@ -52,8 +52,9 @@ pub fn has_cast(e: &Expr) -> bool
     }
 }
 
+/// Whether there is such a conversion in a place.
 #[cycle(casts)]
-fn place_has_cast(place: &Place) -> bool
+pub fn place_has_cast(place: &Place) -> bool
     ensures { result ≡ casts.place_has_cast (place_of place.now) }
 {
     match place {

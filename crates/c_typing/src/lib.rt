@@ -7,10 +7,11 @@ pub mod constants;
 pub mod copies;
 pub mod fault;
 pub mod folding;
-pub mod integers;
 pub mod operands;
 pub mod operators;
 pub mod progress;
 pub mod rulings;
 pub mod specifiers;
 pub mod types;
+
+pub use fault::TypeKind;

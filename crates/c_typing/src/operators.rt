@@ -14,11 +14,11 @@ ghost use Rattle.c_typed.specs.View.{expr_of};
 
 use crate::constants::is_null;
 use crate::fault::TypeKind;
-use crate::integers::{promoted, usual};
 use crate::operands::type_of;
 use crate::rulings::{Refusal, refuse};
 use crate::types::{Form, copy_of, formed, is_integer, is_same, is_scalar};
 use c_grammar::BinaryOperator;
+use c_integers::{promoted, usual};
 use c_typed::tree::{Arithmetic, Bitwise, Direction, Equality, Expr, Relation, Sign};
 use c_values::{CType, IntType, Layout, is_object};
 use std::alloc::{AllocError, Global};

@@ -1,21 +1,20 @@
 -- One struct more behind those of a layout.
-use Rattle.std.proofs.Common.{◌≡◌, ℕ, zero, suc, ◌+◌, ◌≤◌, Bool, true, false, not, cond, ◌&&◌, ◌||◌, leb, List, [], ◌∷◌, ◌++◌, length, get_or, map, refl, sym, ap, ◌∙◌, subst, arith}
-use Rattle.std.proofs.lemmas.Bool.{and_parts, or_parts, cond-true, true≢false, false≢true}
-use Rattle.std.proofs.lemmas.List.{map-append, length-append}
-use Rattle.std.proofs.lemmas.Slice.Eq.{bytes_eq-Decides}
+use Rattle.std.proofs.Common.{◌≡◌, ℕ, zero, suc, ◌+◌, ◌≤◌, Bool, true, false, not, cond, ◌&&◌, ◌||◌, leb, List, [], ◌∷◌, ◌++◌, length, map, refl, sym, ap, ◌∙◌, subst, arith}
+use Rattle.std.proofs.lemmas.Bool.{and_parts, cond-true, true≢false, false≢true}
+use Rattle.std.proofs.lemmas.List.{map-append}
 use Rattle.std.specs.Str.{bytes_eq}
 use Rattle.std.specs.HashMap.{get_by_text}
 use Rattle.std.specs.Prelude.{Option, Some, None, IfSome, string_bytes}
 use Rattle.c_values.specs.Name.{Name, same_name, with_name, is_among}
-use Rattle.c_values.specs.Types.{Target, CType, Struct}
-use Rattle.c_values.specs.Layout.{Layout, IsLayout, Shape, Incomplete, size, StructDef, struct_shape, shape_from, shapes_after, shape_of, is_object, is_complete, are_built, are_small, has_member, all_members_complete, largest_size}
+use Rattle.c_values.specs.Types.{Target, Struct}
+use Rattle.c_values.specs.Layout.{Layout, Shape, Incomplete, size, StructDef, struct_shape, shape_from, shapes_after, shape_of, is_object, is_complete, are_built, are_small, has_member, all_members_complete, largest_size}
 use Rattle.c_values.specs.Growth.{with_struct, struct_names, can_follow}
 use Rattle.c_values.specs.declared.layouts.StructDef as D
 use Rattle.c_values.specs.declared.places.Places as P
 use Rattle.c_values.specs.CodeLayout.{struct_def_of}
 use Rattle.c_values.specs.StructTable.{Table, Describes, DescribesShape, Finds, IsNamed, IsTabled, IsPlacement}
 use Rattle.c_values.proofs.Laid.{same_name-refl}
-use Rattle.c_values.proofs.Tabulating.{describes_more, finds_more, small_struct, named_here}
+use Rattle.c_values.proofs.Tabulating.{describes_more, finds_more, small_struct}
 
 abbrev none : Name → Shape
 none x = Incomplete
@@ -25,7 +24,7 @@ pub shapes_more : (t : Target) (structs : Name → Shape) (ds : List StructDef) 
 shapes_more t structs [] d = refl
 shapes_more t structs (e ∷ es) d = shapes_more t (with_name e.name (struct_shape (shape_from t structs) e) structs) es d
 
-small_more : (t : Target) (structs : Name → Shape) (ds : List StructDef) (d : StructDef) → are_small t structs ds ≡ true →
+pub small_more : (t : Target) (structs : Name → Shape) (ds : List StructDef) (d : StructDef) → are_small t structs ds ≡ true →
     leb (size (struct_shape (shape_from t (shapes_after t structs ds)) d)) largest_size ≡ true → are_small t structs (ds ++ (d ∷ [])) ≡ true
 small_more t structs [] d h fits = rw fits refl
 small_more t structs (e ∷ es) d h fits =
@@ -40,7 +39,7 @@ neither : (a b : Bool) → (a || b) ≡ false → (a ≡ false) × (b ≡ false)
 neither true b h = absurd (true≢false h)
 neither false b h = (refl, h)
 
-built_more : (t : Target) (structs : Name → Shape) (names : List Name) (ds : List StructDef) (d : StructDef) → are_built t structs names ds ≡ true →
+pub built_more : (t : Target) (structs : Name → Shape) (names : List Name) (ds : List StructDef) (d : StructDef) → are_built t structs names ds ≡ true →
     is_among d.name names ≡ false → is_among d.name (map (λ e. e.name) ds) ≡ false → has_member d.members ≡ true →
     all_members_complete (shape_from t (shapes_after t structs ds)) d.members ≡ true → are_built t structs names (ds ++ (d ∷ [])) ≡ true
 built_more t structs names [] d h apart new some complete = rw (apart, some, complete) refl

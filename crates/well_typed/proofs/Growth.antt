@@ -6,7 +6,7 @@ use Rattle.c_values.specs.Types.{Target, CType, Integer, Void, Ptr, Struct, Arra
 use Rattle.c_values.specs.Layout.{Layout, IsLayout, Shape, Incomplete, Row, size, StructDef, struct_shape, shape_from, shapes_after, shape_of, is_object, is_complete, are_built, are_small, has_member, all_members_complete, largest_size, size_of}
 use Rattle.c_values.specs.Growth.{with_struct, struct_names, can_follow, struct_named}
 use Rattle.c_values.proofs.Laid.{structs_of, other_name}
-use Rattle.c_values.proofs.Growing.{shapes_more}
+use Rattle.c_values.proofs.Growing.{shapes_more, small_more, built_more}
 use Rattle.well_typed.proofs.Tests.{both, right, neither, not_true, name_is, name_itself}
 
 -- a later layout
@@ -78,26 +78,6 @@ found_or false first o p a h k = h k
 named_longer : (ds es : List StructDef) (x : Name) (d : StructDef) → struct_named ds x ≡ Some d → struct_named (ds ++ es) x ≡ Some d
 named_longer [] es x d h = absurd cc
 named_longer (e ∷ ds) es x d h = found_or (same_name e.name x) (Some e) (struct_named ds x) (struct_named (ds ++ es) x) d (named_longer ds es x d) h
-
-small_more : (t : Target) (structs : Name → Shape) (ds : List StructDef) (d : StructDef) → are_small t structs ds ≡ true →
-    leb (size (struct_shape (shape_from t (shapes_after t structs ds)) d)) largest_size ≡ true → are_small t structs (ds ++ (d ∷ [])) ≡ true
-small_more t structs [] d h fits = both fits refl
-small_more t structs (e ∷ es) d h fits =
-    let after = with_name e.name (struct_shape (shape_from t structs) e) structs in
-    let p = and_parts (leb (size (struct_shape (shape_from t structs) e)) largest_size) (are_small t after es) h in
-    both p.0 (small_more t after es d p.1 fits)
-
-built_more : (t : Target) (structs : Name → Shape) (names : List Name) (ds : List StructDef) (d : StructDef) → are_built t structs names ds ≡ true →
-    is_among d.name names ≡ false → is_among d.name (map (λ e. e.name) ds) ≡ false → has_member d.members ≡ true →
-    all_members_complete (shape_from t (shapes_after t structs ds)) d.members ≡ true → are_built t structs names (ds ++ (d ∷ [])) ≡ true
-built_more t structs names [] d h apart new some complete = rw (apart, some, complete) refl
-built_more t structs names (e ∷ es) d h apart new some complete =
-    let after = with_name e.name (struct_shape (shape_from t structs) e) structs in
-    let first = not (is_among e.name names) && has_member e.members && all_members_complete (shape_from t structs) e.members in
-    let p = and_parts first (are_built t after (e.name ∷ names) es) h in
-    let q = neither (same_name d.name e.name) (is_among d.name (map (λ e'. e'.name) es)) new in
-    let apart' : is_among d.name (e.name ∷ names) ≡ false = rw (q.0, apart) refl in
-    both p.0 (built_more t after (e.name ∷ names) es d p.1 apart' q.1 some complete)
 
 module _ (l : Layout) (d : StructDef) where
   abbrev own : Shape

@@ -8,7 +8,7 @@ use Rattle.c_values.proofs.SameType.{same_type-refl}
 use Rattle.c_grammar.specs.Tree as tree
 use Rattle.c_typing.specs.Scope.{Scope, Entity, Enumerator, Global, Function, Local, Hidden, entity}
 use Rattle.c_typing.specs.Checked.{Good, Judgement, rule, declaring}
-use Rattle.c_typing.specs.Integers.{number_type}
+use Rattle.c_integers.specs.Integers.{number_type}
 use Rattle.c_typing.specs.Constant.{constant_value}
 use Rattle.c_typing.specs.Operand.{Operand, Valued, Demand, ForValue, ForElement, ForPlace, value_in, operand_type, operand_has_cast}
 use Rattle.c_typing.specs.Expressions.{first, words_start, type_start, size_constant, integer_of, variable, number_at, unary_demand, note, taken, operand, type_name, words, word, members, declarators, declarator, dimensions, enumerators, enumerator, based, integer_at, base, value}

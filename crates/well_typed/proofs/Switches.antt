@@ -2,7 +2,7 @@
 use Rattle.std.proofs.Common.{◌≡◌, ℕ, Bool, true, false, not, ◌&&◌, ◌||◌, List, [], refl}
 use Rattle.std.proofs.lemmas.Bool.{or_left, or_right, or_from, not_from_false}
 use Rattle.c_values.specs.Types.{IntType, CType, Integer, Void, Ptr, Struct, Array}
-use Rattle.c_typing.specs.Integers.{promoted}
+use Rattle.c_integers.specs.Integers.{promoted}
 use Rattle.c_typing.specs.Statements.{Around, inside_switch, switch_type, switches, Labels, no_labels, both, listed, separate}
 use Rattle.c_typed.specs.Typed as C
 use Rattle.c_typed.specs.WellTyped.{is_statement, are_groups, all_labels, are_values, are_different, has_default, has_one_default}

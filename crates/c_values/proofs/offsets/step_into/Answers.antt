@@ -1,4 +1,4 @@
-use Rattle.std.proofs.Common.{◌≡◌, ◌*◌, ◌/◌, string_bytes, ap, ◌∙◌, sym, arith, pos}
+use Rattle.std.proofs.Common.{◌≡◌, ◌*◌, ◌/◌, string_bytes, ap, ◌∙◌, sym, arith}
 use Rattle.std.proofs.Math.Nat.{mul-div_cancel_left}
 use Rattle.c_values.specs.Layout.{size_of}
 use Rattle.c_values.specs.CodeTypes.{type_of}

@@ -11,7 +11,7 @@ use Rattle.c_scope.proofs.scope.Scope.of_file.Goals as goal
 pub returns : goal.returns
 returns c =
     beginning (target_of c.args.target) (λ x. contains_text c.args.with_body x) _ _ _ _ _ _
-    (c.in_ok-layout.ensures.built ∙ ap (λ ds. record { target = target_of c.args.target; structs = map struct_def_of ds }) c.new.ensures.items)
+    (c.in-Ok.ensures.built ∙ ap (λ ds. record { target = target_of c.args.target; structs = map struct_def_of ds }) c.new.ensures.items)
     (no_names tag_of c.new-3.result c.new-3.ensures.empty)
     (no_names type_of c.new-4.result c.new-4.ensures.empty)
     (ap blocks_of c.in_ok-push.ensures.items

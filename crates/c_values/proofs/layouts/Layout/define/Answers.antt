@@ -1,15 +1,15 @@
-use Rattle.std.proofs.Common.{◌≡◌, ◌++◌, [], ◌∷◌, map, cond, subst, sym, false, true, ℕ, length, arith}
+use Rattle.std.proofs.Common.{◌≡◌, map, cond, subst, sym, false, true, length, arith}
 use Rattle.std.proofs.lemmas.Map.Text.{hash_map_updates_text}
 use Rattle.std.specs.Prelude.{Some, string_bytes}
 use Rattle.std.specs.Str.{bytes_eq}
 use Rattle.std.specs.HashMap.{get_by_text}
 use Rattle.c_values.specs.Name.{Name}
 use Rattle.c_values.specs.Types.{Struct}
-use Rattle.c_values.specs.Layout.{Layout, Incomplete, struct_shape, shape_from, shapes_after, shape_of, is_object}
+use Rattle.c_values.specs.Layout.{Layout, Incomplete, struct_shape, shapes_after, shape_of, is_object}
 use Rattle.c_values.specs.Growth.{with_struct, can_follow}
 use Rattle.c_values.specs.CodeTypes.{target_of}
 use Rattle.c_values.specs.CodeLayout.{struct_def_of}
-use Rattle.c_values.specs.StructTable.{IsTabled, IsPlacement}
+use Rattle.c_values.specs.StructTable.{IsPlacement}
 use Rattle.c_values.proofs.Growing.{complete_members, tabled_more, last_is_object, last_is_large}
 use Rattle.c_values.proofs.layouts.Layout.define.Goals as goal
 

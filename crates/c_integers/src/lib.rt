@@ -1,11 +1,12 @@
 //! Integer types among each other: ranks, promotion, the usual conversions, and the types of numbers.
+#![tactic(auto)]
 
 ghost use Rattle.std.specs.Prelude.{◌≡◌, Bool, true, false, find, map, pos};
 ghost use Rattle.std.specs.Option.{option_map};
 ghost use Rattle.c_values.specs.CodeTypes.{target_of, int_type_of};
 ghost use Rattle.c_values.specs.Types.{is_signed};
 ghost use Rattle.c_values.specs.Number.{is_of_type};
-ghost use Rattle.c_typing.specs.Integers as integers;
+ghost use Rattle.c_integers.specs.Integers as integers;
 ghost use Rattle.c_lex.specs.Number as lex;
 
 use c_values::{IntType, Number, Target, is_of_type, is_signed, width_of};

@@ -3,8 +3,8 @@ use Rattle.std.specs.Prelude.{find}
 use Rattle.std.specs.Option.{option_map}
 use Rattle.c_values.specs.CodeTypes.{target_of, int_type_of}
 use Rattle.c_values.specs.Number.{is_of_type}
-use Rattle.c_typing.proofs.Finding.{find_seen}
-use Rattle.c_typing.proofs.integers.number_type.Goals as goal
+use Rattle.c_integers.proofs.Finding.{find_seen}
+use Rattle.c_integers.proofs.number_type.Goals as goal
 
 pub returns : goal.returns
 returns c =
