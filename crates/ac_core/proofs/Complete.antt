@@ -1,5 +1,5 @@
 -- What an answer and its sink leave open: a call that ends, and a text that can be shown.
-use Rattle.std.proofs.Common.{◌≡◌, ℕ, ◌≤◌, List, length, Option, Some, None, ◌⊎◌, inl, inr, refl, sym, subst, arith}
+use Rattle.std.proofs.Common.{◌≡◌, ℕ, ◌≤◌, List, length, Option, Some, None, ◌⊎◌, inl, inr, refl, subst, arith}
 use Rattle.c_values.specs.Name.{Name}
 use Rattle.c_lex.specs.Lexeme.{Lexeme}
 use Rattle.c_lex.specs.Tokens.{Tokens}

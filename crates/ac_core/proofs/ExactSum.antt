@@ -25,7 +25,7 @@ use Rattle.c_meaning.specs.Generate.{variables}
 use Rattle.ac_core.specs.Exact.{AreArguments, Begin, state_of, heap_for, ExactFrom, Exact, IsExact, ArePrograms, AreProgramsOf}
 use Rattle.ac_core.specs.Answer.{AreInNumbers}
 use Rattle.ac_core.specs.Sum.{Sum, Named, Constant, Converted, Plus, SumFunction, IsSum, layout, c_sum, c_parameter, typed_fn_of, typed_unit_of, levels, constant, exp_of_sum, guard, guarded, body, parameter, final_fn_of, final_unit_of}
-use Rattle.ac_core.proofs.Unsigned.{Same, c_bound, m_bound, word_is, parameter_is, fits_test, tested_only, tested_does, tested_fails, context, Means, adds, wraps, left_undefined, right_undefined, guard_is}
+use Rattle.ac_core.proofs.Unsigned.{Same, c_bound, m_bound, parameter_is, fits_test, tested_only, tested_does, tested_fails, context, Means, adds, wraps, left_undefined, right_undefined, guard_is}
 use Rattle.ac_core.proofs.OneReturn as one
 use Rattle.ac_core.proofs.ClassIsSum.{IsOneSum}
 use Rattle.ac_core.proofs.Constants.{small_constant, converted_is}

@@ -17,7 +17,7 @@ use Rattle.c_memory.specs.CodeParts.{has_parts}
 use Rattle.c_memory.specs.Heap.{IsHeap}
 use Rattle.ac_expr.specs.Expression as X
 use Rattle.ac_expr.specs.Sort as S
-use Rattle.ac_expr.specs.Sort.{Scope, Sort, Of, PartsSort, WordSort, NumberSort, TruthSort, is_width, sort_of, shape_along, shape_in, sort_at, word_width, word_sort, number_sort, truth_sort, is_number, is_truth, is_word_of, is_unary, is_one_step, where_holds, of_words, of_word, of_shape, of_type, parts_shape, are_same, cast_fits}
+use Rattle.ac_expr.specs.Sort.{Scope, Sort, Of, PartsSort, WordSort, NumberSort, TruthSort, is_width, sort_of, shape_along, shape_in, sort_at, word_width, word_sort, number_sort, truth_sort, is_number, is_truth, is_word_of, is_unary, is_one_step, where_holds, of_word, of_shape, parts_shape, are_same, cast_fits}
 use Rattle.ac_expr.specs.Evaluation.{Env, State, value, steps, cast_op, if_truth, moved_to}
 use Rattle.ac_expr.specs.Ready.{IsReady, AreReady, IsRoot}
 use Rattle.ac_expr.proofs.Follow.{path_ends}

@@ -1,5 +1,5 @@
 -- Levels by marks are the default levels.
-use Rattle.std.proofs.Common.{◌≡◌, ℕ, zero, suc, ltb, Bool, true, false, cond, ◌||◌, List, [], ◌∷◌, ◌++◌, length, get_or, map, Option, Some, refl, sym, ap, ◌∙◌, subst, arith, inl, inr}
+use Rattle.std.proofs.Common.{◌≡◌, ℕ, zero, suc, ltb, Bool, true, false, cond, ◌||◌, List, [], ◌∷◌, length, get_or, map, refl, sym, ap, ◌∙◌, subst, arith}
 use Rattle.std.specs.List.{filter}
 use Rattle.std.specs.Prelude.{String, string_bytes}
 use Rattle.std.specs.declared.alloc.Global.{Global}
@@ -7,9 +7,9 @@ use Rattle.std.proofs.lemmas.Bool.{true≢false, cond-true, cond-false}
 use Rattle.std.proofs.lemmas.List.{length-map}
 use Rattle.c_values.specs.Name.{Name, same_name, is_among}
 use Rattle.ac_expr.specs.Sort.{Level, Bytes, Words, Numbers}
-use Rattle.c_typed.specs.Typed.{TypedFn, TypedUnit, typed_fn}
+use Rattle.c_typed.specs.Typed.{TypedFn, TypedUnit}
 use Rattle.c_meaning.specs.Levels.{OnBytes, HasDefaultLevel, AreDefaultLevels, casts}
-use Rattle.c_levels.specs.Spread.{Among, IsMarked, Reached, at_start, led_to, IsSpread, leads_by}
+use Rattle.c_levels.specs.Spread.{Among, Reached, at_start, led_to, IsSpread, leads_by}
 use Rattle.c_levels.specs.CodeCalls.{AreTogether, is_start, call_of, calls_from, callers_of, function_names}
 use Rattle.c_levels.specs.CodeModes.{IsAt, AreLevels, default_level, default_levels}
 use Rattle.ac_expr.specs.Code.{level_of}

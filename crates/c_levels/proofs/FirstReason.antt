@@ -1,5 +1,5 @@
 -- The first reason that holds.
-use Rattle.std.proofs.Common.{◌≡◌, ℕ, zero, suc, ◌<◌, min, Bool, true, false, cond, List, [], ◌∷◌, length, get_or, map, Option, Some, None, refl, sym, ap, ◌∙◌, subst, arith}
+use Rattle.std.proofs.Common.{◌≡◌, ℕ, zero, suc, min, true, false, cond, List, [], ◌∷◌, get_or, map, Option, Some, None, refl, sym, ap, ◌∙◌, subst}
 use Rattle.std.specs.List.{list_all}
 use Rattle.std.proofs.lemmas.Bool.{cond-true, cond-false}
 use Rattle.c_values.specs.Name.{Name, is_among}
@@ -11,7 +11,7 @@ use Rattle.c_typed.specs.declared.tree.TypedFn as F
 use Rattle.c_typed.specs.declared.tree.TypedUnit as U
 use Rattle.c_levels.specs.declared.modes.Modes.{Modes}
 use Rattle.c_levels.specs.declared.modes.Reason.TheVariants as R
-use Rattle.c_meaning.specs.Levels.{Reason, ByCast, casts, callees_in, reason, call_or_choice, first_on_bytes}
+use Rattle.c_meaning.specs.Levels.{ByCast, casts, callees_in, reason, call_or_choice, first_on_bytes}
 use Rattle.c_levels.specs.CodeCalls.{AreTogether, function_names}
 use Rattle.c_levels.specs.CodeModes.{AreLevels, IsAt}
 use Rattle.c_levels.specs.CodeReason.{IsReason, first_position}

@@ -1,6 +1,6 @@
 -- Functions by position and by name, and who calls them.
-use Rattle.std.proofs.Common.{◌≡◌, ℕ, zero, suc, ◌+◌, ◌<◌, ◌≤◌, Bool, true, false, cond, not, ◌&&◌, ◌||◌, List, [], ◌∷◌, ◌++◌, length, get_or, map, Option, Some, None, ◌⊎◌, inl, inr, refl, sym, ap, ◌∙◌, subst, arith}
-use Rattle.std.specs.List.{list_any, list_all, filter}
+use Rattle.std.proofs.Common.{◌≡◌, ℕ, zero, suc, ◌+◌, ◌<◌, Bool, true, false, cond, not, ◌||◌, List, [], ◌∷◌, ◌++◌, length, get_or, map, Some, ◌⊎◌, inl, inr, refl, sym, ap, ◌∙◌, subst, arith}
+use Rattle.std.specs.List.{filter}
 use Rattle.std.proofs.lemmas.Bool.{and_parts, true≢false, cond-true, cond-false}
 use Rattle.c_values.specs.Name.{Name, same_name, is_among, are_distinct}
 use Rattle.c_values.proofs.Laid.{same_name-refl, name_is}
@@ -9,7 +9,6 @@ use Rattle.c_meaning.specs.Levels.{callees_in}
 use Rattle.c_levels.specs.Spread.{Among}
 use Rattle.c_levels.specs.CodeModes.{IsAt}
 use Rattle.c_levels.specs.CodeCalls.{calls_by, calls_from}
-use Rattle.c_levels.proofs.Marking.{among_left, among_right, among_parts}
 
 abbrev names : List TypedFn → List Name
 names fs = map (λ f. f.name) fs

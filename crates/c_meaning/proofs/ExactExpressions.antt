@@ -16,7 +16,7 @@ use Rattle.ac_expr.specs.Sort.{Level}
 use Rattle.c_typed.specs.Typed as C
 use Rattle.c_typed.specs.WellTyped.{Scope, variable_type, is_type, has_type, has_scalar_type, has_integer_type, is_typed, is_typed_place, are_typed_indices, is_typed_at, is_in_memory, is_array_of, shape_along, shape_in, leads_to, are_globals, are_variables, is_own_name}
 use Rattle.c_meaning.specs.CValue as V
-use Rattle.c_meaning.specs.CValue.{Context, Defined, ◌>>=◌, Located, accessible, address_of, located, indexed, value, values, int_of, is_true, number_at, number_of_type, converted, combined, compares, equates, fitted, computed, shifted, signed_offset, value_at}
+use Rattle.c_meaning.specs.CValue.{Context, Located, accessible, address_of, located, indexed, value, int_of, is_true, number_at, number_of_type, converted, combined, compares, equates, fitted, computed, shifted, signed_offset, value_at}
 use Rattle.c_meaning.specs.Guards.{exp, truth, address, is_not_zero, path_of, guards, place_guards, index_guards, accesses, computes, fits, shifts, number}
 use Rattle.c_meaning.specs.Fitting.{IsState, IsOfType, refused}
 use Rattle.c_meaning.proofs.ExactValue.{IsValueOf, IsExactValue, IsAt, IsExactPlace}

@@ -16,7 +16,7 @@ use Rattle.ac_expr.specs.Signature.{Binder, bound}
 use Rattle.simpl_lang.specs.Command.{GuardKind, Simpl, Skip, Guard, kind_of}
 use Rattle.simpl_lang.specs.Command as K
 use Rattle.simpl_lang.specs.Exec as X
-use Rattle.simpl_lang.specs.Exec.{Machine, Returned, Runs, Normal, Abrupt, execs, machine_with, result_of, result_local}
+use Rattle.simpl_lang.specs.Exec.{Machine, Returned, Runs, Normal, Abrupt, execs, machine_with, result_local}
 use Rattle.c_typed.specs.Typed as C
 use Rattle.c_typed.specs.WellTyped.{Scope, nowhere, variable_type, are_variables}
 use Rattle.c_meaning.specs.CRun as R

@@ -7,7 +7,7 @@ use Rattle.c_values.specs.Value.{Value, Bits, word_in, number_in, same_value}
 use Rattle.c_values.specs.Layout.{Layout, shape_of, size_of, is_scalar, scalar_width}
 use Rattle.c_values.specs.Path.{HasShape, IsBits}
 use Rattle.c_values.proofs.SameType.{type_is}
-use Rattle.ac_expr.specs.Evaluation.{Env, State, holds, moved, if_truth}
+use Rattle.ac_expr.specs.Evaluation.{Env, State, holds, moved}
 use Rattle.ac_expr.specs.Evaluation as E
 use Rattle.ac_expr.specs.Expression as X
 use Rattle.ac_expr.specs.Sort.{Level}

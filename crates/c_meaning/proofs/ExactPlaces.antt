@@ -18,7 +18,7 @@ use Rattle.simpl_lang.specs.Command.{GuardKind}
 use Rattle.simpl_lang.specs.Command as K
 use Rattle.c_typed.specs.Typed as C
 use Rattle.c_typed.specs.WellTyped.{Scope, shape_along, leads_to, shape_in, are_globals}
-use Rattle.c_meaning.specs.CValue.{Context, Defined, unless, Located, InMemory, InGlobal, are_in_bounds, accessible, value, located, indexed}
+use Rattle.c_meaning.specs.CValue.{Context, unless, Located, InMemory, InGlobal, are_in_bounds, accessible, value, indexed}
 use Rattle.c_meaning.specs.CValue as V
 use Rattle.c_meaning.specs.Guards.{when, exp, content, path_of, guards, bounds, index_guards, accesses}
 use Rattle.c_meaning.specs.Fitting.{IsState, refused}

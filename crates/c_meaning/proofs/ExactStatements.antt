@@ -21,7 +21,7 @@ use Rattle.c_typed.specs.Typed as C
 use Rattle.c_typed.specs.WellTyped.{Scope, Around, in_a_loop, nowhere, in_a_switch, is_type, is_typed, is_typed_at, is_typed_scalar, is_typed_target, is_typed_test, all_labels, are_values, are_different, has_one_default, variable_type, is_statement, are_statements, are_groups, is_result, gives_nothing}
 use Rattle.c_meaning.specs.CValue.{value, is_true}
 use Rattle.c_meaning.specs.CRun as R
-use Rattle.c_meaning.specs.CRun.{Next, Broken, Continued, Returning, Ended, and_next, assigned, context, tested, turned, stepped, statement, statements, groups}
+use Rattle.c_meaning.specs.CRun.{Next, Broken, Continued, Returning, Ended, and_next, assigned, context, tested, turned, stepped, statement, statements}
 use Rattle.c_meaning.specs.Guards.{guards, truth, exp}
 use Rattle.c_meaning.specs.Generate.{returned, broken, continued, jump, assignment, target_guards, test_guards, test_truth, looped, body_of_loop, before, command, commands, kind_at}
 use Rattle.c_meaning.specs.Fitting.{IsResultOf}

@@ -1,5 +1,5 @@
 -- What the code generates for a unit is the generated unit, and has its ends.
-use Rattle.std.proofs.Common.{◌≡◌, ℕ, List, map, Option, Some, sym, ap, ◌∙◌, subst}
+use Rattle.std.proofs.Common.{◌≡◌, List, map, sym, ap, ◌∙◌, subst}
 use Rattle.correspondence.specs.Corresponds.{Corresponds}
 use Rattle.c_values.specs.Name.{Name}
 use Rattle.c_values.specs.Layout.{Layout, GlobalVar}

@@ -1,7 +1,7 @@
 -- One label more before others.
-use Rattle.std.proofs.Common.{◌≡◌, ℕ, zero, suc, ◌+◌, ◌<◌, List, [], ◌∷◌, length, get_or, drop, ℤ, refl, sym, ap, ◌∙◌, arith}
+use Rattle.std.proofs.Common.{◌≡◌, ℕ, zero, suc, ◌+◌, ◌<◌, List, [], ◌∷◌, length, get_or, drop, ℤ, sym, ap, ◌∙◌, arith}
 use Rattle.c_values.specs.Types.{Target, IntType}
-use Rattle.ac_expr.specs.Expression.{Exp, Or, Eq, Var}
+use Rattle.ac_expr.specs.Expression.{Or, Eq, Var}
 use Rattle.c_meaning.specs.Guards.{word_of}
 use Rattle.c_meaning.specs.Generate.{is_one_of, switch_local}
 

@@ -10,7 +10,7 @@ use Rattle.c_typing.specs.Checked.{Checked, Good, Bad, Judgement, then, Ruling, 
 use Rattle.well_typed.proofs.Rulings.{Rules, rules_value}
 use Rattle.well_typed.proofs.Scopes.{Variables, Fits, fits_more, has_block}
 use Rattle.well_typed.proofs.Later.{IsLater, later_itself, later_twice, IsWithin, within_before, within_fewer, opened_later, block_opened, block_closed, within_closed}
-use Rattle.well_typed.proofs.Steps.{Fact, IsStill, IsStep, Reaches}
+use Rattle.well_typed.proofs.Steps.{Fact, IsStep, Reaches}
 use Rattle.well_typed.proofs.Steps as S
 use Rattle.well_typed.proofs.Variables.{IsProgress, Among}
 

@@ -11,7 +11,6 @@ use Rattle.c_grammar.specs.declared.operator.UnaryOperator.{UnaryOperator}
 use Rattle.c_grammar.specs.declared.operator.UnaryOperator.TheVariants as U
 use Rattle.c_typing.specs.Checked.{Ruling, Ruled, ◌>=>◌}
 use Rattle.c_typing.specs.Operand.{Operand, Valued, Variable, At, Demand, ForValue, ForElement, ForPlace, value_in, is_array, first_element, is_in_global, decays, array_used, used_unindexed, used, place_then, destination}
-use Rattle.c_typing.specs.Operators.{promoting, with_scalar}
 use Rattle.c_typing.specs.Operators as O
 use Rattle.c_typing.specs.Expressions.{target, followed, stepped, array_of, indexed_at, indexed, member_of, member_in, member_in_struct, member_among, pointer_member, member_of_operand, addressed, valued, unary, size_constant}
 use Rattle.c_typed.specs.Typed as C

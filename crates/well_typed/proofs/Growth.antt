@@ -3,11 +3,11 @@ use Rattle.std.proofs.Common.{◌≡◌, Bool, true, false, not, cond, ◌&&◌,
 use Rattle.std.proofs.lemmas.Bool.{false≢true, and_parts, cond-true, cond-false}
 use Rattle.c_values.specs.Name.{Name, same_name, with_name, is_among}
 use Rattle.c_values.specs.Types.{Target, CType, Integer, Void, Ptr, Struct, Array}
-use Rattle.c_values.specs.Layout.{Layout, IsLayout, Shape, Incomplete, Row, size, StructDef, struct_shape, shape_from, shapes_after, shape_of, is_object, is_complete, are_built, are_small, has_member, all_members_complete, largest_size, size_of}
+use Rattle.c_values.specs.Layout.{Layout, IsLayout, Shape, Incomplete, Row, size, StructDef, struct_shape, shape_from, shapes_after, shape_of, is_object, is_complete, has_member, all_members_complete, largest_size, size_of}
 use Rattle.c_values.specs.Growth.{with_struct, struct_names, can_follow, struct_named}
 use Rattle.c_values.proofs.Laid.{structs_of, other_name}
 use Rattle.c_values.proofs.Growing.{shapes_more, small_more, built_more}
-use Rattle.well_typed.proofs.Tests.{both, right, neither, not_true, name_is, name_itself}
+use Rattle.well_typed.proofs.Tests.{right, neither, not_true, name_is, name_itself}
 
 -- a later layout
 pub record IsGrown (l m : Layout) : Type 0 where

@@ -19,7 +19,7 @@ use Rattle.well_typed.proofs.Steps.{Fact, Reaches}
 use Rattle.well_typed.proofs.Steps as S
 use Rattle.well_typed.proofs.Scopes.{Variables}
 use Rattle.well_typed.proofs.Operands.{base_reached, dimensions_reached}
-use Rattle.well_typed.proofs.Bodies.{Vars, IsReady, IsTurn, Turns, turn_of}
+use Rattle.well_typed.proofs.Bodies.{Vars, IsReady, Turns, turn_of}
 use Rattle.well_typed.proofs.Bodies as B
 use Rattle.well_typed.proofs.Locals.{IsNew, local_rule, local_added, added_is, initial_reached, inits_turn, init_turns}
 

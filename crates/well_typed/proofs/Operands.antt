@@ -15,7 +15,7 @@ use Rattle.c_typing.specs.Expressions.{first, words_start, type_start, size_cons
 use Rattle.c_typing.specs.Declarations as D
 use Rattle.c_typed.specs.Cast.{has_cast}
 use Rattle.c_typed.specs.Typed as C
-use Rattle.c_typed.specs.WellTyped.{is_typed, leads_to, shape_along, shape_in}
+use Rattle.c_typed.specs.WellTyped.{leads_to, shape_along, shape_in}
 use Rattle.c_typed.specs.WellTyped as W
 use Rattle.well_typed.specs.Written.{IsExp, IsTypeName, AreWords, IsWord, AreMembers, AreDeclarators, IsDeclarator, AreDimensions, AreEnumerators, IsEnumerator}
 use Rattle.well_typed.proofs.Tests.{some_same, none_some}

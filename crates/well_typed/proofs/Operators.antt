@@ -6,7 +6,7 @@ use Rattle.c_values.specs.Layout.{Layout, is_scalar}
 use Rattle.c_values.proofs.SameType.{type_is, same_type-refl}
 use Rattle.c_typing.specs.declared.operators.Meeting.TheVariants as M
 use Rattle.c_integers.specs.Integers.{promoted, usual}
-use Rattle.c_typing.specs.Operators.{is_of, to_integer, is_void, is_void_pointer, to_void, integer_in, promotes, promotion, promoting, with_scalar, scalars, Balanced, balances, balance, balanced, shifts, shifted, is_pointer_to_none, pointed_in, adds, added, subtracts, subtracted, is_null, pointers_meet, meets, Pair, met, paired, equated, binary, chosen, arrives_from, arrived, is_struct, converted, cast}
+use Rattle.c_typing.specs.Operators.{is_of, to_integer, is_void, is_void_pointer, to_void, integer_in, promotes, promotion, promoting, with_scalar, scalars, Balanced, balances, balance, balanced, shifts, is_null, pointers_meet, meets, Pair, met, paired}
 use Rattle.c_typing.specs.Operators as O
 use Rattle.c_typed.specs.Typed as C
 use Rattle.c_typed.specs.WellTyped.{Scope, is_integer, has_type, has_integer_type, is_typed, is_typed_at, is_typed_scalar}

@@ -7,7 +7,7 @@ use Rattle.c_typing.specs.Checked.{Ruling, Ruled, Refused}
 use Rattle.c_typing.specs.Calls.{Right, returned}
 use Rattle.c_typing.specs.Statements.{Around, inside_loop, inside_switch, tested, loop_tested, breaks, continues, returns, listed}
 use Rattle.c_typed.specs.Typed as C
-use Rattle.c_typed.specs.WellTyped.{has_scalar_type, is_typed, is_typed_test, is_statement, are_statements, are_groups, gives_nothing, all_labels, are_values, are_different, has_default, has_one_default, nowhere, in_a_loop, in_a_switch}
+use Rattle.c_typed.specs.WellTyped.{has_scalar_type, is_typed, is_typed_test, is_statement, are_statements, gives_nothing, in_a_loop, in_a_switch}
 use Rattle.c_typed.specs.WellTyped as W
 use Rattle.well_typed.proofs.Tests as tests
 use Rattle.well_typed.proofs.Tests.{not_false}

@@ -5,7 +5,7 @@ use Rattle.c_values.specs.Types.{IntType, CType, Integer, Void, Ptr, Struct, Arr
 use Rattle.c_integers.specs.Integers.{promoted}
 use Rattle.c_typing.specs.Statements.{Around, inside_switch, switch_type, switches, Labels, no_labels, both, listed, separate}
 use Rattle.c_typed.specs.Typed as C
-use Rattle.c_typed.specs.WellTyped.{is_statement, are_groups, all_labels, are_values, are_different, has_default, has_one_default}
+use Rattle.c_typed.specs.WellTyped.{are_groups, all_labels, are_values, has_default, has_one_default}
 use Rattle.c_typed.specs.WellTyped as W
 use Rattle.well_typed.proofs.Tests as tests
 use Rattle.well_typed.proofs.Rulings.{Rules, ruled, refused, refused_or}

@@ -6,7 +6,7 @@ use Rattle.c_values.specs.Value.{Value}
 use Rattle.c_memory.specs.Heap.{OnBytes}
 use Rattle.ac_expr.specs.Sort.{Level}
 use Rattle.ac_expr.specs.Evaluation as E
-use Rattle.ac_expr.specs.Evaluation.{Env, holds}
+use Rattle.ac_expr.specs.Evaluation.{holds}
 use Rattle.ac_expr.specs.Signature.{no_env}
 use Rattle.simpl_lang.specs.Command.{GuardKind, Condition}
 use Rattle.c_typed.specs.Typed.{Expr}

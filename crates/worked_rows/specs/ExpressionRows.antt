@@ -1,6 +1,6 @@
 -- Rows of the table of generation: a typed expression, what stands for it, and what has to hold first.
-use Rattle.std.specs.Prelude.{◌≡◌, ℕ, List, [], ◌∷◌, ℤ, pos, codes}
-use Rattle.c_values.specs.Types.{CType, Ptr, Struct, Array, Integer, Int, UInt, Char, UChar, LLong, ULLong}
+use Rattle.std.specs.Prelude.{◌≡◌, ℕ, List, [], ◌∷◌, pos, codes}
+use Rattle.c_values.specs.Types.{CType, Ptr, Struct, Array, Integer, Int, UInt, UChar, LLong, ULLong}
 use Rattle.c_values.specs.Layout.{Layout, StructDef}
 use Rattle.c_values.specs.Word.{word, Wadd, Wsub, Wmul, Wand, Wor, Wxor, Wudiv, Wumod, Wsdiv, Wsmod, Wshl, Wushr, Wsshr, Wneg, Wnot, Wult, Wule, Wslt, Wsle}
 use Rattle.c_values.specs.Number as N

@@ -1,13 +1,13 @@
 -- The Simpl body of the function that docs/GENERATION.md shows line by line.
-use Rattle.std.specs.Prelude.{◌≡◌, [], ◌∷◌, map, false, pos, codes}
+use Rattle.std.specs.Prelude.{◌≡◌, [], ◌∷◌, map, false, codes}
 use Rattle.c_values.specs.Word.{Wadd, Wneg, Wslt}
 use Rattle.c_values.specs.Number as N
-use Rattle.ac_expr.specs.Expression.{Exp, Var, TruthLit, WordBinary, WordUnary, WordCompare, ToInt, Arith, Negate, Between, Eq, Padd, Load, Tagged, PtrOk, Here}
+use Rattle.ac_expr.specs.Expression.{Exp, Var, TruthLit, WordBinary, WordUnary, WordCompare, ToInt, Arith, Negate, Eq, Padd, Load, Tagged, PtrOk, Here}
 use Rattle.ac_expr.specs.Sort.{Numbers}
 use Rattle.simpl_lang.specs.Command.{Simpl, Skip, Throw, Set, Pick, Seq, Cond, Guard, Catch, While, Signed, Pointer, Tag, Unreached}
 use Rattle.c_meaning.specs.Guards.{when}
 use Rattle.c_meaning.specs.Generate.{function_of}
-use Rattle.worked_rows.specs.Trees.{uint, minus}
+use Rattle.worked_rows.specs.Trees.{uint}
 use Rattle.worked_rows.specs.ExpressionRows.{word32, is_int}
 use Rattle.worked_rows.specs.Find as find
 

@@ -1,18 +1,17 @@
 -- Rows of the table of generation: a typed statement and its command, a function and its body and locals.
 use Rattle.std.specs.Prelude.{◌≡◌, ℕ, zero, suc, true, false, List, [], ◌∷◌, ◌++◌, Option, Some, None, pos, codes}
-use Rattle.c_values.specs.Types.{Target, Ilp32, CType, Ptr, Struct, Integer, Int, UInt, UChar}
-use Rattle.c_values.specs.Layout.{Layout}
-use Rattle.c_values.specs.Word.{Wadd, Wudiv, Wult}
-use Rattle.ac_expr.specs.Expression.{Exp, Var, TruthLit, WordBinary, WordCompare, Cast, Zext, Trunc, ToNat, Eq, Or, Imp, Not, Load, Here, IntoField, IntoElement}
+use Rattle.c_values.specs.Types.{Ilp32, CType, Ptr, Struct, Integer, Int, UInt, UChar}
+use Rattle.c_values.specs.Word.{Wudiv}
+use Rattle.ac_expr.specs.Expression.{Exp, Var, TruthLit, WordBinary, Cast, Zext, Trunc, ToNat, Eq, Or, Imp, Not, Load, Here, IntoField, IntoElement}
 use Rattle.ac_expr.specs.Sort.{Level, Bytes, Words, Numbers, Kind, WordKind, NatKind, IntKind, BoolKind}
 use Rattle.ac_expr.specs.Signature.{Binder}
-use Rattle.simpl_lang.specs.Command.{Condition, Simpl, Skip, Throw, Set, SetGlobal, Store, Pick, Seq, Cond, Guard, Catch, While, Call, Signed, Div, Wrap, Unreached}
+use Rattle.simpl_lang.specs.Command.{Condition, Simpl, Skip, Throw, Set, SetGlobal, Store, Pick, Seq, Cond, Guard, Catch, While, Call, Div, Unreached}
 use Rattle.simpl_lang.specs.Form as forms
 use Rattle.c_typed.specs.Typed as C
 use Rattle.c_meaning.specs.Guards.{when}
 use Rattle.c_meaning.specs.Generate.{command, function_of, guarded, locals, call_local, switch_local, first_local}
-use Rattle.worked_rows.specs.Trees.{int, uint, literal, body, variable, function, layout}
-use Rattle.worked_rows.specs.ExpressionRows.{s, l, a, u, v, p, q, A, U, V, P, Q, word32, sum, sum_fits, quotient, divisor_is_not_zero, is_not_zero, is_root, in_bounds, target_of_q, element, global_element}
+use Rattle.worked_rows.specs.Trees.{int, uint, body, variable, function}
+use Rattle.worked_rows.specs.ExpressionRows.{s, l, a, u, v, p, q, U, V, P, Q, word32, quotient, divisor_is_not_zero, is_not_zero, is_root, in_bounds, target_of_q, element, global_element}
 
 -- the command of a statement
 abbrev pub Row : Level → C.Statement → Simpl → Type 0

@@ -1,4 +1,4 @@
-use Rattle.std.proofs.Common.{◌≡◌, map}
+use Rattle.std.proofs.Common.{map}
 use Rattle.c_values.specs.CodeValue.{global_of}
 use Rattle.ac_core.proofs.sum.translate.Goals as goal
 

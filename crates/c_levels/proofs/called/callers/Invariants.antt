@@ -1,5 +1,5 @@
 -- The callers so far.
-use Rattle.std.proofs.Common.{◌≡◌, List, ℕ, take}
+use Rattle.std.proofs.Common.{◌≡◌, take}
 use Rattle.std.specs.HashMap.{get_by_text}
 use Rattle.c_levels.specs.Spread.{listed}
 use Rattle.c_levels.specs.CodeCalls.{callers_of}

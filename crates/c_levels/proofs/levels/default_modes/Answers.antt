@@ -7,11 +7,10 @@ use Rattle.std.proofs.lemmas.Result.{IfOk-weaker}
 use Rattle.ac_expr.specs.Code.{level_of}
 use Rattle.c_typed.specs.View.{function_of}
 use Rattle.c_typed.specs.declared.tree.TypedFn as F
-use Rattle.c_levels.specs.declared.modes.Modes.{Modes}
 use Rattle.c_levels.specs.Spread.{listed, leads_by, IsSpread}
 use Rattle.c_levels.specs.CodeCalls.{is_start}
 use Rattle.c_levels.specs.CodeModes.{default_levels}
-use Rattle.c_levels.proofs.DefaultLevels.{MadeLevels, made_defaults, made_count}
+use Rattle.c_levels.proofs.DefaultLevels.{made_defaults, made_count}
 use Rattle.c_levels.proofs.levels.default_modes.Goals as goal
 
 pub returns-clause-one_each : goal.returns-clause-one_each

@@ -1,5 +1,5 @@
 -- The first reason that holds.
-use Rattle.std.proofs.Common.{◌≡◌, ℕ, Some, None, refl, sym, ap, ◌∙◌, min, rules}
+use Rattle.std.proofs.Common.{◌≡◌, Some, None, refl, sym, ap, ◌∙◌, min, rules}
 use Rattle.c_levels.proofs.Together.{are_together}
 use Rattle.c_levels.proofs.FirstReason.{by_cast, otherwise}
 use Rattle.c_levels.proofs.reasons.reason.Goals as goal

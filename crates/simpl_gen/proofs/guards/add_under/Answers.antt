@@ -1,5 +1,5 @@
 -- One condition more under the premise.
-use Rattle.std.proofs.Common.{◌≡◌, map, ap, ◌∙◌}
+use Rattle.std.proofs.Common.{map, ap, ◌∙◌}
 use Rattle.c_typed.specs.View.{expr_of}
 use Rattle.ac_expr.specs.Expression.{Imp}
 use Rattle.ac_expr.specs.Code.{exp_of}

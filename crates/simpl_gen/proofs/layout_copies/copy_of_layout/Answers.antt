@@ -1,5 +1,5 @@
 -- The structs of a layout aren't too large.
-use Rattle.std.proofs.Common.{◌≡◌, map, ap, ◌∙◌, rules}
+use Rattle.std.proofs.Common.{map, ◌∙◌, rules}
 use Rattle.c_values.specs.CodeTypes.{target_of}
 use Rattle.c_values.specs.CodeLayout.{struct_def_of}
 use Rattle.simpl_gen.proofs.Small.{none_large}

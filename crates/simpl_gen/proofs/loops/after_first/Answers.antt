@@ -1,5 +1,5 @@
 -- One condition more for later turns.
-use Rattle.std.proofs.Common.{◌≡◌, map, ap, ◌∙◌}
+use Rattle.std.proofs.Common.{ap, ◌∙◌}
 use Rattle.ac_expr.specs.Expression.{Imp, Not, Var}
 use Rattle.ac_expr.specs.Code.{exp_of}
 use Rattle.simpl_lang.specs.CodeCommand.{guard_kind_of}
