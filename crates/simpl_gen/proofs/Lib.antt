@@ -1,6 +1,5 @@
 pub mod Guarded
 pub mod Labelled
 pub mod AtLevels
-pub mod Premises
 pub mod GeneratedUnit
 pub mod Small

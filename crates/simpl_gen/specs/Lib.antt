@@ -1,4 +1,3 @@
-pub mod Tests
 pub mod AtLevels
 pub mod CodeJump
 pub mod CodeAdded

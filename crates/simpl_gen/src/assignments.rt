@@ -8,13 +8,11 @@ ghost use Rattle.simpl_lang.specs.CodeCommand.{condition_of, simpl_of};
 ghost use Rattle.c_meaning.specs.Guards.{guards, exp};
 ghost use Rattle.c_meaning.specs.Generate as rules;
 
-use crate::checks::add_accesses;
 use crate::commands::{guarded, set};
-use crate::guards::{add_guards, add_place_guards};
-use crate::values::{path_to, value};
 use ac_expr::{Exp, Level, copy_of};
 use c_typed::tree::{Destination, Expr, Place};
 use c_values::Layout;
+use simpl_guards::{add_accesses, add_guards, add_place_guards, path_to, value};
 use simpl_lang::{Condition, Simpl};
 use std::alloc::{AllocError, Global};
 

@@ -14,15 +14,14 @@ ghost use Rattle.c_meaning.specs.Generate as rules;
 
 use crate::assignments::{add_target_guards, assignment};
 use crate::commands::{guarded, sequence, set};
-use crate::guards::add_guards;
 use crate::jumps::{Jump, jump_out};
 use crate::names::{call_local, result_local};
-use crate::scalars::bits_of_type;
-use crate::terms::cast_to;
-use crate::values::value;
 use ac_expr::{Exp, Level};
 use c_typed::tree::{Destination, Expr, Use};
 use c_values::{CType, Layout};
+use simpl_guards::scalars::bits_of_type;
+use simpl_guards::terms::cast_to;
+use simpl_guards::{add_guards, value};
 use simpl_lang::{Condition, Simpl};
 use std::alloc::{AllocError, Global};
 

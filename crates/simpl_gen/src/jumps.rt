@@ -9,8 +9,8 @@ ghost use Rattle.simpl_gen.specs.CodeJump.{exception_of};
 
 use crate::commands::{sequence, set};
 use crate::names::exception_local;
-use crate::terms::{equal, int_literal};
 use ac_expr::Exp;
+use simpl_guards::terms::{equal, int_literal};
 use simpl_lang::{Condition, Simpl};
 use std::alloc::{AllocError, Global};
 

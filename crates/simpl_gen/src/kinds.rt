@@ -7,9 +7,9 @@ ghost use Rattle.ac_expr.specs.Sort.{Numbers};
 ghost use Rattle.ac_expr.specs.Code.{kind_of, level_of};
 ghost use Rattle.c_meaning.specs.Generate as rules;
 
-use crate::scalars::bits_of_type;
 use ac_expr::{Kind, Level};
 use c_values::{CType, Target, is_signed, width_of};
+use simpl_guards::scalars::bits_of_type;
 
 /// The kind of a name of a type.
 pub(crate) fn kind_at(target: Target, level: Level, ty: &CType) -> Kind

@@ -9,14 +9,13 @@ ghost use Rattle.c_meaning.specs.Guards.{guards, truth};
 ghost use Rattle.c_meaning.specs.Generate as rules;
 
 use crate::commands::{sequence, set};
-use crate::guards::add_guards;
 use crate::jumps::{body_of_loop, looped};
 use crate::names::first_local;
-use crate::terms::{implied, not, or};
-use crate::values::truth;
 use ac_expr::{Exp, Level};
 use c_typed::tree::{Expr, Test};
 use c_values::Layout;
+use simpl_guards::terms::{implied, not, or};
+use simpl_guards::{add_guards, truth};
 use simpl_lang::{Condition, Simpl};
 use std::alloc::{AllocError, Global};
 

@@ -13,15 +13,14 @@ ghost use Rattle.c_meaning.specs.Generate as rules;
 use crate::assignments::assign;
 use crate::calls::call;
 use crate::commands::{guarded, sequence, set};
-use crate::guards::add_guards;
 use crate::jumps::{Jump, jump_out};
 use crate::loops::{do_while, for_loop, while_loop};
 use crate::names::result_local;
 use crate::switches::{is_one_of, switch};
-use crate::values::{truth, value};
 use ac_expr::Level;
 use c_typed::tree::{Expr, Groups, Statement, Statements};
 use c_values::{IntType, Layout};
+use simpl_guards::{add_guards, truth, value};
 use simpl_lang::Simpl;
 use std::alloc::{AllocError, Global};
 

@@ -11,14 +11,13 @@ ghost use Rattle.c_meaning.specs.Guards as values;
 ghost use Rattle.c_meaning.specs.Generate as rules;
 
 use crate::commands::{guarded, sequence, set};
-use crate::guards::add_guards;
 use crate::jumps::until_break;
 use crate::names::switch_local;
-use crate::terms::{equal, or, word_of};
-use crate::values::value;
 use ac_expr::{Exp, Level};
 use c_typed::tree::Expr;
 use c_values::{IntType, Layout, Number, Target};
+use simpl_guards::terms::{equal, or, word_of};
+use simpl_guards::{add_guards, value};
 use simpl_lang::Simpl;
 use std::alloc::{AllocError, Global};
 

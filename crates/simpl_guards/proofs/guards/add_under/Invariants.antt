@@ -3,8 +3,8 @@ use Rattle.std.proofs.Common.{◌≡◌, ◌++◌, map}
 use Rattle.c_typed.specs.View.{expr_of}
 use Rattle.simpl_lang.specs.CodeCommand.{condition_of}
 use Rattle.c_meaning.specs.Guards.{under}
-use Rattle.simpl_gen.specs.Tests.{where_is}
-use Rattle.simpl_gen.proofs.guards.add_under.Given as goal
+use Rattle.simpl_guards.specs.Tests.{where_is}
+use Rattle.simpl_guards.proofs.guards.add_under.Given as goal
 
 abbrev pub invariant-loop-guard : goal.invariant-loop-guard
 invariant-loop-guard l =

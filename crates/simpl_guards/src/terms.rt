@@ -16,33 +16,33 @@ use c_values::{IntType, Number, Target, width_of};
 use std::alloc::{AllocError, Global};
 
 /// A number as a word of an integer type.
-pub(crate) fn word_of(target: Target, ty: IntType, n: Number) -> Exp
+pub fn word_of(target: Target, ty: IntType, n: Number) -> Exp
     ensures { exp_of result ≡ rules.word_of (target_of target) (int_type_of ty) n }
 {
     Exp::Word(word(width_of(target, ty), n))
 }
 
 /// A number as a word of an `int`.
-pub(crate) fn int_literal(n: u64) -> Exp
+pub fn int_literal(n: u64) -> Exp
     ensures { exp_of result ≡ rules.int_literal (pos n) }
 {
     Exp::Word(word(32, natural(n)))
 }
 
-pub(crate) fn not(alloc: Global, a: Exp) -> Result<Exp, AllocError>
+pub fn not(alloc: Global, a: Exp) -> Result<Exp, AllocError>
     ensures { IfOk result (λ e. exp_of e ≡ E.Not (exp_of a)) }
 {
     Ok(Exp::Not(Box::new(alloc, a)?))
 }
 
-pub(crate) fn equal(alloc: Global, a: Exp, b: Exp) -> Result<Exp, AllocError>
+pub fn equal(alloc: Global, a: Exp, b: Exp) -> Result<Exp, AllocError>
     ensures { IfOk result (λ e. exp_of e ≡ E.Eq (exp_of a) (exp_of b)) }
 {
     let a = Box::new(alloc, a)?;
     Ok(Exp::Eq(a, Box::new(alloc, b)?))
 }
 
-pub(crate) fn or(alloc: Global, a: Exp, b: Exp) -> Result<Exp, AllocError>
+pub fn or(alloc: Global, a: Exp, b: Exp) -> Result<Exp, AllocError>
     ensures { IfOk result (λ e. exp_of e ≡ E.Or (exp_of a) (exp_of b)) }
 {
     let a = Box::new(alloc, a)?;
@@ -50,7 +50,7 @@ pub(crate) fn or(alloc: Global, a: Exp, b: Exp) -> Result<Exp, AllocError>
 }
 
 /// The second, where the first holds.
-pub(crate) fn implied(alloc: Global, a: Exp, b: Exp) -> Result<Exp, AllocError>
+pub fn implied(alloc: Global, a: Exp, b: Exp) -> Result<Exp, AllocError>
     ensures { IfOk result (λ e. exp_of e ≡ E.Imp (exp_of a) (exp_of b)) }
 {
     let a = Box::new(alloc, a)?;
@@ -84,7 +84,7 @@ pub(crate) fn number(alloc: Global, signed: bool, a: Exp) -> Result<Exp, AllocEr
 }
 
 /// A word at another width. The same width stays.
-pub(crate) fn cast_to(alloc: Global, to: u8, from: Bits, a: Exp) -> Result<Exp, AllocError>
+pub fn cast_to(alloc: Global, to: u8, from: Bits, a: Exp) -> Result<Exp, AllocError>
     ensures { IfOk result (λ e. exp_of e ≡ rules.cast_to to from.width from.signed (exp_of a)) }
 {
     if to == from.width {

@@ -6,7 +6,7 @@ ghost use Rattle.c_typed.specs.View as typed;
 ghost use Rattle.ac_expr.specs.Code.{exp_of, level_of};
 ghost use Rattle.simpl_lang.specs.CodeCommand.{condition_of};
 ghost use Rattle.c_meaning.specs.Guards as rules;
-ghost use Rattle.simpl_gen.specs.Tests.{where_is};
+ghost use Rattle.simpl_guards.specs.Tests.{where_is};
 
 use crate::checks::{add_accesses, add_bounds, add_computation, add_negation, add_shift};
 use crate::terms::{implied, not};
@@ -19,7 +19,7 @@ use std::alloc::{AllocError, Global};
 
 /// Those of an expression.
 #[cycle(guards)]
-pub(crate) fn add_guards(
+pub fn add_guards(
     alloc: Global,
     l: &Layout,
     level: Level,
@@ -131,7 +131,7 @@ fn truth_where(alloc: Global, l: &Layout, e: &Expr, holds: bool) -> Result<Exp, 
 
 /// Those of a place: the root pointer's, each index's, and the bounds of each index.
 #[cycle(guards)]
-pub(crate) fn add_place_guards(
+pub fn add_place_guards(
     alloc: Global,
     l: &Layout,
     level: Level,

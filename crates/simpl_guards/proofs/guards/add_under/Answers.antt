@@ -5,9 +5,9 @@ use Rattle.ac_expr.specs.Expression.{Imp}
 use Rattle.ac_expr.specs.Code.{exp_of}
 use Rattle.simpl_lang.specs.CodeCommand.{condition_of, guard_kind_of}
 use Rattle.c_meaning.specs.Guards.{when}
-use Rattle.simpl_gen.specs.Tests.{where_is}
-use Rattle.simpl_gen.proofs.Premises.{put_under}
-use Rattle.simpl_gen.proofs.guards.add_under.Goals as goal
+use Rattle.simpl_guards.specs.Tests.{where_is}
+use Rattle.simpl_guards.proofs.Premises.{put_under}
+use Rattle.simpl_guards.proofs.guards.add_under.Goals as goal
 
 pub loop-guard-preserved : goal.loop-guard-preserved
 loop-guard-preserved c =

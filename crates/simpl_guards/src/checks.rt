@@ -263,7 +263,7 @@ pub(crate) fn add_bounds(
 }
 
 /// Those of the root of an access.
-pub(crate) fn add_accesses(
+pub fn add_accesses(
     alloc: Global,
     l: &Layout,
     level: Level,

@@ -5,7 +5,7 @@ ghost use Rattle.c_typed.specs.Typed as C;
 ghost use Rattle.c_typed.specs.View as typed;
 ghost use Rattle.ac_expr.specs.Code.{exp_of, path_of};
 ghost use Rattle.c_meaning.specs.Guards as rules;
-ghost use Rattle.simpl_gen.specs.Tests.{IsTest};
+ghost use Rattle.simpl_guards.specs.Tests.{IsTest};
 
 use crate::operators::{combine_op, comparison, equation, moved_by, shifted, word_op};
 use crate::scalars::{bits_of, bits_of_type};
@@ -17,7 +17,7 @@ use std::alloc::{AllocError, Global};
 
 /// The value of an expression.
 #[cycle(values)]
-pub(crate) fn value(alloc: Global, l: &Layout, e: &Expr) -> Result<Exp, AllocError>
+pub fn value(alloc: Global, l: &Layout, e: &Expr) -> Result<Exp, AllocError>
     ensures { IfOk result (λ x. exp_of x ≡ rules.exp l.now (typed.expr_of e.now)) }
 {
     match e {
@@ -68,7 +68,7 @@ pub(crate) fn value(alloc: Global, l: &Layout, e: &Expr) -> Result<Exp, AllocErr
 
 /// The truth of an expression.
 #[cycle(values)]
-pub(crate) fn truth(alloc: Global, l: &Layout, e: &Expr) -> Result<Exp, AllocError>
+pub fn truth(alloc: Global, l: &Layout, e: &Expr) -> Result<Exp, AllocError>
     ensures { IfOk result (λ x. exp_of x ≡ rules.truth l.now (typed.expr_of e.now)) }
 {
     match e {
@@ -183,7 +183,7 @@ fn address(alloc: Global, l: &Layout, place: &Place) -> Result<Exp, AllocError>
 
 /// A path, its indices as numbers of their own types.
 #[cycle(values)]
-pub(crate) fn path_to(alloc: Global, l: &Layout, path: &TypedPath) -> Result<Path, AllocError>
+pub fn path_to(alloc: Global, l: &Layout, path: &TypedPath) -> Result<Path, AllocError>
     ensures { IfOk result (λ x. path_of x ≡ rules.path_of l.now (typed.path_of path.now)) }
 {
     match path {

@@ -12,15 +12,15 @@ ghost use Rattle.c_meaning.specs.Guards.{is_signed_type};
 use c_typed::tree::{Expr, place_type};
 use c_values::{CType, IntType, Target, address_width, is_signed, width_of};
 
-/// The bits of a scalar type; a pointer's are those of a type without a sign.
+/// The bits of a scalar type: how many, and whether they have a sign. A pointer's have none.
 #[derive(Clone, Copy)]
-pub(crate) struct Bits {
-    pub(crate) width: u8,
-    pub(crate) signed: bool,
+pub struct Bits {
+    pub width: u8,
+    pub signed: bool,
 }
 
 /// The bits of a type.
-pub(crate) fn bits_of_type(target: Target, ty: &CType) -> Bits
+pub fn bits_of_type(target: Target, ty: &CType) -> Bits
     ensures width { result.width ≡ scalar_width (target_of target) (type_of ty.now) }
     ensures signed { result.signed ≡ is_signed_type (type_of ty.now) }
     ensures known { IsWidth result.width }
