@@ -15,12 +15,3 @@ mod words;
 pub use generation_laws::generated_texts_have_the_same_ends;
 pub use status::Status;
 pub use top::autocorres;
-
-#[cfg(test)]
-mod conversion_tests;
-#[cfg(test)]
-mod generation_tests;
-#[cfg(test)]
-mod tests;
-#[cfg(test)]
-mod type_rows;

@@ -122,6 +122,3 @@ fn is_option(word: &str) -> bool
 {
     word.starts_with("bytes=") || word.starts_with("words=") || is_target(word)
 }
-
-#[cfg(test)]
-mod tests;

@@ -1,8 +1,8 @@
 //! Answers of the top call over shelves and sinks in memory.
 
 use crate::type_rows::ROWS;
-use crate::{Status, autocorres};
 use ac_base::{MemoryShelf, MemorySink};
+use ac_core::{Status, autocorres};
 use std::alloc::{AllocError, Global};
 use std::test::Fail;
 

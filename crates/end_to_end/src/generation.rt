@@ -60,3 +60,34 @@ fn counts_of_commands(rt: HostRuntime) -> Result<(), Fail> {
     assert_eq!(rt; count(alloc, 200, &on_bytes)?, 601);
     Ok(())
 }
+
+// So many functions of 200 statements each.
+fn functions(alloc: Global, count: u32) -> Result<String, AllocError> {
+    let mut body = String::new(alloc);
+    for _ in 0..200u32 {
+        body.push_str("a=a+b*3u;")?;
+    }
+    let mut text = String::new(alloc);
+    for n in 0..count {
+        let head = format!(in alloc; "void f{n}(unsigned a,unsigned b)")?;
+        text.push_str(head.as_str())?;
+        text.push_str("{")?;
+        text.push_str(body.as_str())?;
+        text.push_str("}")?;
+    }
+    Ok(text)
+}
+
+#[test]
+fn units_at_the_limits(rt: HostRuntime) -> Result<(), Fail> {
+    let alloc = rt.alloc();
+    for count in [256u32, 512, 1024] {
+        let text = functions(alloc, count)?;
+        let u = generated(alloc, text.as_str(), &[])?;
+        assert_eq!(rt; u.functions.len() as u64, u64::from(count));
+        let last = u.functions.last().ok_or("no function")?;
+        // three for each statement, and 199 sequences; a catch with a skip around all
+        assert_eq!(rt; commands(&last.body), 801);
+    }
+    Ok(())
+}

@@ -1,6 +1,7 @@
 //! Words that are of a form, and words that aren't.
 
-use super::{is_form, shown_file};
+use ac_base::{MemoryShelf, MemorySink};
+use ac_core::{Status, autocorres};
 use std::alloc::{AllocError, Global};
 use std::test::Fail;
 
@@ -11,6 +12,15 @@ fn words_of(alloc: Global, line: &str) -> Result<Vec<String>, AllocError> {
         words.push(String::from_str(alloc, word)?)?;
     }
     Ok(words)
+}
+
+// The status and what is written where there are no files.
+fn answer(alloc: Global, words: &[String]) -> Result<(Status, Vec<u8>), AllocError> {
+    let mut shelf = MemoryShelf::new(Vec::new(alloc), Vec::new(alloc));
+    let mut sink = MemorySink::new(alloc, 256, Vec::new(alloc))?;
+    let status = autocorres(alloc, words, &mut shelf, &mut sink);
+    let taken = Vec::from_slice(alloc, sink.taken())?;
+    Ok((status, taken))
 }
 
 #[test]
@@ -119,28 +129,29 @@ fn tells_forms(rt: HostRuntime) -> Result<(), Fail> {
         ("f.c", false),
     ] {
         let words = words_of(rt.alloc(), line)?;
-        assert_eq!(rt; is_form(&words), want, "{line}");
+        let (status, _) = answer(rt.alloc(), &words)?;
+        assert_eq!(rt; status != Status::Words, want, "{line}");
     }
-    let none: Vec<String> = Vec::new(rt.alloc());
-    assert!(rt; !is_form(&none));
+    let (status, _) = answer(rt.alloc(), &[])?;
+    assert_eq!(rt; status, Status::Words);
     Ok(())
 }
 
 #[test]
 fn shows_plain_files(rt: HostRuntime) -> Result<(), Fail> {
     for (line, want) in [
-        ("show f.c", Some("f.c")),
-        ("show target=lp64", Some("target=lp64")),
-        ("show ", Some("")),
-        ("show", None),
-        ("show f.c bytes=f", None),
-        ("show f.c g.c", None),
-        ("print f.c", None),
-        ("sample 7", None),
-        ("", None),
+        ("show f.c", "read fault: f.c\n"),
+        ("show target=lp64", "read fault: target=lp64\n"),
+        ("show ", "read fault: \n"),
+        ("show f.c bytes=f", "not yet\n"),
+        ("print f.c", "not yet\n"),
+        ("sample 7", "not yet\n"),
+        ("show f.c g.c", "words: no command of this form\n"),
+        ("show", "words: no command of this form\n"),
     ] {
         let words = words_of(rt.alloc(), line)?;
-        assert_eq!(rt; shown_file(&words), want, "{line}");
+        let (_, taken) = answer(rt.alloc(), &words)?;
+        assert_eq!(rt; taken.as_slice(), want.as_bytes(), "{line}");
     }
     Ok(())
 }

@@ -1,0 +1,13 @@
+//! Tests across crates, from the words and the bytes of a text on.
+#![tactic(auto)]
+
+#[cfg(test)]
+mod answers;
+#[cfg(test)]
+mod conversions;
+#[cfg(test)]
+mod forms;
+#[cfg(test)]
+mod generation;
+#[cfg(test)]
+mod type_rows;
