@@ -1,5 +1,5 @@
 -- The value of a name among others: of two with one name the last counts, and globals come in their order.
-use Rattle.std.proofs.Common.{◌≡◌, ℕ, zero, suc, ◌+◌, ◌-◌, ◌<◌, ◌≤◌, false, cond, List, [], ◌∷◌, length, get_or, take, drop, sym, ap, ◌∙◌, arith}
+use Rattle.std.proofs.Common.{◌≡◌, ℕ, zero, suc, ◌+◌, ◌-◌, ◌<◌, ◌≤◌, true, false, cond, List, [], ◌∷◌, length, get_or, take, drop, Option, Some, ◌++◌, refl, sym, ap, ◌∙◌, arith}
 use Rattle.std.proofs.lemmas.Bool.{cond-false}
 use Rattle.std.specs.Prelude.{String, string_bytes}
 use Rattle.std.specs.declared.alloc.Global.{Global}
@@ -8,6 +8,10 @@ use Rattle.c_values.specs.declared.values.GlobalVar as G
 use Rattle.c_values.specs.Name.{Name, same_name, with_name}
 use Rattle.c_values.specs.Value.{nothing}
 use Rattle.c_values.specs.CodeValue.{value_of}
+use Rattle.ac_expr.specs.declared.signatures.Binder as B
+use Rattle.ac_expr.specs.Sort.{Scalar, word_sort_of}
+use Rattle.ac_expr.specs.Code.{kind_of}
+use Rattle.ac_expr.specs.CodeSort.{names_with_all, IsScalarAmong}
 use Rattle.ac_expr.specs.Evaluation.{Env}
 use Rattle.ac_expr.specs.CodeState.{Bindings, env_with, env_of, globals_of}
 
@@ -36,3 +40,22 @@ global_after (h ∷ gs) (v ∷ vs) zero g x lt lt' e other =
 global_after (h ∷ gs) (v ∷ vs) (suc k) g x lt lt' e other =
     let n : suc k + 1 ≡ suc (k + 1) = omega arith in
     ap (λ m. globals_of (drop m (h ∷ gs)) (drop m (v ∷ vs)) x) n ∙ global_after gs vs k g x (omega arith) (omega arith) e other
+
+-- the last of binders comes first
+pub last_binder : (bs : List B.Binder) (b : B.Binder) (names : Name → Option Scalar) →
+    names_with_all (bs ++ (b ∷ [])) names ≡ with_name (string_bytes b.name) (Some (word_sort_of (kind_of b.kind))) (names_with_all bs names)
+last_binder [] b names = refl
+last_binder (a ∷ bs) b names = last_binder bs b (with_name (string_bytes a.name) (Some (word_sort_of (kind_of a.kind))) names)
+
+pub binder_here : (bs others : List B.Binder) (b : B.Binder) (x : Name) → bs ≡ others ++ (b ∷ []) → same_name (string_bytes b.name) x ≡ true →
+    IsScalarAmong bs x (word_sort_of (kind_of b.kind))
+binder_here bs others b x e here names =
+    ap (λ cs. names_with_all cs names x) e ∙ ap (λ (f : Name → Option Scalar). f x) (last_binder others b names)
+    ∙ ap (λ h. cond h (Some (word_sort_of (kind_of b.kind))) (names_with_all others names x)) here
+
+-- a binder of another name is left out
+pub binder_left_out : (bs others : List B.Binder) (b : B.Binder) (x : Name) (names : Name → Option Scalar) → bs ≡ others ++ (b ∷ []) → same_name (string_bytes b.name) x ≡ false →
+    names_with_all bs names x ≡ names_with_all others names x
+binder_left_out bs others b x names e other =
+    ap (λ cs. names_with_all cs names x) e ∙ ap (λ (f : Name → Option Scalar). f x) (last_binder others b names)
+    ∙ ap (λ h. cond h (Some (word_sort_of (kind_of b.kind))) (names_with_all others names x)) other

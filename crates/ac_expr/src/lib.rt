@@ -36,6 +36,6 @@ pub use faults::EvalFault;
 pub use names::Names;
 pub use paths::Path;
 pub use signatures::{Binder, Signature};
-pub use sort::{Kind, Level, Scalar, Sort};
+pub use sort::{Kind, Level, Scalar, Sort, scalar_of_kind};
 pub use sorts::{along, sort_of};
 pub use types::{copy_of, same_type};

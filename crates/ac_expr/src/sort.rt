@@ -1,5 +1,10 @@
 //! Sorts of values, levels of programs and kinds of names.
 
+ghost use Rattle.std.specs.Prelude.{◌≡◌};
+ghost use Rattle.ac_expr.specs.Sort.{word_sort_of};
+ghost use Rattle.ac_expr.specs.Code.{kind_of};
+ghost use Rattle.ac_expr.specs.CodeSort.{scalar_of};
+
 use c_values::CType;
 
 /// What a value is that has no parts.
@@ -36,4 +41,14 @@ pub enum Kind {
     Nat(u8),
     Int(u8),
     Bool,
+}
+
+/// What the values of a kind are before words become numbers.
+pub fn scalar_of_kind(kind: Kind) -> Scalar
+    ensures { scalar_of result ≡ word_sort_of (kind_of kind) }
+{
+    match kind {
+        Kind::Word(width) | Kind::Nat(width) | Kind::Int(width) => Scalar::Word(width),
+        Kind::Bool => Scalar::Truth,
+    }
 }

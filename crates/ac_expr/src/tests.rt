@@ -1,7 +1,7 @@
 //! Sorts and values of expressions that are known from elsewhere.
 
 use crate::equality::same_value;
-use crate::{Env, EvalFault, Exp, Names, Path, Scalar, Sort, eval, sort_of};
+use crate::{Binder, Env, EvalFault, Exp, Kind, Names, Path, Scalar, Sort, eval, sort_of};
 use c_memory::ByteHeap;
 use c_values::{CType, IntType, Layout, Number, NumberOp, Target, Value, Word};
 use std::alloc::{AllocError, Global};
@@ -140,6 +140,29 @@ fn names_that_hide_others(rt: HostRuntime) -> Result<(), Fail> {
     let e = Exp::Var(String::from_str(alloc, "x")?);
     let sort = sort_of(&e, &inner, &l, &[]);
     assert!(rt; matches!(sort, Some(Sort::Of(Scalar::Truth))));
+    Ok(())
+}
+
+#[test]
+fn names_of_binders(rt: HostRuntime) -> Result<(), Fail> {
+    let alloc = rt.alloc();
+    let mut binders = Vec::new(alloc);
+    for (name, kind) in [
+        ("x", Kind::Bool),
+        ("y", Kind::Int(32)),
+        ("x", Kind::Word(16)),
+    ] {
+        let name = String::from_str(alloc, name)?;
+        binders.push(Binder { name, kind })?;
+    }
+    let outer = Names::new();
+    let outer = outer.push("y", Scalar::Truth);
+    let outer = outer.push("z", Scalar::Num);
+    let inner = outer.push_all(&binders);
+    assert_eq!(rt; inner.get("x"), Some(Scalar::Word(16)));
+    assert_eq!(rt; inner.get("y"), Some(Scalar::Word(32)));
+    assert_eq!(rt; inner.get("z"), Some(Scalar::Num));
+    assert_eq!(rt; inner.get("w"), None);
     Ok(())
 }
 

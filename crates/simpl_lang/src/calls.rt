@@ -12,9 +12,9 @@ ghost use Rattle.simpl_lang.specs.Sorted.{fits_target, is_scalar_of};
 ghost use Rattle.simpl_lang.specs.CodeForms.{scope_in, signatures_in, may_take, may_go_to};
 
 use crate::program_sorts::program_sort;
-use crate::scalars::{is_of, scalar_of_kind};
+use crate::scalars::is_of;
 use crate::units::SimplUnit;
-use ac_expr::{Binder, Exp, Kind, Names, Signature};
+use ac_expr::{Binder, Exp, Kind, Names, Signature, scalar_of_kind};
 
 /// Whether a call is of a function of the unit, with arguments and a target of its kinds.
 #[tactic(auto, using(crate::proofs::Arguments::calls_none, crate::proofs::Arguments::calls_one))]

@@ -34,36 +34,46 @@ pub(crate) fn is_test(u: &SimplUnit, names: &Names<'_>, e: &Exp) -> bool
     is_truth(program_sort(u, names, e))
 }
 
-// Whether a part of a value is taken or replaced somewhere in an expression.
+// Whether a part of a value is taken or replaced somewhere in an expression. It goes along the operands of an `or` by a
+// loop, since a text may have long ones.
 #[cycle(parts)]
 fn has_part_of_value(e: &Exp) -> bool
     ensures { result ≡ has is_part_of_value (exp_of e.now) }
 {
-    match e {
-        Exp::Var(_) | Exp::Word(_) | Exp::Number(_) | Exp::Truth(_) => false,
-        Exp::WordBinary(_, a, b) => has_part_of_value(a) || has_part_of_value(b),
-        Exp::WordShift(_, a, n) => has_part_of_value(a) || has_part_of_value(n),
-        Exp::WordCompare(_, a, b) => has_part_of_value(a) || has_part_of_value(b),
-        Exp::Arith(_, a, b) => has_part_of_value(a) || has_part_of_value(b),
-        Exp::Lt(a, b)
-        | Exp::Le(a, b)
-        | Exp::Eq(a, b)
-        | Exp::And(a, b)
-        | Exp::Or(a, b)
-        | Exp::Imp(a, b) => has_part_of_value(a) || has_part_of_value(b),
-        Exp::WordUnary(_, a) => has_part_of_value(a),
-        Exp::Cast(_, _, a) => has_part_of_value(a),
-        Exp::ToWord(_, a) => has_part_of_value(a),
-        Exp::Between(_, a, _) => has_part_of_value(a),
-        Exp::ToNat(a) | Exp::ToInt(a) | Exp::Negate(a) | Exp::Not(a) => has_part_of_value(a),
-        Exp::If(c, a, b) => has_part_of_value(c) || has_part_of_value(a) || has_part_of_value(b),
-        Exp::Padd(_, p, n) => has_part_of_value(p) || has_part_of_value(n),
-        Exp::At(_, p, path) | Exp::Load(_, p, path) | Exp::Read(_, p, path) => {
-            has_part_of_value(p) || path_has_part_of_value(path)
+    let mut rest = e;
+    'operands: loop {
+        match rest {
+            Exp::Or(first, others) => {
+                if has_part_of_value(first) {
+                    return true;
+                }
+                rest = &**others;
+            }
+            Exp::Var(_) | Exp::Word(_) | Exp::Number(_) | Exp::Truth(_) => return false,
+            Exp::WordBinary(_, a, b) => return has_part_of_value(a) || has_part_of_value(b),
+            Exp::WordShift(_, a, n) => return has_part_of_value(a) || has_part_of_value(n),
+            Exp::WordCompare(_, a, b) => return has_part_of_value(a) || has_part_of_value(b),
+            Exp::Arith(_, a, b) => return has_part_of_value(a) || has_part_of_value(b),
+            Exp::Lt(a, b) | Exp::Le(a, b) | Exp::Eq(a, b) | Exp::And(a, b) | Exp::Imp(a, b) =>
+                return has_part_of_value(a) || has_part_of_value(b),
+            Exp::WordUnary(_, a) => return has_part_of_value(a),
+            Exp::Cast(_, _, a) => return has_part_of_value(a),
+            Exp::ToWord(_, a) => return has_part_of_value(a),
+            Exp::Between(_, a, _) => return has_part_of_value(a),
+            Exp::ToNat(a) | Exp::ToInt(a) | Exp::Negate(a) | Exp::Not(a) => {
+                return has_part_of_value(a);
+            }
+            Exp::If(c, a, b) => {
+                return has_part_of_value(c) || has_part_of_value(a) || has_part_of_value(b);
+            }
+            Exp::Padd(_, p, n) => return has_part_of_value(p) || has_part_of_value(n),
+            Exp::At(_, p, path) | Exp::Load(_, p, path) | Exp::Read(_, p, path) => {
+                return has_part_of_value(p) || path_has_part_of_value(path);
+            }
+            Exp::Tagged(_, p) | Exp::PtrOk(_, p) => return has_part_of_value(p),
+            Exp::Global(_, path) => return path_has_part_of_value(path),
+            Exp::Sel(_, _) | Exp::Upd(_, _, _) => return true,
         }
-        Exp::Tagged(_, p) | Exp::PtrOk(_, p) => has_part_of_value(p),
-        Exp::Global(_, path) => path_has_part_of_value(path),
-        Exp::Sel(_, _) | Exp::Upd(_, _, _) => true,
     }
 }
 

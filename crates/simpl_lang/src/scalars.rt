@@ -2,22 +2,12 @@
 
 ghost use Rattle.std.specs.Prelude.{◌≡◌};
 ghost use Rattle.std.specs.Option.{option_map};
-ghost use Rattle.ac_expr.specs.Sort.{is_kind, word_sort_of};
+ghost use Rattle.ac_expr.specs.Sort.{is_kind};
 ghost use Rattle.ac_expr.specs.Code.{kind_of};
 ghost use Rattle.ac_expr.specs.CodeSort.{scalar_of, sort_value};
 ghost use Rattle.simpl_lang.specs.Sorted.{is_scalar_of, same_kind};
 
 use ac_expr::{Kind, Scalar, Sort};
-
-/// What the values of a kind are in commands.
-pub(crate) fn scalar_of_kind(kind: Kind) -> Scalar
-    ensures { scalar_of result ≡ word_sort_of (kind_of kind) }
-{
-    match kind {
-        Kind::Word(width) | Kind::Nat(width) | Kind::Int(width) => Scalar::Word(width),
-        Kind::Bool => Scalar::Truth,
-    }
-}
 
 /// Whether words of the kind have one of the four widths.
 pub(crate) fn is_kind(kind: Kind) -> bool

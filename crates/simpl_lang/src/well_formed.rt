@@ -2,23 +2,21 @@
 
 ghost use Rattle.std.specs.Prelude.{◌≡◌, ◌&&◌, true, map};
 ghost use Rattle.c_values.specs.Name.{are_distinct};
-ghost use Rattle.ac_expr.specs.Sort.{are_kinds, word_sort_of};
+ghost use Rattle.ac_expr.specs.Sort.{are_kinds};
 ghost use Rattle.ac_expr.specs.Signature.{names_of, kinds_of};
-ghost use Rattle.ac_expr.specs.Sorted.{scope_with};
 ghost use Rattle.ac_expr.specs.CodeSignature.{binder_of};
-ghost use Rattle.simpl_lang.specs.Sorted.{IsWellFormed, is_sorted, are_fns_sorted};
+ghost use Rattle.simpl_lang.specs.Sorted.{IsWellFormed, is_sorted, are_fns_sorted, scope_of};
 ghost use Rattle.simpl_lang.specs.CodeCommand.{simpl_of, simpl_fn_of, simpl_unit_of};
-ghost use Rattle.simpl_lang.specs.CodeForms.{scope_in, signatures_in, is_fn_sorted, is_formed};
+ghost use Rattle.simpl_lang.specs.CodeForms.{signatures_in, is_fn_sorted, is_formed};
 
-use crate::command::Simpl;
 use crate::distinct_names::{are_functions_distinct, are_globals_distinct, are_locals_distinct};
-use crate::scalars::{is_kind, scalar_of_kind};
+use crate::scalars::is_kind;
 use crate::signed::are_signed;
 use crate::sorted::is_sorted;
 use crate::units::{SimplFn, SimplUnit};
 use ac_expr::{Binder, Names};
 
-/// Whether a unit is well-formed. It takes no memory, and of the stack some for each local of a function.
+/// Whether a unit is well-formed. It takes no memory, and of the stack no more for more locals.
 #[tactic(auto, using(crate::proofs::Formed::formed_sound, crate::proofs::Formed::formed_complete))]
 pub fn forms_ok(u: &SimplUnit) -> bool
     ensures sound { result ≡ true → IsWellFormed (simpl_unit_of u.now) }
@@ -55,7 +53,7 @@ fn are_functions_sorted(u: &SimplUnit) -> bool
 fn is_function_sorted(u: &SimplUnit, f: &SimplFn) -> bool
     ensures { result ≡ is_fn_sorted (simpl_unit_of u.now) (simpl_fn_of f.now) }
 {
-    are_locals_formed(&f.locals) && is_body_sorted(u, &Names::new(), &f.locals, &f.body)
+    are_locals_formed(&f.locals) && is_body_sorted(u, f)
 }
 
 // Whether locals are distinct and of kinds that are.
@@ -78,18 +76,11 @@ fn are_kinds(locals: &[Binder]) -> bool
     true
 }
 
-// Whether a body is well-sorted, once the locals are in scope too. Each call brings one into scope, since a link of the
-// chain of names borrows the one before.
-fn is_body_sorted(u: &SimplUnit, names: &Names<'_>, locals: &[Binder], body: &Simpl) -> bool
-    ensures { let bs = map binder_of locals.now in
-        let g = scope_with (names_of bs) (map word_sort_of (kinds_of bs)) (scope_in u.now names.now) in
-        result ≡ is_sorted g (signatures_in u.now) (simpl_of body.now) }
+// Whether a function's body is well-sorted where its locals are in scope.
+fn is_body_sorted(u: &SimplUnit, f: &SimplFn) -> bool
+    ensures { result ≡ is_sorted (scope_of (simpl_unit_of u.now) (simpl_fn_of f.now)) (signatures_in u.now) (simpl_of f.now.body) }
 {
-    match locals.split_first() {
-        Some((local, others)) => {
-            let inner = (&*names).push(local.name.as_str(), scalar_of_kind(local.kind));
-            is_body_sorted(u, &inner, others, body)
-        }
-        None => is_sorted(body, names, u),
-    }
+    let outside = Names::new();
+    let inside = outside.push_all(&f.locals);
+    is_sorted(&f.body, &inside, u)
 }

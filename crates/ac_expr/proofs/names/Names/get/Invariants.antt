@@ -3,5 +3,5 @@ use Rattle.std.proofs.Common.{◌≡◌}
 use Rattle.ac_expr.specs.CodeSort.{names_of}
 use Rattle.ac_expr.proofs.names.Names.get.Given as goal
 
-abbrev pub invariant-loop-names : goal.invariant-loop-names
-invariant-loop-names l = names_of l.names l.name ≡ names_of l.fn.self l.name
+abbrev pub invariant-links : goal.invariant-links
+invariant-links l = names_of l.names l.name ≡ names_of l.fn.self l.name
