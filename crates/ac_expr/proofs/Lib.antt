@@ -16,3 +16,4 @@ pub mod Unequal
 pub mod Whole
 pub mod PartSorts
 pub mod Shorter
+pub mod Either

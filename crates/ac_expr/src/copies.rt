@@ -1,6 +1,7 @@
 //! Copies of expressions and paths.
 
 ghost use Rattle.std.specs.Prelude.{◌≡◌, IfOk};
+ghost use Rattle.ac_expr.specs.Expression.{Or};
 ghost use Rattle.ac_expr.specs.Code.{exp_of, path_of};
 ghost use Rattle.ac_expr.specs.Heads.{IsTest, IsPlace};
 ghost use Rattle.ac_expr.specs.CodePath.{with_part};
@@ -89,8 +90,8 @@ impl Exp {
                 Ok(Exp::And(a, boxed(alloc, b)?))
             }
             Exp::Or(a, b) => {
-                let a = boxed(alloc, a)?;
-                Ok(Exp::Or(a, boxed(alloc, b)?))
+                let a = a.copy(alloc)?;
+                either(alloc, a, last_operand(alloc, b)?)
             }
             Exp::Imp(a, b) => {
                 let a = boxed(alloc, a)?;
@@ -164,6 +165,33 @@ fn boxed(alloc: Global, e: &Exp) -> Result<Box<Exp>, AllocError>
     ensures { IfOk result (λ copy. exp_of copy.value ≡ exp_of e.now) }
 {
     Ok(Box::new(alloc, e.copy(alloc)?)?)
+}
+
+// A copy of the right operand of an `or`. It goes along the right side of the `or`s in it by a loop, since the test of a switch is
+// an `or` of as many equations as there are labels.
+#[cycle(copy)]
+#[tactic(auto, using(crate::proofs::Either::any_of_push))]
+fn last_operand(alloc: Global, e: &Exp) -> Result<Exp, AllocError>
+    ensures { IfOk result (λ copy. exp_of copy ≡ exp_of e.now) }
+{
+    let mut firsts = Vec::new(alloc);
+    let mut rest = e;
+    'operands: while let Exp::Or(a, b) = rest {
+        firsts.push(a.copy(alloc)?)?;
+        rest = &**b;
+    }
+    let mut copy = rest.copy(alloc)?;
+    'back: while let Some(first) = firsts.pop() {
+        copy = either(alloc, first, copy)?;
+    }
+    Ok(copy)
+}
+
+fn either(alloc: Global, a: Exp, b: Exp) -> Result<Exp, AllocError>
+    ensures { IfOk result (λ e. exp_of e ≡ Or (exp_of a) (exp_of b)) }
+{
+    let a = Box::new(alloc, a)?;
+    Ok(Exp::Or(a, Box::new(alloc, b)?))
 }
 
 // A step of a path.

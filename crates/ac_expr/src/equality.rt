@@ -49,13 +49,15 @@ fn same_values(xs: &[Value], ys: &[Value]) -> bool
     true
 }
 
-fn same_number(a: Number, b: Number) -> bool
+/// Whether two numbers are equal.
+pub fn same_number(a: Number, b: Number) -> bool
     ensures { result ≡ int_eq a b }
 {
     a.negative() == b.negative() && a.magnitude() == b.magnitude()
 }
 
-fn same_truth(a: bool, b: bool) -> bool
+/// Whether two truth values are equal.
+pub fn same_truth(a: bool, b: bool) -> bool
     ensures { result ≡ same_truth a b }
 {
     if a { b } else { !b }

@@ -319,6 +319,8 @@ impl<H: Heap> Scene<'_, H> {
         Ok(number_in(&self.value(e)?))
     }
 
+    // Whether an expression holds. It goes along the right side of an `or` by a loop, since the test of a switch is an `or` of as
+    // many equations as there are labels.
     #[cycle(values)]
     #[inline(never)]
     fn truth(&self, e: &Exp) -> Result<bool, EvalFault>
@@ -326,7 +328,14 @@ impl<H: Heap> Scene<'_, H> {
         requires ready { ReadyIn (scene_of H.content self.now) (exp_of e.now) }
         ensures { GivesTruth (scene_of H.content self.now) (exp_of e.now) result }
     {
-        Ok(truth_in(&self.value(e)?))
+        let mut rest = e;
+        'operands: while let Exp::Or(a, b) = rest {
+            if self.truth(a)? {
+                return Ok(true);
+            }
+            rest = &**b;
+        }
+        Ok(truth_in(&self.value(rest)?))
     }
 
     // The steps that a path takes. It goes along the path by a loop, since a text may have long paths.

@@ -13,7 +13,7 @@ pub enum CastOp {
 
 /// An expression. Each has one value in an environment and a state (`specs/Evaluation`), and a sort where it is well-sorted
 /// (`specs/Sort`).
-#[derive(Debug, Drop)]
+#[derive(Debug)]
 #[cycle(exp)]
 pub enum Exp {
     /// A name's value.
@@ -69,4 +69,39 @@ pub enum Exp {
     Sel(Box<Exp>, Path),
     /// A value with a part replaced, in assertions alone.
     Upd(Box<Exp>, Path, Box<Exp>),
+}
+
+// A derived drop would call itself once for each label of a switch, whose test is an `or` of as many equations.
+impl Drop for Exp {
+    #[cycle(drop_expression)]
+    fn drop(mut self) {
+        loop {
+            match self {
+                Exp::Var(_name) => return,
+                Exp::Word(_) | Exp::Number(_) | Exp::Truth(_) => return,
+                Exp::WordBinary(_, _a, _b) => return,
+                Exp::WordShift(_, _a, _n) => return,
+                Exp::WordUnary(_, _a) => return,
+                Exp::WordCompare(_, _a, _b) => return,
+                Exp::Cast(_, _, _a) => return,
+                Exp::ToNat(_a) | Exp::ToInt(_a) | Exp::Negate(_a) | Exp::Not(_a) => return,
+                Exp::ToWord(_, _a) => return,
+                Exp::Arith(_, _a, _b) => return,
+                Exp::Lt(_a, _b) | Exp::Le(_a, _b) | Exp::Eq(_a, _b) => return,
+                Exp::Between(_, _a, _) => return,
+                Exp::And(_a, last) | Exp::Or(_a, last) | Exp::Imp(_a, last) => {
+                    self = Box::into_inner(last);
+                }
+                Exp::If(_c, _a, _b) => return,
+                Exp::Padd(_ty, _p, _n) => return,
+                Exp::At(_ty, _p, _path) | Exp::Load(_ty, _p, _path) | Exp::Read(_ty, _p, _path) => {
+                    return;
+                }
+                Exp::Tagged(_ty, _p) | Exp::PtrOk(_ty, _p) => return,
+                Exp::Global(_name, _path) => return,
+                Exp::Sel(_whole, _path) => return,
+                Exp::Upd(_whole, _path, _part) => return,
+            }
+        }
+    }
 }

@@ -29,6 +29,7 @@ mod types;
 
 pub use copying::copy_value;
 pub use environments::Env;
+pub use equality::{same_number, same_truth};
 pub use evaluator::eval;
 pub use expression::{CastOp, Exp};
 pub use facts::{Fact, Facts};

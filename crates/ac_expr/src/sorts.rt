@@ -4,7 +4,7 @@ ghost use Rattle.std.specs.Prelude.{◌≡◌};
 ghost use Rattle.std.specs.Option.{option_map};
 ghost use Rattle.c_values.specs.Layout.{shape_of};
 ghost use Rattle.c_values.specs.CodeTypes.{type_of};
-ghost use Rattle.ac_expr.specs.Sort.{sort_of, shape_along, is_one_step};
+ghost use Rattle.ac_expr.specs.Sort.{sort_of, shape_along, is_one_step, is_truth};
 ghost use Rattle.ac_expr.specs.Code.{exp_of, path_of};
 ghost use Rattle.ac_expr.specs.CodeSort.{sort_value, scope_of};
 
@@ -66,8 +66,11 @@ pub fn sort_of<'a>(
             sort_of(a, names, l, globals),
             sort_of(b, names, l, globals),
         )),
-        Exp::And(a, b) | Exp::Or(a, b) | Exp::Imp(a, b) => truth(
+        Exp::And(a, b) | Exp::Imp(a, b) => truth(
             is_truth(sort_of(a, names, l, globals)) && is_truth(sort_of(b, names, l, globals)),
+        ),
+        Exp::Or(a, b) => truth(
+            is_truth(sort_of(a, names, l, globals)) && is_truth_value(b, names, l, globals),
         ),
         Exp::Not(a) => truth(is_truth(sort_of(a, names, l, globals))),
         Exp::If(c, a, b) => {
@@ -121,6 +124,27 @@ pub fn sort_of<'a>(
             }
         }
     }
+}
+
+// Whether an expression is a truth value. It goes along the right side of an `or` by a loop, since the test of a switch is an `or`
+// of as many equations as there are labels.
+#[cycle(sorts)]
+fn is_truth_value<'a>(
+    e: &'a Exp,
+    names: &Names<'_>,
+    l: &'a Layout,
+    globals: &'a [GlobalVar],
+) -> bool
+    ensures { result ≡ is_truth (sort_of (scope_of l.now names.now globals.now) (exp_of e.now)) }
+{
+    let mut rest = e;
+    'operands: while let Exp::Or(a, b) = rest {
+        if !is_truth(sort_of(a, names, l, globals)) {
+            return false;
+        }
+        rest = &**b;
+    }
+    is_truth(sort_of(rest, names, l, globals))
 }
 
 /// The type at the end of a path. It goes along the path by a loop, since a text may have long paths.

@@ -192,3 +192,17 @@ fn deep_expressions(rt: HostRuntime) -> Result<(), Fail> {
     assert!(rt; same_value(&value, &Value::Truth(true)));
     Ok(())
 }
+
+// The test of a switch is such an `or`, and may have as many labels.
+#[test]
+fn long_disjunctions(rt: HostRuntime) -> Result<(), Fail> {
+    let alloc = rt.alloc();
+    let mut e = truth(alloc, true)?;
+    for _ in 1..32768u32 {
+        e = Box::new(alloc, Exp::Or(truth(alloc, false)?, e))?;
+    }
+    let copy = e.copy(alloc)?;
+    let value = value_of(alloc, &copy)?.ok().ok_or("no value")?;
+    assert!(rt; same_value(&value, &Value::Truth(true)));
+    Ok(())
+}

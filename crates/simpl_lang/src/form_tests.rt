@@ -264,6 +264,41 @@ fn long_sequences_have_an_answer(rt: HostRuntime) -> Result<(), Fail> {
     Ok(())
 }
 
+// A function whose locals are so many words.
+fn function_with_words(alloc: Global, count: u32) -> Result<SimplFn, AllocError> {
+    let mut f = function(alloc, "h", &[], Simpl::Skip)?;
+    for k in 0..count {
+        f.locals.push(Binder {
+            name: format!(in alloc; "{k}")?,
+            kind: Kind::Word(32),
+        })?;
+    }
+    Ok(f)
+}
+
+// An `or` of so many operands and one more.
+fn any_of(alloc: Global, count: u32) -> Result<Exp, AllocError> {
+    let mut any = Exp::Truth(true);
+    for _ in 0..count {
+        let first = Box::new(alloc, Exp::Truth(false))?;
+        any = Exp::Or(first, Box::new(alloc, any)?);
+    }
+    Ok(any)
+}
+
+#[test]
+fn many_locals_and_long_tests_have_an_answer(rt: HostRuntime) -> Result<(), Fail> {
+    let alloc = rt.alloc();
+    for (last, fits_last) in [("19999", true), ("20000", false)] {
+        let mut f = function_with_words(alloc, 20_000)?;
+        let set = Simpl::Set(text(alloc, last)?, word(1));
+        f.body = cond(alloc, any_of(alloc, 32_767)?, set, Simpl::Skip)?;
+        let s = signature(alloc, "h", &[], None)?;
+        assert_eq!(rt; fits_one_more(alloc, f, s)?, fits_last);
+    }
+    Ok(())
+}
+
 #[test]
 fn values_go_to_locals_of_their_sort(rt: HostRuntime) -> Result<(), Fail> {
     let alloc = rt.alloc();

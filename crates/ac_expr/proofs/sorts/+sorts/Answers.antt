@@ -1,15 +1,17 @@
--- The sorts of parts.
-use Rattle.std.proofs.Common.{◌&&◌, ◌∙◌, inl, inr, ap, sym}
+-- The sorts of parts, and of the right side of an `or`.
+use Rattle.std.proofs.Common.{◌≡◌, true, ◌&&◌, ◌∙◌, inl, inr, ap, sym, arith}
 use Rattle.std.specs.Prelude.{string_bytes}
 use Rattle.std.specs.Option.{option_map}
 use Rattle.c_values.specs.Layout.{is_object, shape_of}
 use Rattle.c_values.specs.Types.{address_width}
 use Rattle.c_values.specs.CodeTypes.{type_of}
-use Rattle.ac_expr.specs.Sort.{sort_of, is_word_of}
+use Rattle.ac_expr.specs.declared.expression.Exp.{size-Exp}
+use Rattle.ac_expr.specs.Sort.{sort_of, is_truth, is_word_of}
 use Rattle.ac_expr.specs.Along.{parts_type}
 use Rattle.ac_expr.specs.Code.{exp_of, path_of}
 use Rattle.ac_expr.specs.CodeSort.{sort_value, scope_of}
 use Rattle.ac_expr.proofs.PartSorts.{root_sorted, global_sorted, sel_sorted, upd_sorted}
+use Rattle.ac_expr.proofs.Either.{rest_is_truth, right_operand_shorter}
 use Rattle.ac_expr.proofs.sorts.+sorts.Goals as goal
 
 pub sort_of-returns-in-Some-global : goal.sort_of-returns-in-Some-global
@@ -62,3 +64,21 @@ sort_of-returns-in-Load t c =
       | inl e ↦ sym (ap (λ d. sort_of g (exp_of d)) e)
       | inr e ↦ sym (ap (λ d. sort_of g (exp_of d)) e)
     ]
+
+pub is_truth_value-operands-preserved : goal.is_truth_value-operands-preserved
+is_truth_value-operands-preserved t c =
+    let g = scope_of c.args.l.now c.args.names.now c.args.globals.now in
+    let first = exp_of c.in-Or.a.value in
+    let holds : is_truth (sort_of g first) ≡ true =
+    ap (λ e. is_truth (sort_of g (exp_of e))) (sym c.deref.ensures)
+    ∙ ap is_truth (sym c.sort_of.ensures)
+    ∙ sym c.is_truth.ensures
+    ∙ c.if-not-is_truth.false in
+    record {
+      same =
+          ap (λ e. is_truth (sort_of g (exp_of e))) c.deref-rest.ensures
+          ∙ sym (rest_is_truth g first (exp_of c.in-Or.b.value) holds)
+          ∙ sym (ap (λ e. is_truth (sort_of g (exp_of e))) c.in-Or.is)
+          ∙ c.operands.invariant.same;
+      smaller = let h = right_operand_shorter c.operands.rest.now c.in-Or.a c.in-Or.b c.in-Or.is in omega (arith, ap size-Exp c.deref-rest.ensures);
+    }

@@ -1,10 +1,11 @@
--- The rest of the path leads on from the type that was reached.
+-- The rest of the path leads on from the type that was reached. What is left of an `or` decides whether it is a truth value.
 use Rattle.std.proofs.Common.{◌≡◌, ◌≤◌}
 use Rattle.c_values.specs.Layout.{shape_of}
 use Rattle.c_values.specs.CodeTypes.{type_of}
+use Rattle.ac_expr.specs.declared.expression.Exp.{size-Exp}
 use Rattle.ac_expr.specs.declared.paths.Path.{size-Path}
-use Rattle.ac_expr.specs.Sort.{shape_along}
-use Rattle.ac_expr.specs.Code.{path_of}
+use Rattle.ac_expr.specs.Sort.{sort_of, is_truth, shape_along}
+use Rattle.ac_expr.specs.Code.{exp_of, path_of}
 use Rattle.ac_expr.specs.CodeSort.{scope_of}
 use Rattle.ac_expr.proofs.sorts.+sorts.Given as goal
 
@@ -13,4 +14,10 @@ invariant-along-steps l = record {
   same : shape_along (scope_of l.l l.names l.globals) (path_of l.rest) (shape_of l.l (type_of l.whole))
       ≡ shape_along (scope_of l.l l.names l.globals) (path_of l.fn.path) (shape_of l.l (type_of l.fn.t));
   smaller : size-Path l.rest ≤ size-Path l.fn.path;
+}
+
+abbrev pub invariant-is_truth_value-operands : goal.invariant-is_truth_value-operands
+invariant-is_truth_value-operands l = record {
+  same : is_truth (sort_of (scope_of l.l l.names l.globals) (exp_of l.rest)) ≡ is_truth (sort_of (scope_of l.l l.names l.globals) (exp_of l.fn.e));
+  smaller : size-Exp l.rest ≤ size-Exp l.fn.e;
 }
