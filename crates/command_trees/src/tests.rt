@@ -1,0 +1,27 @@
+//! Tests of long sequences.
+
+use crate::{copy_of_command, same_command};
+use simpl_lang::Simpl;
+use std::alloc::{AllocError, Global};
+use std::test::Fail;
+
+// So many skips, and then the last command.
+fn skips(alloc: Global, count: u32, last: Simpl) -> Result<Simpl, AllocError> {
+    let mut s = last;
+    for _ in 0..count {
+        let first = Box::new(alloc, Simpl::Skip)?;
+        s = Simpl::Seq(first, Box::new(alloc, s)?);
+    }
+    Ok(s)
+}
+
+#[test]
+fn long_sequences_are_copied_and_compared(rt: HostRuntime) -> Result<(), Fail> {
+    let alloc = rt.alloc();
+    let flat = skips(alloc, 1_000_000, Simpl::Skip)?;
+    let copy = copy_of_command(alloc, &flat)?;
+    assert!(rt; same_command(&flat, &copy));
+    let thrown = skips(alloc, 1_000_000, Simpl::Throw)?;
+    assert!(rt; !same_command(&copy, &thrown));
+    Ok(())
+}
