@@ -14,6 +14,3 @@ pub use memory_sink::{MemorySink, sink_with_room_never_fails};
 pub use outside::{Failed, Shelf, Sink};
 pub use reading::{ReadTrouble, read_whole};
 pub use writing::write_whole;
-
-#[cfg(test)]
-mod tests;

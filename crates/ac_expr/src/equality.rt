@@ -10,7 +10,7 @@ use c_values::{Number, Value};
 
 /// Whether two values are equal.
 #[cycle(same)]
-pub(crate) fn same_value(a: &Value, b: &Value) -> bool
+pub fn same_value(a: &Value, b: &Value) -> bool
     ensures { result ≡ same_value (value_of a.now) (value_of b.now) }
 {
     match a {

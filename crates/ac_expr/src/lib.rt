@@ -23,13 +23,11 @@ mod signatures;
 mod sort;
 pub mod sort_rules;
 mod sorts;
-#[cfg(test)]
-mod tests;
 mod types;
 
 pub use copying::copy_value;
 pub use environments::Env;
-pub use equality::{same_number, same_truth};
+pub use equality::{same_number, same_truth, same_value};
 pub use evaluator::eval;
 pub use expression::{CastOp, Exp};
 pub use facts::{Fact, Facts};

@@ -36,6 +36,3 @@ pub fn examples()
     ensures difference { Spells difference without_typedef }
     ensures cast { Spells cast with_typedef }
 {}
-
-#[cfg(test)]
-mod tests;

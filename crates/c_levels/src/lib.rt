@@ -7,8 +7,6 @@ mod levels;
 mod modes;
 pub mod reasons;
 mod spreading;
-#[cfg(test)]
-mod tests;
 
 pub use levels::default_modes;
 pub use modes::{Modes, Reason};

@@ -15,6 +15,3 @@ mod words;
 pub use fault::{LexFault, Unsupported};
 pub use lexer::tokens;
 pub use token::{Keyword, Punct, Token, TokenKind};
-
-#[cfg(test)]
-mod tests;

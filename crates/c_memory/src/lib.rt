@@ -21,8 +21,6 @@ mod stores;
 mod tag_faults;
 pub mod tag_laws;
 mod tag_table;
-#[cfg(test)]
-mod tests;
 mod types;
 mod words;
 

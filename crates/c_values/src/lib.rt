@@ -9,8 +9,6 @@ mod offsets;
 mod places;
 mod placing;
 mod tabulation;
-#[cfg(test)]
-mod tests;
 mod types;
 mod values;
 pub mod views;

@@ -4,8 +4,6 @@
 mod calls;
 mod command;
 mod distinct_names;
-#[cfg(test)]
-mod form_tests;
 mod forms;
 mod places;
 mod program_sorts;
@@ -13,8 +11,6 @@ mod run_laws;
 mod scalars;
 mod signed;
 mod sorted;
-#[cfg(test)]
-mod tests;
 mod units;
 mod well_formed;
 

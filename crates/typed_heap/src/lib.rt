@@ -7,12 +7,11 @@ pub mod laws;
 mod places;
 mod selecting;
 mod tagged_values;
-#[cfg(test)]
-mod tests;
 mod types_at;
 mod viewing;
 mod ways;
 mod zero_words;
 
 pub use heap::TypedHeap;
+pub use types_at::type_at;
 pub use viewing::view;

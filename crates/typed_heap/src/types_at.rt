@@ -11,7 +11,7 @@ use c_memory::Step;
 use c_values::{CType, Layout};
 
 /// The type of what lies at the end of a path into a type. There is none exactly where the type has no such path.
-pub(crate) fn type_at<'a>(l: &'a Layout, t: &'a CType, path: &[Step]) -> Option<&'a CType>
+pub fn type_at<'a>(l: &'a Layout, t: &'a CType, path: &[Step]) -> Option<&'a CType>
     requires { is_object l.now (type_of t.now) ≡ true }
     ensures shape { option_map (λ u. shape_of l.now (type_of u.now)) result
         ≡ option_map (λ q. q.shape) (spot (shape_of l.now (type_of t.now)) (map step_of path.now)) }

@@ -9,7 +9,7 @@ use Rattle.c_values.specs.CodeTypes.{type_of}
 use Rattle.c_memory.specs.CodeStep.{step_of}
 use Rattle.c_memory.specs.Heap.{write_heap}
 use Rattle.typed_heap.proofs.Heaps.{place_word, written, kept}
-use Rattle.typed_heap.proofs.tests.put_word.Goals as goal
+use Rattle.unit_tests.proofs.heaps.put_word.Goals as goal
 
 pub returns : goal.returns
 returns g c =

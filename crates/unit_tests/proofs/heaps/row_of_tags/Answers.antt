@@ -3,7 +3,7 @@ use Rattle.std.proofs.Common.{refl}
 use Rattle.c_memory.specs.TagFault.{IsRoot}
 use Rattle.c_memory.specs.CodeTag.{tag_of}
 use Rattle.c_memory.proofs.Written.{one_more}
-use Rattle.c_memory.proofs.tests.row_of_tags.Goals as goal
+use Rattle.unit_tests.proofs.heaps.row_of_tags.Goals as goal
 
 pub loop-k-preserved : goal.loop-k-preserved
 loop-k-preserved c l =

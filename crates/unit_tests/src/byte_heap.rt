@@ -1,24 +1,16 @@
 //! Heaps of bytes, at values that are known from elsewhere.
 
-ghost use Rattle.std.specs.Prelude.{◌≡◌, ◌+◌, ◌^◌, ◌≤◌, true, map, All, IfOk};
-ghost use Rattle.c_values.specs.Layout.{Layout as Table, is_object};
+ghost use Rattle.std.specs.Prelude.{◌≡◌, ◌+◌, ◌^◌, ◌≤◌, IfOk};
 ghost use Rattle.c_values.specs.Types.{address_width};
-ghost use Rattle.c_values.specs.CodeTypes.{target_of, type_of};
-ghost use Rattle.c_memory.specs.Tags.{is_root_type};
-ghost use Rattle.c_memory.specs.TagFault.{IsRoot};
-ghost use Rattle.c_memory.specs.CodeTag.{tag_of};
+ghost use Rattle.c_values.specs.CodeTypes.{target_of};
 ghost use Rattle.c_memory.specs.CodeHeap.{memory_of};
 ghost use Rattle.c_memory.specs.Heap.{IsHeap, OnBytes};
 
-use crate::byte_heap::ByteHeap;
-use crate::faults::HeapFault;
-use crate::heaps::Heap;
-use c_values::views::word;
-use c_values::{CType, IntType, Layout, Number, StructDef, Target, Value, is_object, width_of};
+use crate::heaps::{UINT, copy_value, heap_of_row, is_root, put_word, word_at};
+use c_memory::{ByteHeap, Heap, HeapFault};
+use c_values::{CType, IntType, Layout, StructDef, Target};
 use std::alloc::{AllocError, Global};
 use std::test::Fail;
-
-const UINT: CType = CType::Int(IntType::UInt);
 
 fn named(alloc: Global) -> Result<CType, AllocError> {
     Ok(CType::Struct(String::from_str(alloc, "p")?))
@@ -47,17 +39,6 @@ fn last_address(target: Target) -> u64
     match target {
         Target::Ilp32 => u64::from(u32::MAX),
         Target::Lp64 => u64::MAX,
-    }
-}
-
-// Whether a type may be that of a tag.
-fn is_root(l: &Layout, t: &CType) -> bool
-    ensures root { result ≡ true → is_root_type (type_of t.now) ≡ true }
-    ensures object { result ≡ true → is_object l.now (type_of t.now) ≡ true }
-{
-    match t {
-        CType::Int(_) | CType::Ptr(_) | CType::Struct(_) => is_object(l, t),
-        CType::Void | CType::Array(_, _) => false,
     }
 }
 
@@ -97,60 +78,6 @@ fn fault_of(
         return Err(Fail::from("no tags"));
     }
     Ok(ByteHeap::new(alloc, &l, &[], &tags).err())
-}
-
-// The word of an integer type at an address, by a read.
-fn word_at(h: &ByteHeap, l: &Layout, i: IntType, address: u64) -> Option<u64>
-    requires { IsHeap l.now (OnBytes (memory_of h.now)) }
-{
-    let ty = CType::Int(i);
-    if last_address(l.target()) < address || !is_object(l, &ty) {
-        return None;
-    }
-    Some(h.read_word(l, &ty, address, &[]).bits())
-}
-
-// Writes the low bits of a number at an address.
-fn put_word(
-    alloc: Global,
-    h: &mut ByteHeap,
-    l: &Layout,
-    i: IntType,
-    address: u64,
-    bits: u64,
-) -> Result<(), Fail>
-    requires { IsHeap l.now (OnBytes (memory_of h.old)) }
-    ensures { IsHeap l.now (OnBytes (memory_of h.new)) }
-{
-    let ty = CType::Int(i);
-    if last_address(l.target()) < address || !is_object(l, &ty) {
-        return Err(Fail::from("no place"));
-    }
-    let width = width_of(l.target(), i);
-    let value = Value::Word(word(width, Number::new(false, u128::from(bits))));
-    h.write_value(alloc, l, &ty, address, &[], &value)?;
-    Ok(())
-}
-
-// Writes what one address has of a type to another.
-fn copy_value(
-    alloc: Global,
-    h: &mut ByteHeap,
-    l: &Layout,
-    t: &CType,
-    to: u64,
-    from: u64,
-) -> Result<(), Fail>
-    requires { IsHeap l.now (OnBytes (memory_of h.old)) }
-    ensures { IsHeap l.now (OnBytes (memory_of h.new)) }
-{
-    let last = last_address(l.target());
-    if last < from || last < to || !is_object(l, t) {
-        return Err(Fail::from("no places"));
-    }
-    let value = h.read_value(alloc, l, t, from, &[])?;
-    h.write_value(alloc, l, t, to, &[], &value)?;
-    Ok(())
 }
 
 // The bytes from an address on.
@@ -230,10 +157,10 @@ fn numbers_of_pages(rt: HostRuntime) -> Result<(), Fail> {
     let tags = [(4096, named(alloc)?), (12288, UINT)];
     let mut h = heap_of(alloc, &l, first, second, tags)?;
     assert_eq!(rt; h.pages(), 2);
-    assert_eq!(rt; word_at(&h, &l, IntType::UInt, 4100), Some(8192));
-    put_word(alloc, &mut h, &l, IntType::UInt, 12288, 1)?;
+    assert_eq!(rt; word_at(&h, &l, &UINT, 4100, &[]), Some(8192));
+    put_word(alloc, &mut h, &l, &UINT, 12288, &[], 1)?;
     assert_eq!(rt; h.pages(), 3);
-    assert_eq!(rt; word_at(&h, &l, IntType::UInt, 16384), Some(0));
+    assert_eq!(rt; word_at(&h, &l, &UINT, 16384, &[]), Some(0));
     assert_eq!(rt; h.pages(), 3);
     Ok(())
 }
@@ -242,8 +169,9 @@ fn numbers_of_pages(rt: HostRuntime) -> Result<(), Fail> {
 fn written(alloc: Global, i: IntType, address: u64, bits: u64) -> Result<(u64, usize), Fail> {
     let l = layout(alloc, Target::Lp64)?;
     let mut h = ByteHeap::new(alloc, &l, &[], &[])?;
-    put_word(alloc, &mut h, &l, i, address, bits)?;
-    let word = word_at(&h, &l, i, address).ok_or("no word")?;
+    let ty = CType::Int(i);
+    put_word(alloc, &mut h, &l, &ty, address, &[], bits)?;
+    let word = word_at(&h, &l, &ty, address, &[]).ok_or("no word")?;
     Ok((word, h.pages()))
 }
 
@@ -277,9 +205,9 @@ fn words_over_the_end_of_the_space(rt: HostRuntime) -> Result<(), Fail> {
         let second = (last - 7, [0, 0, 0, 0, 0, 0, 1, 2]);
         let tags = [(4096, UINT), (8192, UINT)];
         let mut h = heap_of(alloc, &l, first, second, tags)?;
-        assert_eq!(rt; word_at(&h, &l, IntType::UInt, last - 1), Some(0x0403_0201));
+        assert_eq!(rt; word_at(&h, &l, &UINT, last - 1, &[]), Some(0x0403_0201));
         assert_eq!(rt; h.pages(), 2);
-        put_word(alloc, &mut h, &l, IntType::UInt, last - 1, 0x0807_0605)?;
+        put_word(alloc, &mut h, &l, &UINT, last - 1, &[], 0x0807_0605)?;
         assert_eq!(rt; bytes_at(&h, 0), [7, 8, 0, 0, 0, 0, 0, 0]);
         assert_eq!(rt; (h.byte(last - 1), h.byte(last)), (5, 6));
         assert_eq!(rt; h.pages(), 2);
@@ -299,25 +227,6 @@ fn padding_of_a_copy(rt: HostRuntime) -> Result<(), Fail> {
     assert_eq!(rt; bytes_at(&h, 4096), first.1);
     assert_eq!(rt; bytes_at(&h, 4104), [1, 0xbb, 0xbb, 0xbb, 2, 0, 0, 0]);
     Ok(())
-}
-
-// So many tags of an `unsigned`, one after the other.
-fn row_of_tags(alloc: Global, count: u16) -> Result<Vec<(u64, CType)>, AllocError>
-    ensures { IfOk result (λ tags. (l : Table) → All (IsRoot l) (map tag_of tags.items)) }
-{
-    let mut tags = Vec::new(alloc);
-    for k in 0..count {
-        tags.push((4096 + 4 * u64::from(k), UINT))?;
-    }
-    Ok(tags)
-}
-
-// The heap of a row of tags.
-fn heap_of_row(alloc: Global, l: &Layout, count: u16) -> Result<ByteHeap, Fail>
-    ensures { IfOk result (λ h. IsHeap l.now (OnBytes (memory_of h))) }
-{
-    let tags = row_of_tags(alloc, count)?;
-    Ok(ByteHeap::new(alloc, l, &[], &tags)?)
 }
 
 #[test]

@@ -2,9 +2,9 @@
 
 ghost use Rattle.std.specs.Prelude.{◌≡◌, IfOk};
 
-use crate::reasons::reason;
-use crate::{Reason, default_modes};
 use ac_expr::Level;
+use c_levels::reasons::reason;
+use c_levels::{Reason, default_modes};
 use c_typed::tree::{Destination, Expr, Statement, Statements, TypedFn, TypedUnit, Use};
 use c_values::{CType, IntType, Layout, Target};
 use std::alloc::{AllocError, Global};

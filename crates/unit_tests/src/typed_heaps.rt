@@ -1,32 +1,16 @@
-//! Heaps of bytes and typed heaps, at values that are known from elsewhere.
+//! Heaps of bytes and typed heaps with the same tags, written alike.
 
-ghost use Rattle.std.specs.Prelude.{◌≡◌, ◌^◌, ◌<◌, true, map, Some, All, IfOk, IfSome};
-ghost use Rattle.std.specs.Option.{option_map};
-ghost use Rattle.c_values.specs.Layout.{Layout as Table, IsLayout, shape_of, space, is_object, is_scalar, scalar_width};
-ghost use Rattle.c_values.specs.Path.{spot};
-ghost use Rattle.c_values.specs.Width.{IsWidth};
-ghost use Rattle.c_values.specs.Types.{address_width};
-ghost use Rattle.c_values.specs.CodeTypes.{target_of, type_of};
-ghost use Rattle.c_memory.specs.CodeStep.{step_of};
-ghost use Rattle.c_memory.specs.CodeTag.{tag_of};
+ghost use Rattle.std.specs.Prelude.{IfOk, IfSome};
 ghost use Rattle.c_memory.specs.CodeHeap.{memory_of};
-ghost use Rattle.c_memory.specs.TagFault.{IsRoot};
-ghost use Rattle.c_memory.specs.Tags.{is_root_type, IsWellTagged};
 ghost use Rattle.c_memory.specs.Heap.{IsHeap, OnBytes};
 ghost use Rattle.typed_heap.specs.CodeCells.{typed_content};
 
-use crate::heap::TypedHeap;
-use crate::types_at::type_at;
-use crate::viewing::view;
-use c_memory::{ByteHeap, Heap, HeapFault, Step};
-use c_values::views::word;
-use c_values::{
-    CType, IntType, Layout, Number, StructDef, Target, Value, address_width, is_object, width_of,
-};
+use crate::heaps::{UINT, copy_value, covers, heap_of_row, is_root, put_word, word_at};
+use c_memory::{ByteHeap, HeapFault, Step};
+use c_values::{CType, IntType, Layout, Number, StructDef, Target};
 use std::alloc::{AllocError, Global};
 use std::test::Fail;
-
-const UINT: CType = CType::Int(IntType::UInt);
+use typed_heap::{TypedHeap, view};
 
 const BYTE: CType = CType::Int(IntType::UChar);
 
@@ -78,17 +62,6 @@ fn zero_bytes(
     }
 }
 
-// Whether a type may be that of a tag.
-fn is_root(l: &Layout, t: &CType) -> bool
-    ensures root { result ≡ true → is_root_type (type_of t.now) ≡ true }
-    ensures object { result ≡ true → is_object l.now (type_of t.now) ≡ true }
-{
-    match t {
-        CType::Int(_) | CType::Ptr(_) | CType::Struct(_) => is_object(l, t),
-        CType::Void | CType::Array(_, _) => false,
-    }
-}
-
 // The typed heap of bytes.
 fn typed(alloc: Global, l: &Layout, h: &ByteHeap) -> Result<TypedHeap, AllocError>
     requires { IsHeap l.now (OnBytes (memory_of h.now)) }
@@ -96,105 +69,6 @@ fn typed(alloc: Global, l: &Layout, h: &ByteHeap) -> Result<TypedHeap, AllocErro
 {
     let _ = l.target();
     view(alloc, l, h)
-}
-
-// The type of a place in the space.
-fn place<'a>(l: &'a Layout, t: &'a CType, address: u64, path: &[Step]) -> Option<&'a CType>
-    ensures whole { IfSome result (λ _. is_object l.now (type_of t.now) ≡ true) }
-    ensures address { IfSome result (λ _. address < space l.now) }
-    ensures shape { IfSome result (λ u. Some (shape_of l.now (type_of u.now))
-        ≡ option_map (λ q. q.shape) (spot (shape_of l.now (type_of t.now)) (map step_of path.now))) }
-    ensures part { IfSome result (λ u. is_object l.now (type_of u.now) ≡ true) }
-    ensures layout { IfSome result (λ _. IsLayout l.now) }
-{
-    if !is_object(l, t) || !is_in_space(l.target(), address) {
-        return None;
-    }
-    type_at(l, t, path)
-}
-
-fn is_in_space(target: Target, address: u64) -> bool
-    ensures { result ≡ true → address < 2 ^ address_width (target_of target) }
-{
-    match target {
-        Target::Ilp32 => address <= u64::from(u32::MAX),
-        Target::Lp64 => true,
-    }
-}
-
-// The bits of a scalar type.
-fn bits_of(l: &Layout, t: &CType) -> Option<u8>
-    ensures scalar { IfSome result (λ _. is_scalar (type_of t.now) ≡ true) }
-    ensures width { IfSome result (λ width. width ≡ scalar_width l.now.target (type_of t.now)) }
-    ensures known { IfSome result IsWidth }
-{
-    match t {
-        CType::Int(i) => Some(width_of(l.target(), *i)),
-        CType::Ptr(_) => Some(address_width(l.target())),
-        CType::Void | CType::Struct(_) | CType::Array(_, _) => None,
-    }
-}
-
-// The word at a place of a scalar.
-fn word_at<H: Heap>(h: &H, l: &Layout, t: &CType, address: u64, path: &[Step]) -> Option<u64>
-    requires { IsHeap l.now (H.content h.now) }
-{
-    let part = place(l, t, address, path)?;
-    let _ = bits_of(l, part)?;
-    Some(h.read_word(l, t, address, path).bits())
-}
-
-// Puts a word at a place of a scalar.
-fn put_word<H: Heap>(
-    alloc: Global,
-    h: &mut H,
-    l: &Layout,
-    t: &CType,
-    address: u64,
-    path: &[Step],
-    bits: u64,
-) -> Result<(), AllocError>
-    requires { IsHeap l.now (H.content h.old) }
-    ensures { IsHeap l.now (H.content h.new) }
-{
-    let Some(part) = place(l, t, address, path) else {
-        return Ok(());
-    };
-    let Some(width) = bits_of(l, part) else {
-        return Ok(());
-    };
-    let number = Number::new(false, u128::from(bits));
-    let new = word(width, number);
-    h.write_value(alloc, l, t, address, path, &Value::Word(new))
-}
-
-// Puts the value of a place into another of its type.
-fn copy_value<H: Heap>(
-    alloc: Global,
-    h: &mut H,
-    l: &Layout,
-    t: &CType,
-    to: u64,
-    from: u64,
-) -> Result<(), AllocError>
-    requires { IsHeap l.now (H.content h.old) }
-    ensures { IsHeap l.now (H.content h.new) }
-{
-    let Some(_) = place(l, t, from, &[]) else {
-        return Ok(());
-    };
-    let Some(_) = place(l, t, to, &[]) else {
-        return Ok(());
-    };
-    let value = h.read_value(alloc, l, t, from, &[])?;
-    h.write_value(alloc, l, t, to, &[], &value)
-}
-
-// Whether a root is covered.
-fn covers<H: Heap>(h: &H, l: &Layout, t: &CType, address: u64) -> bool
-    requires { IsHeap l.now (H.content h.now) }
-{
-    place(l, t, address, &[]).is_some() && h.tagged(l, t, address)
 }
 
 // A heap of bytes and a typed heap with the same tags, which are written alike.
@@ -366,25 +240,6 @@ fn roots_of_two_types(rt: HostRuntime) -> Result<(), Fail> {
     assert_eq!(rt; h.words(&UINT, 8196, &[]), (Some(7), Some(0)));
     assert_eq!(rt; h.words(&UINT, 8192, &[]), (Some(0), Some(0)));
     Ok(())
-}
-
-// So many tags of an `unsigned`, one after the other.
-fn row_of_tags(alloc: Global, count: u16) -> Result<Vec<(u64, CType)>, AllocError>
-    ensures { IfOk result (λ tags. (l : Table) → All (IsRoot l) (map tag_of tags.items)) }
-{
-    let mut tags = Vec::new(alloc);
-    for k in 0..count {
-        tags.push((4096 + 4 * u64::from(k), UINT))?;
-    }
-    Ok(tags)
-}
-
-// The heap of a row of tags, with a number in its first bytes.
-fn heap_of_row(alloc: Global, l: &Layout, count: u16) -> Result<ByteHeap, HeapFault>
-    ensures { IfOk result (λ h. IsHeap l.now (OnBytes (memory_of h))) }
-{
-    let tags = row_of_tags(alloc, count)?;
-    ByteHeap::new(alloc, l, &[], &tags)
 }
 
 #[test]

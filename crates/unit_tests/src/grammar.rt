@@ -1,7 +1,7 @@
 //! Which texts some tree spells, where others break off, and what a script is, by example.
-use crate::script::{Step, script};
-use crate::tree::{CExp, Dimensions, Items, Stmt};
-use crate::{Production, ScriptFault, one_tree};
+use c_grammar::script::{Step, script};
+use c_grammar::tree::{CExp, Dimensions, Items, Stmt};
+use c_grammar::{Production, ScriptFault, one_tree};
 use c_lex::tokens;
 use std::alloc::Global;
 use std::test::Fail;

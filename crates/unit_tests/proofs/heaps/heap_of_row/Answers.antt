@@ -4,7 +4,7 @@ use Rattle.c_memory.specs.Memory.{Tag}
 use Rattle.c_memory.specs.TagFault.{IsRoot}
 use Rattle.c_memory.specs.CodeTag.{tag_of}
 use Rattle.c_memory.proofs.Written.{item}
-use Rattle.typed_heap.proofs.tests.heap_of_row.Goals as goal
+use Rattle.unit_tests.proofs.heaps.heap_of_row.Goals as goal
 
 pub new-requires-clause-tags : goal.new-requires-clause-tags
 new-requires-clause-tags c = λ k t e.

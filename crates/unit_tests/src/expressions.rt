@@ -1,7 +1,8 @@
 //! Sorts and values of expressions that are known from elsewhere.
 
-use crate::equality::same_value;
-use crate::{Binder, Env, EvalFault, Exp, Kind, Names, Path, Scalar, Sort, eval, sort_of};
+use ac_expr::{
+    Binder, Env, EvalFault, Exp, Kind, Names, Path, Scalar, Sort, eval, same_value, sort_of,
+};
 use c_memory::ByteHeap;
 use c_values::{CType, IntType, Layout, Number, NumberOp, Target, Value, Word};
 use std::alloc::{AllocError, Global};

@@ -5,8 +5,8 @@ ghost use Rattle.c_values.specs.Types as types;
 ghost use Rattle.c_values.specs.Layout.{Incomplete, are_built};
 ghost use Rattle.c_values.specs.CodeLayout.{struct_def_of};
 
-use crate::views::word;
-use crate::{
+use c_values::views::word;
+use c_values::{
     CType, IntType, Layout, LayoutFault, Number, NumberOp, PathStep, ShiftOp, StructDef, Target,
     UnaryOp, Value, Word, WordOp, WordTest, align_of, cast, fits, int, is_object, nat, number_op,
     offset_of, size_of, width_of, word_op, word_shift, word_test, word_unary, zeros,

@@ -1,6 +1,6 @@
 //! Tests of long sequences.
 
-use crate::{Simpl, commands, is_flat};
+use simpl_lang::{Simpl, commands, is_flat};
 use std::alloc::{AllocError, Global};
 use std::test::Fail;
 

@@ -4,7 +4,7 @@ use Rattle.c_values.specs.CodeTypes.{type_of}
 use Rattle.c_values.specs.CodeValue.{value_of}
 use Rattle.c_memory.specs.Heap.{write_heap}
 use Rattle.typed_heap.proofs.Heaps.{whole_read, written, kept}
-use Rattle.typed_heap.proofs.tests.copy_value.Goals as goal
+use Rattle.unit_tests.proofs.heaps.copy_value.Goals as goal
 
 pub write_value-requires-clause-place : goal.write_value-requires-clause-place
 write_value-requires-clause-place g c =

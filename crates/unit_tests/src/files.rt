@@ -1,7 +1,7 @@
 // Files read whole and bytes written whole, over memory: with calls that fail, and calls that give or take little.
 ghost use Rattle.std.specs.Prelude.{None};
 
-use crate::{Failed, MemoryShelf, MemorySink, ReadTrouble, Shelf, read_whole, write_whole};
+use ac_base::{Failed, MemoryShelf, MemorySink, ReadTrouble, Shelf, read_whole, write_whole};
 use std::alloc::{AllocError, Global};
 use std::test::Fail;
 

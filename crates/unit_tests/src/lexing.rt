@@ -1,5 +1,5 @@
 //! What no clause says: how texts are read, by example.
-use crate::{LexFault, Token, TokenKind, tokens};
+use c_lex::{LexFault, Token, TokenKind, tokens};
 use std::alloc::Global;
 use std::fmt::Write;
 use std::test::Fail;
