@@ -36,10 +36,14 @@ fn casts_to(to: &CType, from: &CType) -> bool
 fn some_has_cast(arguments: &[Expr]) -> bool
     ensures { result ≡ levels.some_has_cast (map typed.expr_of arguments.now) }
 {
-    match arguments.split_first() {
-        None => false,
-        Some((first, rest)) => has_cast(first) || some_has_cast(rest),
+    let mut rest = arguments;
+    'rest: while let Some((first, others)) = rest.split_first() {
+        if has_cast(first) {
+            return true;
+        }
+        rest = others;
     }
+    false
 }
 
 fn target_has_cast(target: &Destination) -> bool

@@ -154,6 +154,7 @@ fn values(alloc: Global, l: &Layout, arguments: &[Expr]) -> Result<Vec<Exp>, All
     Ok(values)
 }
 
+// What has to hold before the arguments have values.
 fn add_argument_guards(
     alloc: Global,
     l: &Layout,
@@ -164,9 +165,10 @@ fn add_argument_guards(
     ensures { OnOk result (map condition_of out.new.items
         ≡ map condition_of out.old.items ++ values.argument_guards l.now (level_of level) (map typed.expr_of arguments.now)) }
 {
-    let Some((first, rest)) = arguments.split_first() else {
-        return Ok(());
-    };
-    add_guards(alloc, l, level, first, out)?;
-    add_argument_guards(alloc, l, level, rest, out)
+    let mut rest = arguments;
+    'rest: while let Some((first, others)) = rest.split_first() {
+        add_guards(alloc, l, level, first, out)?;
+        rest = others;
+    }
+    Ok(())
 }

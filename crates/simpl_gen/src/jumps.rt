@@ -33,7 +33,7 @@ fn exception(jump: Jump) -> u64
     }
 }
 
-/// Jumps.
+/// The command that ends the commands around it abruptly: `$exn` says why, and then they are thrown out of.
 pub(crate) fn jump_out(alloc: Global, jump: Jump) -> Result<Simpl, AllocError>
     ensures { IfOk result (λ s. simpl_of s ≡ rules.jump (exception_of jump)) }
 {

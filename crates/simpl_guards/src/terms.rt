@@ -29,12 +29,14 @@ pub fn int_literal(n: u64) -> Exp
     Exp::Word(word(32, natural(n)))
 }
 
+/// Whether a truth value is false.
 pub fn not(alloc: Global, a: Exp) -> Result<Exp, AllocError>
     ensures { IfOk result (λ e. exp_of e ≡ E.Not (exp_of a)) }
 {
     Ok(Exp::Not(Box::new(alloc, a)?))
 }
 
+/// Whether two values of one sort are equal.
 pub fn equal(alloc: Global, a: Exp, b: Exp) -> Result<Exp, AllocError>
     ensures { IfOk result (λ e. exp_of e ≡ E.Eq (exp_of a) (exp_of b)) }
 {
@@ -42,6 +44,7 @@ pub fn equal(alloc: Global, a: Exp, b: Exp) -> Result<Exp, AllocError>
     Ok(Exp::Eq(a, Box::new(alloc, b)?))
 }
 
+/// Whether one of two truth values is true.
 pub fn or(alloc: Global, a: Exp, b: Exp) -> Result<Exp, AllocError>
     ensures { IfOk result (λ e. exp_of e ≡ E.Or (exp_of a) (exp_of b)) }
 {
