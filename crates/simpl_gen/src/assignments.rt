@@ -23,8 +23,8 @@ pub(crate) fn assign(
     level: Level,
     target: &Destination,
     e: &Expr,
-) -> Result<Simpl, AllocError>
-    ensures { IfOk result (λ s. simpl_of s ≡ rules.guarded
+) -> Result<Box<Simpl>, AllocError>
+    ensures { IfOk result (λ s. simpl_of s.value ≡ rules.guarded
         (guards l.now (level_of level) (typed.expr_of e.now) ++ rules.target_guards l.now (level_of level) (typed.destination_of target.now))
         (rules.assignment l.now (typed.destination_of target.now) (exp l.now (typed.expr_of e.now)))) }
 {
@@ -40,29 +40,32 @@ pub(crate) fn assignment(
     alloc: Global,
     l: &Layout,
     target: &Destination,
-    value: Exp,
-) -> Result<Simpl, AllocError>
-    ensures { IfOk result (λ s. simpl_of s ≡ rules.assignment l.now (typed.destination_of target.now) (exp_of value)) }
+    value: Box<Exp>,
+) -> Result<Box<Simpl>, AllocError>
+    ensures { IfOk result (λ s. simpl_of s.value ≡ rules.assignment l.now (typed.destination_of target.now) (exp_of value.value)) }
 {
     match target {
-        Destination::ToLocal(name, _) => Ok(set(name.clone()?, value)),
+        Destination::ToLocal(name, _) => set(alloc, name.clone()?, value),
         Destination::ToPlace(place) => stored(alloc, l, place, value),
     }
 }
 
 // A value goes to a place.
-fn stored(alloc: Global, l: &Layout, place: &Place, e: Exp) -> Result<Simpl, AllocError>
-    ensures { IfOk result (λ s. simpl_of s ≡ rules.assignment l.now (C.ToPlace (typed.place_of place.now)) (exp_of e)) }
+fn stored(alloc: Global, l: &Layout, place: &Place, e: Box<Exp>) -> Result<Box<Simpl>, AllocError>
+    ensures { IfOk result (λ s. simpl_of s.value ≡ rules.assignment l.now (C.ToPlace (typed.place_of place.now)) (exp_of e.value)) }
 {
+    let e = Box::into_inner(e);
     match place {
         Place::Through(root, pointer, path, _) => {
-            let pointer = value(alloc, l, pointer)?;
+            let pointer = Box::into_inner(value(alloc, l, pointer)?);
             let path = path_to(alloc, l, path)?;
-            Ok(Simpl::Store(copy_of(alloc, root)?, pointer, path, e))
+            let root = copy_of(alloc, root)?;
+            Ok(Box::new(alloc, Simpl::Store(root, pointer, path, e))?)
         }
         Place::InGlobal(name, path, _) => {
             let name = name.clone()?;
-            Ok(Simpl::SetGlobal(name, path_to(alloc, l, path)?, e))
+            let path = path_to(alloc, l, path)?;
+            Ok(Box::new(alloc, Simpl::SetGlobal(name, path, e))?)
         }
     }
 }

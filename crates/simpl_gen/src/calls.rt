@@ -20,7 +20,7 @@ use ac_expr::{Exp, Level};
 use c_typed::tree::{Destination, Expr, Use};
 use c_values::{CType, Layout};
 use simpl_guards::scalars::bits_of_type;
-use simpl_guards::terms::cast_to;
+use simpl_guards::terms::{cast_to, variable};
 use simpl_guards::{add_guards, value};
 use simpl_lang::{Condition, Simpl};
 use std::alloc::{AllocError, Global};
@@ -34,8 +34,8 @@ pub(crate) fn call(
     function: &String,
     arguments: &[Expr],
     used: &Use,
-) -> Result<Simpl, AllocError>
-    ensures { IfOk result (λ s. simpl_of s
+) -> Result<Box<Simpl>, AllocError>
+    ensures { IfOk result (λ s. simpl_of s.value
         ≡ rules.call_of l.now (level_of level) n (string_bytes function.now) (map typed.expr_of arguments.now) (typed.use_of used.now)) }
 {
     let mut guards = Vec::new(alloc);
@@ -54,12 +54,12 @@ fn used_call(
     function: String,
     arguments: Vec<Exp>,
     used: &Use,
-) -> Result<Simpl, AllocError>
-    ensures { IfOk result (λ s. simpl_of s
+) -> Result<Box<Simpl>, AllocError>
+    ensures { IfOk result (λ s. simpl_of s.value
         ≡ rules.call l.now (level_of level) n (string_bytes function) (map exp_of arguments.items) (typed.use_of used.now)) }
 {
     match used {
-        Use::NoResult => Ok(Simpl::Call(None, function, arguments)),
+        Use::NoResult => Ok(Box::new(alloc, Simpl::Call(None, function, arguments))?),
         Use::Ignored(_) => kept_call(alloc, n, function, arguments),
         Use::Assigned(from, target) => {
             let call = kept_call(alloc, n, function, arguments)?;
@@ -80,12 +80,12 @@ fn kept_call(
     n: u64,
     function: String,
     arguments: Vec<Exp>,
-) -> Result<Simpl, AllocError>
-    ensures { IfOk result (λ s. simpl_of s
+) -> Result<Box<Simpl>, AllocError>
+    ensures { IfOk result (λ s. simpl_of s.value
         ≡ Call (Some (rules.call_local n)) (string_bytes function) (map exp_of arguments.items)) }
 {
     let local = call_local(alloc, n)?;
-    Ok(Simpl::Call(Some(local), function, arguments))
+    Ok(Box::new(alloc, Simpl::Call(Some(local), function, arguments))?)
 }
 
 // A call's result goes to its target.
@@ -96,8 +96,8 @@ fn assigned_result(
     n: u64,
     from: &CType,
     target: &Destination,
-) -> Result<Simpl, AllocError>
-    ensures { IfOk result (λ s. simpl_of s
+) -> Result<Box<Simpl>, AllocError>
+    ensures { IfOk result (λ s. simpl_of s.value
         ≡ rules.guarded (rules.target_guards l.now (level_of level) (typed.destination_of target.now))
         (rules.assignment l.now (typed.destination_of target.now)
         (values.conversion l.now.target (C.target_type (typed.destination_of target.now)) (type_of from.now) (Var (rules.call_local n))))) }
@@ -116,12 +116,12 @@ fn returned_result(
     n: u64,
     from: &CType,
     to: &CType,
-) -> Result<Simpl, AllocError>
-    ensures { IfOk result (λ s. simpl_of s
+) -> Result<Box<Simpl>, AllocError>
+    ensures { IfOk result (λ s. simpl_of s.value
         ≡ Seq (Set result_local (values.conversion l.now.target (type_of to.now) (type_of from.now) (Var (rules.call_local n)))) (rules.jump rules.returned)) }
 {
     let value = converted_result(alloc, l, n, from, to)?;
-    let result = set(result_local(alloc)?, value);
+    let result = set(alloc, result_local(alloc)?, value)?;
     let jump = jump_out(alloc, Jump::Return)?;
     sequence(alloc, result, jump)
 }
@@ -132,11 +132,11 @@ fn converted_result(
     n: u64,
     from: &CType,
     to: &CType,
-) -> Result<Exp, AllocError>
-    ensures { IfOk result (λ e. exp_of e
+) -> Result<Box<Exp>, AllocError>
+    ensures { IfOk result (λ e. exp_of e.value
         ≡ values.conversion l.now.target (type_of to.now) (type_of from.now) (Var (rules.call_local n))) }
 {
-    let value = Exp::Var(call_local(alloc, n)?);
+    let value = variable(alloc, call_local(alloc, n)?)?;
     let width = bits_of_type(l.target(), to).width;
     cast_to(alloc, width, bits_of_type(l.target(), from), value)
 }
@@ -148,7 +148,7 @@ fn values(alloc: Global, l: &Layout, arguments: &[Expr]) -> Result<Vec<Exp>, All
     let mut values = Vec::new(alloc);
     let mut rest = arguments;
     'rest: while let Some((first, others)) = rest.split_first() {
-        values.push(value(alloc, l, first)?)?;
+        values.push(Box::into_inner(value(alloc, l, first)?))?;
         rest = others;
     }
     Ok(values)

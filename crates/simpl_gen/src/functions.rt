@@ -17,7 +17,7 @@ ghost use Rattle.c_meaning.specs.SameEnds.{HasEndsOf};
 ghost use Rattle.c_levels.specs.CodeModes.{AreLevels};
 ghost use Rattle.simpl_gen.specs.AtLevels.{at_levels};
 
-use crate::commands::sequence;
+use crate::commands::{sequence, skip};
 use crate::kinds::result_kind;
 use crate::layout_copies::{copy_of_globals, copy_of_layout};
 use crate::locals::{add_variables, locals};
@@ -76,17 +76,22 @@ fn function(alloc: Global, l: &Layout, level: Level, f: &TypedFn) -> Result<Simp
 {
     let name = f.name.clone()?;
     let body = commands(alloc, l, level, &f.body)?;
+    let body = whole_body(alloc, &f.result, body)?;
     Ok(SimplFn {
         name,
         locals: locals(alloc, l.target(), level, f)?,
         level,
-        body: whole_body(alloc, &f.result, body)?,
+        body: Box::into_inner(body),
     })
 }
 
 // A body ends normally, and that of a function with a result doesn't reach its end.
-fn whole_body(alloc: Global, result_type: &Option<CType>, s: Simpl) -> Result<Simpl, AllocError>
-    ensures { IfOk result (λ b. simpl_of b ≡ rules.whole_body (option_map type_of result_type.now) (simpl_of s)) }
+fn whole_body(
+    alloc: Global,
+    result_type: &Option<CType>,
+    s: Box<Simpl>,
+) -> Result<Box<Simpl>, AllocError>
+    ensures { IfOk result (λ b. simpl_of b.value ≡ rules.whole_body (option_map type_of result_type.now) (simpl_of s.value)) }
 {
     match result_type {
         None => caught(alloc, s),
@@ -95,18 +100,18 @@ fn whole_body(alloc: Global, result_type: &Option<CType>, s: Simpl) -> Result<Si
                 kind: GuardKind::Unreached,
                 exp: Exp::Truth(false),
             };
-            let end = Simpl::Guard(condition, Box::new(alloc, Simpl::Skip)?);
+            let end = Box::new(alloc, Simpl::Guard(condition, skip(alloc)?))?;
             let body = sequence(alloc, s, end)?;
             caught(alloc, body)
         }
     }
 }
 
-fn caught(alloc: Global, s: Simpl) -> Result<Simpl, AllocError>
-    ensures { IfOk result (λ b. simpl_of b ≡ Catch (simpl_of s) Skip) }
+fn caught(alloc: Global, s: Box<Simpl>) -> Result<Box<Simpl>, AllocError>
+    ensures { IfOk result (λ b. simpl_of b.value ≡ Catch (simpl_of s.value) Skip) }
 {
-    let s = Box::new(alloc, s)?;
-    Ok(Simpl::Catch(s, Box::new(alloc, Simpl::Skip)?))
+    let nothing = skip(alloc)?;
+    Ok(Box::new(alloc, Simpl::Catch(s, nothing))?)
 }
 
 // The signature of each function at its level.

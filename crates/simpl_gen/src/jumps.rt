@@ -7,10 +7,10 @@ ghost use Rattle.simpl_lang.specs.CodeCommand.{condition_of, simpl_of};
 ghost use Rattle.c_meaning.specs.Generate as rules;
 ghost use Rattle.simpl_gen.specs.CodeJump.{exception_of};
 
-use crate::commands::{sequence, set};
+use crate::commands::{chosen, sequence, set, skip};
 use crate::names::exception_local;
 use ac_expr::Exp;
-use simpl_guards::terms::{equal, int_literal};
+use simpl_guards::terms::{equal, int_literal, variable};
 use simpl_lang::{Condition, Simpl};
 use std::alloc::{AllocError, Global};
 
@@ -34,50 +34,49 @@ fn exception(jump: Jump) -> u64
 }
 
 /// The command that ends the commands around it abruptly: `$exn` says why, and then they are thrown out of.
-pub(crate) fn jump_out(alloc: Global, jump: Jump) -> Result<Simpl, AllocError>
-    ensures { IfOk result (λ s. simpl_of s ≡ rules.jump (exception_of jump)) }
+pub(crate) fn jump_out(alloc: Global, jump: Jump) -> Result<Box<Simpl>, AllocError>
+    ensures { IfOk result (λ s. simpl_of s.value ≡ rules.jump (exception_of jump)) }
 {
-    let exception = int_literal(exception(jump));
-    sequence(alloc, set(exception_local(alloc)?, exception), Simpl::Throw)
+    let exception = int_literal(alloc, exception(jump))?;
+    let reason = set(alloc, exception_local(alloc)?, exception)?;
+    sequence(alloc, reason, Box::new(alloc, Simpl::Throw)?)
 }
 
 // Goes on after a jump of this kind, and throws anything else on.
-fn stops_at(alloc: Global, jump: Jump) -> Result<Simpl, AllocError>
-    ensures { IfOk result (λ s. simpl_of s ≡ rules.stops_at (exception_of jump)) }
+fn stops_at(alloc: Global, jump: Jump) -> Result<Box<Simpl>, AllocError>
+    ensures { IfOk result (λ s. simpl_of s.value ≡ rules.stops_at (exception_of jump)) }
 {
-    let found = Exp::Var(exception_local(alloc)?);
-    let test = equal(alloc, found, int_literal(exception(jump)))?;
-    let go_on = Box::new(alloc, Simpl::Skip)?;
-    Ok(Simpl::Cond(test, go_on, Box::new(alloc, Simpl::Throw)?))
+    let found = variable(alloc, exception_local(alloc)?)?;
+    let test = equal(alloc, found, int_literal(alloc, exception(jump))?)?;
+    let throw = Box::new(alloc, Simpl::Throw)?;
+    chosen(alloc, test, skip(alloc)?, throw)
 }
 
 /// A command that a break ends.
-pub(crate) fn until_break(alloc: Global, s: Simpl) -> Result<Simpl, AllocError>
-    ensures { IfOk result (λ t. simpl_of t ≡ Catch (simpl_of s) (rules.stops_at rules.broken)) }
+pub(crate) fn until_break(alloc: Global, s: Box<Simpl>) -> Result<Box<Simpl>, AllocError>
+    ensures { IfOk result (λ t. simpl_of t.value ≡ Catch (simpl_of s.value) (rules.stops_at rules.broken)) }
 {
-    let s = Box::new(alloc, s)?;
     let stop = stops_at(alloc, Jump::Break)?;
-    Ok(Simpl::Catch(s, Box::new(alloc, stop)?))
+    Ok(Box::new(alloc, Simpl::Catch(s, stop))?)
 }
 
 /// The body of a loop, which a continue ends.
-pub(crate) fn body_of_loop(alloc: Global, s: Simpl) -> Result<Simpl, AllocError>
-    ensures { IfOk result (λ t. simpl_of t ≡ rules.body_of_loop (simpl_of s)) }
+pub(crate) fn body_of_loop(alloc: Global, s: Box<Simpl>) -> Result<Box<Simpl>, AllocError>
+    ensures { IfOk result (λ t. simpl_of t.value ≡ rules.body_of_loop (simpl_of s.value)) }
 {
-    let s = Box::new(alloc, s)?;
     let stop = stops_at(alloc, Jump::Continue)?;
-    Ok(Simpl::Catch(s, Box::new(alloc, stop)?))
+    Ok(Box::new(alloc, Simpl::Catch(s, stop))?)
 }
 
 /// A loop, which a break ends.
 pub(crate) fn looped(
     alloc: Global,
     guards: Vec<Condition>,
-    test: Exp,
-    s: Simpl,
-) -> Result<Simpl, AllocError>
-    ensures { IfOk result (λ t. simpl_of t ≡ rules.looped (map condition_of guards.items) (exp_of test) (simpl_of s)) }
+    test: Box<Exp>,
+    s: Box<Simpl>,
+) -> Result<Box<Simpl>, AllocError>
+    ensures { IfOk result (λ t. simpl_of t.value ≡ rules.looped (map condition_of guards.items) (exp_of test.value) (simpl_of s.value)) }
 {
-    let s = Box::new(alloc, s)?;
-    until_break(alloc, Simpl::While(guards, test, s))
+    let turns = Box::new(alloc, Simpl::While(guards, Box::into_inner(test), s))?;
+    until_break(alloc, turns)
 }

@@ -14,7 +14,7 @@ use crate::names::first_local;
 use ac_expr::{Exp, Level};
 use c_typed::tree::{Expr, Test};
 use c_values::Layout;
-use simpl_guards::terms::{implied, not, or};
+use simpl_guards::terms::{implied, not, or, truth_literal, variable};
 use simpl_guards::{add_guards, truth};
 use simpl_lang::{Condition, Simpl};
 use std::alloc::{AllocError, Global};
@@ -25,10 +25,10 @@ pub(crate) fn while_loop(
     l: &Layout,
     level: Level,
     e: &Expr,
-    body: Simpl,
-) -> Result<Simpl, AllocError>
-    ensures { IfOk result (λ s. simpl_of s ≡ rules.looped (guards l.now (level_of level) (typed.expr_of e.now))
-        (truth l.now (typed.expr_of e.now)) (rules.body_of_loop (simpl_of body))) }
+    body: Box<Simpl>,
+) -> Result<Box<Simpl>, AllocError>
+    ensures { IfOk result (λ s. simpl_of s.value ≡ rules.looped (guards l.now (level_of level) (typed.expr_of e.now))
+        (truth l.now (typed.expr_of e.now)) (rules.body_of_loop (simpl_of body.value))) }
 {
     let mut guards = Vec::new(alloc);
     add_guards(alloc, l, level, e, &mut guards)?;
@@ -44,20 +44,22 @@ pub(crate) fn do_while(
     level: Level,
     n: u64,
     e: &Expr,
-    body: Simpl,
-) -> Result<Simpl, AllocError>
-    ensures { IfOk result (λ s. simpl_of s ≡ rules.do_while n (guards l.now (level_of level) (typed.expr_of e.now))
-        (truth l.now (typed.expr_of e.now)) (simpl_of body)) }
+    body: Box<Simpl>,
+) -> Result<Box<Simpl>, AllocError>
+    ensures { IfOk result (λ s. simpl_of s.value ≡ rules.do_while n (guards l.now (level_of level) (typed.expr_of e.now))
+        (truth l.now (typed.expr_of e.now)) (simpl_of body.value)) }
 {
     let mut guards = Vec::new(alloc);
     add_guards(alloc, l, level, e, &mut guards)?;
     let guards = after_first(alloc, n, guards)?;
-    let is_first = Exp::Var(first_local(alloc, n)?);
+    let is_first = variable(alloc, first_local(alloc, n)?)?;
     let test = or(alloc, is_first, truth(alloc, l, e)?)?;
     let body = body_of_loop(alloc, body)?;
-    let body = sequence(alloc, set(first_local(alloc, n)?, Exp::Truth(false)), body)?;
+    let later = set(alloc, first_local(alloc, n)?, truth_literal(alloc, false)?)?;
+    let body = sequence(alloc, later, body)?;
     let turns = looped(alloc, guards, test, body)?;
-    sequence(alloc, set(first_local(alloc, n)?, Exp::Truth(true)), turns)
+    let first = set(alloc, first_local(alloc, n)?, truth_literal(alloc, true)?)?;
+    sequence(alloc, first, turns)
 }
 
 // Each condition, but not in front of the first turn.
@@ -67,7 +69,7 @@ fn after_first(alloc: Global, n: u64, guards: Vec<Condition>) -> Result<Vec<Cond
     let mut later = Vec::new(alloc);
     for guard in guards {
         let Condition { kind, exp } = guard;
-        let is_first = Exp::Var(first_local(alloc, n)?);
+        let is_first = variable(alloc, first_local(alloc, n)?)?;
         let premise = not(alloc, is_first)?;
         let exp = implied(alloc, premise, exp)?;
         later.push(Condition { kind, exp })?;
@@ -81,11 +83,11 @@ pub(crate) fn for_loop(
     l: &Layout,
     level: Level,
     test: &Test,
-    step: Simpl,
-    body: Simpl,
-) -> Result<Simpl, AllocError>
-    ensures { IfOk result (λ s. simpl_of s ≡ rules.looped (rules.test_guards l.now (level_of level) (typed.test_of test.now))
-        (rules.test_truth l.now (typed.test_of test.now)) (Seq (rules.body_of_loop (simpl_of body)) (simpl_of step))) }
+    step: Box<Simpl>,
+    body: Box<Simpl>,
+) -> Result<Box<Simpl>, AllocError>
+    ensures { IfOk result (λ s. simpl_of s.value ≡ rules.looped (rules.test_guards l.now (level_of level) (typed.test_of test.now))
+        (rules.test_truth l.now (typed.test_of test.now)) (Seq (rules.body_of_loop (simpl_of body.value)) (simpl_of step.value))) }
 {
     let mut guards = Vec::new(alloc);
     add_test_guards(alloc, l, level, test, &mut guards)?;
@@ -111,11 +113,11 @@ fn add_test_guards(
     }
 }
 
-fn test_truth(alloc: Global, l: &Layout, test: &Test) -> Result<Exp, AllocError>
-    ensures { IfOk result (λ x. exp_of x ≡ rules.test_truth l.now (typed.test_of test.now)) }
+fn test_truth(alloc: Global, l: &Layout, test: &Test) -> Result<Box<Exp>, AllocError>
+    ensures { IfOk result (λ x. exp_of x.value ≡ rules.test_truth l.now (typed.test_of test.now)) }
 {
     match test {
-        Test::Always => Ok(Exp::Truth(true)),
+        Test::Always => truth_literal(alloc, true),
         Test::Tested(e) => truth(alloc, l, e),
     }
 }

@@ -12,7 +12,7 @@ ghost use Rattle.c_meaning.specs.Generate as rules;
 
 use crate::assignments::assign;
 use crate::calls::call;
-use crate::commands::{guarded, sequence, set};
+use crate::commands::{chosen, guarded, pick, sequence, set, skip};
 use crate::jumps::{Jump, jump_out};
 use crate::loops::{do_while, for_loop, while_loop};
 use crate::names::result_local;
@@ -30,13 +30,13 @@ pub(crate) fn command(
     l: &Layout,
     level: Level,
     s: &Statement,
-) -> Result<Simpl, AllocError>
-    ensures { IfOk result (λ c. simpl_of c ≡ rules.command l.now (level_of level) (typed.statement_of s.now)) }
+) -> Result<Box<Simpl>, AllocError>
+    ensures { IfOk result (λ c. simpl_of c.value ≡ rules.command l.now (level_of level) (typed.statement_of s.now)) }
 {
     match s {
-        Statement::Empty => Ok(Simpl::Skip),
+        Statement::Empty => skip(alloc),
         Statement::Block(statements) => commands(alloc, l, level, statements),
-        Statement::Declare(name, _) => Ok(Simpl::Pick(name.clone()?)),
+        Statement::Declare(name, _) => pick(alloc, name.clone()?),
         Statement::Assign(target, e) => assign(alloc, l, level, target, e),
         Statement::Call(n, function, arguments, used) => {
             call(alloc, l, level, *n, function, arguments, used)
@@ -78,28 +78,27 @@ fn choice(
     l: &Layout,
     level: Level,
     e: &Expr,
-    a: Simpl,
-    b: Simpl,
-) -> Result<Simpl, AllocError>
-    ensures { IfOk result (λ c. simpl_of c ≡ rules.guarded (guards l.now (level_of level) (typed.expr_of e.now))
-        (Cond (truth l.now (typed.expr_of e.now)) (simpl_of a) (simpl_of b))) }
+    a: Box<Simpl>,
+    b: Box<Simpl>,
+) -> Result<Box<Simpl>, AllocError>
+    ensures { IfOk result (λ c. simpl_of c.value ≡ rules.guarded (guards l.now (level_of level) (typed.expr_of e.now))
+        (Cond (truth l.now (typed.expr_of e.now)) (simpl_of a.value) (simpl_of b.value))) }
 {
     let mut guards = Vec::new(alloc);
     add_guards(alloc, l, level, e, &mut guards)?;
     let test = truth(alloc, l, e)?;
-    let a = Box::new(alloc, a)?;
-    let choice = Simpl::Cond(test, a, Box::new(alloc, b)?);
+    let choice = chosen(alloc, test, a, b)?;
     guarded(alloc, guards, choice)
 }
 
 // `return e;`
-fn return_value(alloc: Global, l: &Layout, level: Level, e: &Expr) -> Result<Simpl, AllocError>
-    ensures { IfOk result (λ c. simpl_of c ≡ rules.guarded (guards l.now (level_of level) (typed.expr_of e.now))
+fn return_value(alloc: Global, l: &Layout, level: Level, e: &Expr) -> Result<Box<Simpl>, AllocError>
+    ensures { IfOk result (λ c. simpl_of c.value ≡ rules.guarded (guards l.now (level_of level) (typed.expr_of e.now))
         (Seq (Set result_local (exp l.now (typed.expr_of e.now))) (rules.jump rules.returned))) }
 {
     let mut guards = Vec::new(alloc);
     add_guards(alloc, l, level, e, &mut guards)?;
-    let result = set(result_local(alloc)?, value(alloc, l, e)?);
+    let result = set(alloc, result_local(alloc)?, value(alloc, l, e)?)?;
     let jump = jump_out(alloc, Jump::Return)?;
     let returned = sequence(alloc, result, jump)?;
     guarded(alloc, guards, returned)
@@ -112,11 +111,11 @@ pub(crate) fn commands(
     l: &Layout,
     level: Level,
     statements: &Statements,
-) -> Result<Simpl, AllocError>
-    ensures { IfOk result (λ c. simpl_of c ≡ rules.commands l.now (level_of level) (typed.statements_of statements.now)) }
+) -> Result<Box<Simpl>, AllocError>
+    ensures { IfOk result (λ c. simpl_of c.value ≡ rules.commands l.now (level_of level) (typed.statements_of statements.now)) }
 {
     match statements {
-        Statements::None => Ok(Simpl::Skip),
+        Statements::None => skip(alloc),
         Statements::Next(first, rest) => {
             let first = command(alloc, l, level, first)?;
             match &**rest {
@@ -137,9 +136,9 @@ fn before(
     l: &Layout,
     level: Level,
     init: &Statements,
-    turns: Simpl,
-) -> Result<Simpl, AllocError>
-    ensures { IfOk result (λ c. simpl_of c ≡ rules.before l.now (level_of level) (typed.statements_of init.now) (simpl_of turns)) }
+    turns: Box<Simpl>,
+) -> Result<Box<Simpl>, AllocError>
+    ensures { IfOk result (λ c. simpl_of c.value ≡ rules.before l.now (level_of level) (typed.statements_of init.now) (simpl_of turns.value)) }
 {
     match init {
         Statements::None => Ok(turns),
@@ -160,9 +159,9 @@ fn cases(
     n: u64,
     ty: IntType,
     groups: &Groups,
-    otherwise: Simpl,
-) -> Result<Simpl, AllocError>
-    ensures { IfOk result (λ c. simpl_of c ≡ rules.cases (simpl_of otherwise)
+    otherwise: Box<Simpl>,
+) -> Result<Box<Simpl>, AllocError>
+    ensures { IfOk result (λ c. simpl_of c.value ≡ rules.cases (simpl_of otherwise.value)
         (rules.cases_of l.now (level_of level) n (int_type_of ty) (typed.groups_of groups.now))) }
 {
     match groups {
@@ -174,19 +173,23 @@ fn cases(
             }
             let test = is_one_of(alloc, l.target(), ty, n, labels)?;
             let body = commands(alloc, l, level, body)?;
-            let body = Box::new(alloc, body)?;
-            Ok(Simpl::Cond(test, body, Box::new(alloc, others)?))
+            chosen(alloc, test, body, others)
         }
     }
 }
 
 // What runs where no label fits.
 #[cycle(statements)]
-fn default_of(alloc: Global, l: &Layout, level: Level, groups: &Groups) -> Result<Simpl, AllocError>
-    ensures { IfOk result (λ c. simpl_of c ≡ rules.default_of l.now (level_of level) (typed.groups_of groups.now)) }
+fn default_of(
+    alloc: Global,
+    l: &Layout,
+    level: Level,
+    groups: &Groups,
+) -> Result<Box<Simpl>, AllocError>
+    ensures { IfOk result (λ c. simpl_of c.value ≡ rules.default_of l.now (level_of level) (typed.groups_of groups.now)) }
 {
     match groups {
-        Groups::None => Ok(Simpl::Skip),
+        Groups::None => skip(alloc),
         Groups::Next(_, is_default, body, rest) => {
             if *is_default {
                 commands(alloc, l, level, body)

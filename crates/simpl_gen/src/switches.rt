@@ -16,7 +16,7 @@ use crate::names::switch_local;
 use ac_expr::{Exp, Level};
 use c_typed::tree::Expr;
 use c_values::{IntType, Layout, Number, Target};
-use simpl_guards::terms::{equal, or, word_of};
+use simpl_guards::terms::{equal, or, truth_literal, variable, word_of};
 use simpl_guards::{add_guards, value};
 use simpl_lang::Simpl;
 use std::alloc::{AllocError, Global};
@@ -28,14 +28,14 @@ pub(crate) fn switch(
     level: Level,
     n: u64,
     e: &Expr,
-    groups: Simpl,
-) -> Result<Simpl, AllocError>
-    ensures { IfOk result (λ s. simpl_of s ≡ rules.guarded (values.guards l.now (level_of level) (typed.expr_of e.now))
-        (Seq (Set (rules.switch_local n) (values.exp l.now (typed.expr_of e.now))) (Catch (simpl_of groups) (rules.stops_at rules.broken)))) }
+    groups: Box<Simpl>,
+) -> Result<Box<Simpl>, AllocError>
+    ensures { IfOk result (λ s. simpl_of s.value ≡ rules.guarded (values.guards l.now (level_of level) (typed.expr_of e.now))
+        (Seq (Set (rules.switch_local n) (values.exp l.now (typed.expr_of e.now))) (Catch (simpl_of groups.value) (rules.stops_at rules.broken)))) }
 {
     let mut guards = Vec::new(alloc);
     add_guards(alloc, l, level, e, &mut guards)?;
-    let operand = set(switch_local(alloc, n)?, value(alloc, l, e)?);
+    let operand = set(alloc, switch_local(alloc, n)?, value(alloc, l, e)?)?;
     let groups = until_break(alloc, groups)?;
     let switch = sequence(alloc, operand, groups)?;
     guarded(alloc, guards, switch)
@@ -49,11 +49,11 @@ pub(crate) fn is_one_of(
     ty: IntType,
     n: u64,
     labels: &[Number],
-) -> Result<Exp, AllocError>
-    ensures { IfOk result (λ e. exp_of e ≡ rules.is_one_of (target_of target) (int_type_of ty) n labels.now) }
+) -> Result<Box<Exp>, AllocError>
+    ensures { IfOk result (λ e. exp_of e.value ≡ rules.is_one_of (target_of target) (int_type_of ty) n labels.now) }
 {
     if labels.is_empty() {
-        return Ok(Exp::Truth(false));
+        return truth_literal(alloc, false);
     }
     let mut k = labels.len() - 1;
     let mut test = is_label(alloc, target, ty, n, labels[k])?;
@@ -72,9 +72,9 @@ fn is_label(
     ty: IntType,
     n: u64,
     label: Number,
-) -> Result<Exp, AllocError>
-    ensures { IfOk result (λ e. exp_of e ≡ Eq (Var (rules.switch_local n)) (values.word_of (target_of target) (int_type_of ty) label)) }
+) -> Result<Box<Exp>, AllocError>
+    ensures { IfOk result (λ e. exp_of e.value ≡ Eq (Var (rules.switch_local n)) (values.word_of (target_of target) (int_type_of ty) label)) }
 {
-    let operand = Exp::Var(switch_local(alloc, n)?);
-    equal(alloc, operand, word_of(target, ty, label))
+    let operand = variable(alloc, switch_local(alloc, n)?)?;
+    equal(alloc, operand, word_of(alloc, target, ty, label)?)
 }

@@ -27,10 +27,15 @@ use simpl_lang::{Condition, GuardKind};
 use std::alloc::{AllocError, Global};
 
 /// One condition more.
-pub(crate) fn add(kind: GuardKind, exp: Exp, out: &mut Vec<Condition>) -> Result<(), AllocError>
+pub(crate) fn add(
+    kind: GuardKind,
+    exp: Box<Exp>,
+    out: &mut Vec<Condition>,
+) -> Result<(), AllocError>
     ensures { OnOk result (map condition_of out.new.items
-        ≡ map condition_of out.old.items ++ (rules.when (guard_kind_of kind) (exp_of exp) ∷ [])) }
+        ≡ map condition_of out.old.items ++ (rules.when (guard_kind_of kind) (exp_of exp.value) ∷ [])) }
 {
+    let exp = Box::into_inner(exp);
     Ok(out.push(Condition { kind, exp })?)
 }
 
@@ -66,7 +71,7 @@ pub(crate) fn add_negation(
         None => Ok(()),
         Some(kind) => {
             let a = number(alloc, is_signed(ty), value(alloc, l, a)?)?;
-            let result = Exp::Negate(Box::new(alloc, a)?);
+            let result = Box::new(alloc, Exp::Negate(a))?;
             add(kind, in_type(alloc, l.target(), ty, result)?, out)
         }
     }
@@ -128,15 +133,14 @@ fn arithmetic(
     ty: IntType,
     a: &Expr,
     b: &Expr,
-) -> Result<Exp, AllocError>
-    ensures { IfOk result (λ e. exp_of e ≡ Arith (number_op_of op) (rules.number (Integer (int_type_of ty)) (rules.exp l.now (typed.expr_of a.now)))
+) -> Result<Box<Exp>, AllocError>
+    ensures { IfOk result (λ e. exp_of e.value ≡ Arith (number_op_of op) (rules.number (Integer (int_type_of ty)) (rules.exp l.now (typed.expr_of a.now)))
         (rules.number (Integer (int_type_of ty)) (rules.exp l.now (typed.expr_of b.now)))) }
 {
     let signed = is_signed(ty);
     let a = number(alloc, signed, value(alloc, l, a)?)?;
-    let a = Box::new(alloc, a)?;
     let b = number(alloc, signed, value(alloc, l, b)?)?;
-    Ok(Exp::Arith(op, a, Box::new(alloc, b)?))
+    Ok(Box::new(alloc, Exp::Arith(op, a, b))?)
 }
 
 // A divisor isn't zero, and a signed quotient is of its type.
@@ -153,7 +157,8 @@ fn add_division(
         (rules.exp l.now (typed.expr_of a.now)) (rules.exp l.now (typed.expr_of b.now))) }
 {
     let target = l.target();
-    let is_zero = equal(alloc, value(alloc, l, b)?, word_of(target, ty, natural(0)))?;
+    let divisor = value(alloc, l, b)?;
+    let is_zero = equal(alloc, divisor, word_of(alloc, target, ty, natural(0))?)?;
     add(GuardKind::Div, not(alloc, is_zero)?, out)?;
     if !is_signed(ty) {
         return Ok(());
@@ -218,25 +223,26 @@ fn add_signed_shift(
         out,
     )?;
     let shifted = number(alloc, true, value(alloc, l, a)?)?;
-    let shifted = Box::new(alloc, shifted)?;
     let most = greatest_unshifted(alloc, l, ty, b)?;
-    add(
-        GuardKind::Shift,
-        Exp::Le(shifted, Box::new(alloc, most)?),
-        out,
-    )
+    let at_most = Box::new(alloc, Exp::Le(shifted, most))?;
+    add(GuardKind::Shift, at_most, out)
 }
 
 // The greatest value of a type that, shifted left, is still of the type.
-fn greatest_unshifted(alloc: Global, l: &Layout, ty: IntType, b: &Expr) -> Result<Exp, AllocError>
-    ensures { IfOk result (λ e. exp_of e
+fn greatest_unshifted(
+    alloc: Global,
+    l: &Layout,
+    ty: IntType,
+    b: &Expr,
+) -> Result<Box<Exp>, AllocError>
+    ensures { IfOk result (λ e. exp_of e.value
         ≡ ToInt (WordShift Wsshr (rules.word_of l.now.target (int_type_of ty) (greatest_of l.now.target (int_type_of ty)))
         (rules.number (type_of (typed.expr_of b.now)) (rules.exp l.now (typed.expr_of b.now))))) }
 {
     let target = l.target();
-    let greatest = Box::new(alloc, word_of(target, ty, greatest_of(target, ty)))?;
+    let greatest = word_of(alloc, target, ty, greatest_of(target, ty))?;
     let count = number_of(alloc, l, b)?;
-    let most = Exp::WordShift(ShiftOp::Wsshr, greatest, Box::new(alloc, count)?);
+    let most = Box::new(alloc, Exp::WordShift(ShiftOp::Wsshr, greatest, count))?;
     number(alloc, true, most)
 }
 
@@ -277,12 +283,8 @@ pub fn add_accesses(
         Place::InGlobal(_, _, _) => Ok(()),
         Place::Through(root, pointer, _, _) => {
             let address = value(alloc, l, pointer)?;
-            let address = Box::new(alloc, address)?;
-            add(
-                GuardKind::Pointer,
-                Exp::PtrOk(copy_of(alloc, root)?, address),
-                out,
-            )?;
+            let is_there = Box::new(alloc, Exp::PtrOk(copy_of(alloc, root)?, address))?;
+            add(GuardKind::Pointer, is_there, out)?;
             match level {
                 Level::Bytes => Ok(()),
                 Level::Words | Level::Numbers => add_tag(alloc, l, root, pointer, out),
@@ -303,10 +305,6 @@ fn add_tag(
         ≡ map condition_of out.old.items ++ (rules.when Tag (Tagged (types.type_of root.now) (rules.exp l.now (typed.expr_of pointer.now))) ∷ [])) }
 {
     let address = value(alloc, l, pointer)?;
-    let address = Box::new(alloc, address)?;
-    add(
-        GuardKind::Tag,
-        Exp::Tagged(copy_of(alloc, root)?, address),
-        out,
-    )
+    let is_covered = Box::new(alloc, Exp::Tagged(copy_of(alloc, root)?, address))?;
+    add(GuardKind::Tag, is_covered, out)
 }

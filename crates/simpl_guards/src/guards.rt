@@ -122,8 +122,8 @@ fn add_under(
 }
 
 // What stands for an expression that is true, or for one that isn't.
-fn truth_where(alloc: Global, l: &Layout, e: &Expr, holds: bool) -> Result<Exp, AllocError>
-    ensures { IfOk result (λ x. exp_of x ≡ where_is l.now (typed.expr_of e.now) holds) }
+fn truth_where(alloc: Global, l: &Layout, e: &Expr, holds: bool) -> Result<Box<Exp>, AllocError>
+    ensures { IfOk result (λ x. exp_of x.value ≡ where_is l.now (typed.expr_of e.now) holds) }
 {
     let truth = truth(alloc, l, e)?;
     if holds { Ok(truth) } else { not(alloc, truth) }

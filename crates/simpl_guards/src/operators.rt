@@ -57,14 +57,12 @@ pub(crate) fn shifted(
     alloc: Global,
     ty: IntType,
     direction: Direction,
-    a: Exp,
-    n: Exp,
-) -> Result<Exp, AllocError>
-    ensures { IfOk result (λ e. exp_of e ≡ rules.shift (int_type_of ty) (typed.direction_of direction) (exp_of a) (exp_of n)) }
+    a: Box<Exp>,
+    n: Box<Exp>,
+) -> Result<Box<Exp>, AllocError>
+    ensures { IfOk result (λ e. exp_of e.value ≡ rules.shift (int_type_of ty) (typed.direction_of direction) (exp_of a.value) (exp_of n.value)) }
 {
-    let a = Box::new(alloc, a)?;
-    let n = Box::new(alloc, n)?;
-    Ok(Exp::WordShift(shift_op(ty, direction), a, n))
+    Ok(Box::new(alloc, Exp::WordShift(shift_op(ty, direction), a, n))?)
 }
 
 fn shift_op(ty: IntType, direction: Direction) -> ShiftOp
@@ -87,19 +85,18 @@ pub(crate) fn comparison(
     alloc: Global,
     relation: Relation,
     ty: IntType,
-    a: Exp,
-    b: Exp,
-) -> Result<Exp, AllocError>
-    ensures { IfOk result (λ e. exp_of e ≡ rules.comparison (typed.relation_of relation) (is_signed (int_type_of ty)) (exp_of a) (exp_of b)) }
+    a: Box<Exp>,
+    b: Box<Exp>,
+) -> Result<Box<Exp>, AllocError>
+    ensures { IfOk result (λ e. exp_of e.value ≡ rules.comparison (typed.relation_of relation) (is_signed (int_type_of ty)) (exp_of a.value) (exp_of b.value)) }
 {
-    let a = Box::new(alloc, a)?;
-    let b = Box::new(alloc, b)?;
-    match relation {
-        Relation::Less => Ok(Exp::WordCompare(less(ty), a, b)),
-        Relation::LessEqual => Ok(Exp::WordCompare(at_most(ty), a, b)),
-        Relation::Greater => Ok(Exp::WordCompare(less(ty), b, a)),
-        Relation::GreaterEqual => Ok(Exp::WordCompare(at_most(ty), b, a)),
-    }
+    let test = match relation {
+        Relation::Less => Exp::WordCompare(less(ty), a, b),
+        Relation::LessEqual => Exp::WordCompare(at_most(ty), a, b),
+        Relation::Greater => Exp::WordCompare(less(ty), b, a),
+        Relation::GreaterEqual => Exp::WordCompare(at_most(ty), b, a),
+    };
+    Ok(Box::new(alloc, test)?)
 }
 
 fn less(ty: IntType) -> WordTest
@@ -123,8 +120,13 @@ fn at_most(ty: IntType) -> WordTest
 }
 
 /// Whether two values are equal, or whether they aren't.
-pub(crate) fn equation(alloc: Global, equality: Equality, a: Exp, b: Exp) -> Result<Exp, AllocError>
-    ensures { IfOk result (λ e. exp_of e ≡ rules.equation (typed.equality_of equality) (exp_of a) (exp_of b)) }
+pub(crate) fn equation(
+    alloc: Global,
+    equality: Equality,
+    a: Box<Exp>,
+    b: Box<Exp>,
+) -> Result<Box<Exp>, AllocError>
+    ensures { IfOk result (λ e. exp_of e.value ≡ rules.equation (typed.equality_of equality) (exp_of a.value) (exp_of b.value)) }
 {
     let equal = equal(alloc, a, b)?;
     match equality {
@@ -134,11 +136,11 @@ pub(crate) fn equation(alloc: Global, equality: Equality, a: Exp, b: Exp) -> Res
 }
 
 /// By how many objects a pointer moves.
-pub(crate) fn moved_by(alloc: Global, sign: Sign, n: Exp) -> Result<Exp, AllocError>
-    ensures { IfOk result (λ e. exp_of e ≡ rules.moved_by (typed.sign_of sign) (exp_of n)) }
+pub(crate) fn moved_by(alloc: Global, sign: Sign, n: Box<Exp>) -> Result<Box<Exp>, AllocError>
+    ensures { IfOk result (λ e. exp_of e.value ≡ rules.moved_by (typed.sign_of sign) (exp_of n.value)) }
 {
     match sign {
         Sign::Plus => Ok(n),
-        Sign::Minus => Ok(Exp::Negate(Box::new(alloc, n)?)),
+        Sign::Minus => Ok(Box::new(alloc, Exp::Negate(n))?),
     }
 }

@@ -1,99 +1,132 @@
-//! Expressions that generation puts together from others.
+//! Expressions that generation puts together from others. Each is boxed where it is made.
 
-ghost use Rattle.std.specs.Prelude.{◌≡◌, pos, nat_lt, IfOk, if◌then◌else◌};
+ghost use Rattle.std.specs.Prelude.{◌≡◌, pos, nat_lt, string_bytes, IfOk, if◌then◌else◌};
 ghost use Rattle.c_values.specs.Width.{IsWidth};
 ghost use Rattle.c_values.specs.Word.{word};
-ghost use Rattle.c_values.specs.CodeTypes.{target_of, int_type_of};
+ghost use Rattle.c_values.specs.CodeTypes.{target_of, int_type_of, type_of};
+ghost use Rattle.c_values.specs.CodeWord.{unary_op_of, word_op_of};
 ghost use Rattle.ac_expr.specs.Code.{exp_of, cast_op_of};
 ghost use Rattle.ac_expr.specs.Expression as E;
 ghost use Rattle.c_meaning.specs.Guards as rules;
 
 use crate::ranges::{greatest_of, least_of, natural};
 use crate::scalars::Bits;
-use ac_expr::{CastOp, Exp};
+use ac_expr::{CastOp, Exp, copy_of};
 use c_values::views::word;
-use c_values::{IntType, Number, Target, width_of};
+use c_values::{CType, IntType, Number, Target, UnaryOp, WordOp, width_of};
 use std::alloc::{AllocError, Global};
 
-/// A number as a word of an integer type.
-pub fn word_of(target: Target, ty: IntType, n: Number) -> Exp
-    ensures { exp_of result ≡ rules.word_of (target_of target) (int_type_of ty) n }
+/// The value of a name.
+pub fn variable(alloc: Global, name: String) -> Result<Box<Exp>, AllocError>
+    ensures { IfOk result (λ e. exp_of e.value ≡ E.Var (string_bytes name)) }
 {
-    Exp::Word(word(width_of(target, ty), n))
+    Ok(Box::new(alloc, Exp::Var(name))?)
+}
+
+/// A number as a word of an integer type.
+pub fn word_of(
+    alloc: Global,
+    target: Target,
+    ty: IntType,
+    n: Number,
+) -> Result<Box<Exp>, AllocError>
+    ensures { IfOk result (λ e. exp_of e.value ≡ rules.word_of (target_of target) (int_type_of ty) n) }
+{
+    Ok(Box::new(alloc, Exp::Word(word(width_of(target, ty), n)))?)
 }
 
 /// A number as a word of an `int`.
-pub fn int_literal(n: u64) -> Exp
-    ensures { exp_of result ≡ rules.int_literal (pos n) }
+pub fn int_literal(alloc: Global, n: u64) -> Result<Box<Exp>, AllocError>
+    ensures { IfOk result (λ e. exp_of e.value ≡ rules.int_literal (pos n)) }
 {
-    Exp::Word(word(32, natural(n)))
+    Ok(Box::new(alloc, Exp::Word(word(32, natural(n))))?)
+}
+
+/// A truth value.
+pub fn truth_literal(alloc: Global, truth: bool) -> Result<Box<Exp>, AllocError>
+    ensures { IfOk result (λ e. exp_of e.value ≡ E.TruthLit truth) }
+{
+    Ok(Box::new(alloc, Exp::Truth(truth))?)
 }
 
 /// Whether a truth value is false.
-pub fn not(alloc: Global, a: Exp) -> Result<Exp, AllocError>
-    ensures { IfOk result (λ e. exp_of e ≡ E.Not (exp_of a)) }
+pub fn not(alloc: Global, a: Box<Exp>) -> Result<Box<Exp>, AllocError>
+    ensures { IfOk result (λ e. exp_of e.value ≡ E.Not (exp_of a.value)) }
 {
-    Ok(Exp::Not(Box::new(alloc, a)?))
+    Ok(Box::new(alloc, Exp::Not(a))?)
 }
 
 /// Whether two values of one sort are equal.
-pub fn equal(alloc: Global, a: Exp, b: Exp) -> Result<Exp, AllocError>
-    ensures { IfOk result (λ e. exp_of e ≡ E.Eq (exp_of a) (exp_of b)) }
+pub fn equal(alloc: Global, a: Box<Exp>, b: Box<Exp>) -> Result<Box<Exp>, AllocError>
+    ensures { IfOk result (λ e. exp_of e.value ≡ E.Eq (exp_of a.value) (exp_of b.value)) }
 {
-    let a = Box::new(alloc, a)?;
-    Ok(Exp::Eq(a, Box::new(alloc, b)?))
+    Ok(Box::new(alloc, Exp::Eq(a, b))?)
+}
+
+/// Whether both of two truth values are true.
+pub(crate) fn and(alloc: Global, a: Box<Exp>, b: Box<Exp>) -> Result<Box<Exp>, AllocError>
+    ensures { IfOk result (λ e. exp_of e.value ≡ E.And (exp_of a.value) (exp_of b.value)) }
+{
+    Ok(Box::new(alloc, Exp::And(a, b))?)
 }
 
 /// Whether one of two truth values is true.
-pub fn or(alloc: Global, a: Exp, b: Exp) -> Result<Exp, AllocError>
-    ensures { IfOk result (λ e. exp_of e ≡ E.Or (exp_of a) (exp_of b)) }
+pub fn or(alloc: Global, a: Box<Exp>, b: Box<Exp>) -> Result<Box<Exp>, AllocError>
+    ensures { IfOk result (λ e. exp_of e.value ≡ E.Or (exp_of a.value) (exp_of b.value)) }
 {
-    let a = Box::new(alloc, a)?;
-    Ok(Exp::Or(a, Box::new(alloc, b)?))
+    Ok(Box::new(alloc, Exp::Or(a, b))?)
 }
 
-/// The second, where the first holds.
-pub fn implied(alloc: Global, a: Exp, b: Exp) -> Result<Exp, AllocError>
-    ensures { IfOk result (λ e. exp_of e ≡ E.Imp (exp_of a) (exp_of b)) }
+/// What a condition is where another holds. A condition isn't boxed.
+pub fn implied(alloc: Global, premise: Box<Exp>, exp: Exp) -> Result<Exp, AllocError>
+    ensures { IfOk result (λ e. exp_of e ≡ E.Imp (exp_of premise.value) (exp_of exp)) }
 {
-    let a = Box::new(alloc, a)?;
-    Ok(Exp::Imp(a, Box::new(alloc, b)?))
+    Ok(Exp::Imp(premise, Box::new(alloc, exp)?))
 }
 
 /// Whether a number lies between two, both included.
-pub(crate) fn between(alloc: Global, low: Number, n: Exp, high: Number) -> Result<Exp, AllocError>
-    ensures { IfOk result (λ e. exp_of e ≡ E.Between low (exp_of n) high) }
+pub(crate) fn between(
+    alloc: Global,
+    low: Number,
+    n: Box<Exp>,
+    high: Number,
+) -> Result<Box<Exp>, AllocError>
+    ensures { IfOk result (λ e. exp_of e.value ≡ E.Between low (exp_of n.value) high) }
 {
-    Ok(Exp::Between(low, Box::new(alloc, n)?, high))
+    Ok(Box::new(alloc, Exp::Between(low, n, high))?)
 }
 
 /// Whether a number is a value of an integer type.
-pub(crate) fn in_type(alloc: Global, target: Target, ty: IntType, n: Exp) -> Result<Exp, AllocError>
-    ensures { IfOk result (λ e. exp_of e ≡ rules.in_type (target_of target) (int_type_of ty) (exp_of n)) }
+pub(crate) fn in_type(
+    alloc: Global,
+    target: Target,
+    ty: IntType,
+    n: Box<Exp>,
+) -> Result<Box<Exp>, AllocError>
+    ensures { IfOk result (λ e. exp_of e.value ≡ rules.in_type (target_of target) (int_type_of ty) (exp_of n.value)) }
 {
     between(alloc, least_of(target, ty), n, greatest_of(target, ty))
 }
 
 /// The number that a word is, by its sign or without one.
-pub(crate) fn number(alloc: Global, signed: bool, a: Exp) -> Result<Exp, AllocError>
-    ensures { IfOk result (λ e. exp_of e ≡ (if signed then E.ToInt (exp_of a) else E.ToNat (exp_of a))) }
+pub(crate) fn number(alloc: Global, signed: bool, a: Box<Exp>) -> Result<Box<Exp>, AllocError>
+    ensures { IfOk result (λ e. exp_of e.value ≡ (if signed then E.ToInt (exp_of a.value) else E.ToNat (exp_of a.value))) }
 {
-    let a = Box::new(alloc, a)?;
     if signed {
-        Ok(Exp::ToInt(a))
+        Ok(Box::new(alloc, Exp::ToInt(a))?)
     } else {
-        Ok(Exp::ToNat(a))
+        Ok(Box::new(alloc, Exp::ToNat(a))?)
     }
 }
 
 /// A word at another width. The same width stays.
-pub fn cast_to(alloc: Global, to: u8, from: Bits, a: Exp) -> Result<Exp, AllocError>
-    ensures { IfOk result (λ e. exp_of e ≡ rules.cast_to to from.width from.signed (exp_of a)) }
+pub fn cast_to(alloc: Global, to: u8, from: Bits, a: Box<Exp>) -> Result<Box<Exp>, AllocError>
+    ensures { IfOk result (λ e. exp_of e.value ≡ rules.cast_to to from.width from.signed (exp_of a.value)) }
 {
     if to == from.width {
         Ok(a)
     } else {
-        Ok(Exp::Cast(cast_op(to, from), to, Box::new(alloc, a)?))
+        Ok(Box::new(alloc, Exp::Cast(cast_op(to, from), to, a))?)
     }
 }
 
@@ -111,19 +144,63 @@ fn cast_op(to: u8, from: Bits) -> CastOp
 }
 
 /// Whether a word of a width isn't zero.
-pub(crate) fn nonzero(alloc: Global, width: u8, a: Exp) -> Result<Exp, AllocError>
+pub(crate) fn nonzero(alloc: Global, width: u8, a: Box<Exp>) -> Result<Box<Exp>, AllocError>
     requires { IsWidth width }
-    ensures { IfOk result (λ e. exp_of e ≡ E.Not (E.Eq (exp_of a) (E.WordLit (word width (pos 0))))) }
+    ensures { IfOk result (λ e. exp_of e.value ≡ E.Not (E.Eq (exp_of a.value) (E.WordLit (word width (pos 0))))) }
 {
-    let is_zero = equal(alloc, a, Exp::Word(word(width, natural(0))))?;
-    not(alloc, is_zero)
+    let zero = Box::new(alloc, Exp::Word(word(width, natural(0))))?;
+    not(alloc, equal(alloc, a, zero)?)
 }
 
 /// A truth value as an `int`.
-pub(crate) fn of_truth(alloc: Global, truth: Exp) -> Result<Exp, AllocError>
-    ensures { IfOk result (λ e. exp_of e ≡ rules.of_truth (exp_of truth)) }
+pub(crate) fn of_truth(alloc: Global, truth: Box<Exp>) -> Result<Box<Exp>, AllocError>
+    ensures { IfOk result (λ e. exp_of e.value ≡ rules.of_truth (exp_of truth.value)) }
 {
-    let truth = Box::new(alloc, truth)?;
-    let one = Box::new(alloc, int_literal(1))?;
-    Ok(Exp::If(truth, one, Box::new(alloc, int_literal(0))?))
+    let one = int_literal(alloc, 1)?;
+    let zero = int_literal(alloc, 0)?;
+    chosen(alloc, truth, one, zero)
+}
+
+/// An operation on a word.
+pub(crate) fn on_word(alloc: Global, op: UnaryOp, a: Box<Exp>) -> Result<Box<Exp>, AllocError>
+    ensures { IfOk result (λ e. exp_of e.value ≡ E.WordUnary (unary_op_of op) (exp_of a.value)) }
+{
+    Ok(Box::new(alloc, Exp::WordUnary(op, a))?)
+}
+
+/// An operation on two words.
+pub(crate) fn on_words(
+    alloc: Global,
+    op: WordOp,
+    a: Box<Exp>,
+    b: Box<Exp>,
+) -> Result<Box<Exp>, AllocError>
+    ensures { IfOk result (λ e. exp_of e.value ≡ E.WordBinary (word_op_of op) (exp_of a.value) (exp_of b.value)) }
+{
+    Ok(Box::new(alloc, Exp::WordBinary(op, a, b))?)
+}
+
+/// The one where a truth value is true, else the other.
+pub(crate) fn chosen(
+    alloc: Global,
+    c: Box<Exp>,
+    a: Box<Exp>,
+    b: Box<Exp>,
+) -> Result<Box<Exp>, AllocError>
+    ensures { IfOk result (λ e. exp_of e.value ≡ E.If (exp_of c.value) (exp_of a.value) (exp_of b.value)) }
+{
+    Ok(Box::new(alloc, Exp::If(c, a, b))?)
+}
+
+/// A pointer, and so many objects of a type further on.
+pub(crate) fn moved(
+    alloc: Global,
+    ty: &CType,
+    p: Box<Exp>,
+    by: Box<Exp>,
+) -> Result<Box<Exp>, AllocError>
+    ensures { IfOk result (λ e. exp_of e.value ≡ E.Padd (type_of ty.now) (exp_of p.value) (exp_of by.value)) }
+{
+    let ty = copy_of(alloc, ty)?;
+    Ok(Box::new(alloc, Exp::Padd(ty, p, by))?)
 }

@@ -5,7 +5,7 @@ use Rattle.c_meaning.specs.Generate.{guarded}
 use Rattle.simpl_gen.proofs.commands.guarded.Given as goal
 
 abbrev pub invariant-guards : goal.invariant-guards
-invariant-guards l = guarded (map condition_of l.guards.items) (simpl_of l.guarded) ≡ guarded (map condition_of l.initial.guards.items) (simpl_of l.initial.guarded)
+invariant-guards l = guarded (map condition_of l.guards.items) (simpl_of l.guarded.value) ≡ guarded (map condition_of l.initial.guards.items) (simpl_of l.initial.guarded.value)
 
 abbrev pub decreases-guards : goal.decreases-guards
 decreases-guards l = vec_len l.guards

@@ -8,7 +8,7 @@ use Rattle.simpl_gen.proofs.switches.is_one_of.Given as goal
 abbrev pub invariant-labels : goal.invariant-labels
 invariant-labels l = record {
   there : l.k < length l.labels;
-  tested : exp_of l.test ≡ is_one_of (target_of l.target) (int_type_of l.ty) l.n (drop l.k l.labels);
+  tested : exp_of l.test.value ≡ is_one_of (target_of l.target) (int_type_of l.ty) l.n (drop l.k l.labels);
 }
 
 abbrev pub decreases-labels : goal.decreases-labels
