@@ -1,5 +1,6 @@
 //! Tests of long sequences.
 
+use command_trees::{copy_of_command, same_command};
 use simpl_lang::{Simpl, commands, is_flat};
 use std::alloc::{AllocError, Global};
 use std::test::Fail;
@@ -15,12 +16,16 @@ fn skips(alloc: Global, count: u32, last: Simpl) -> Result<Simpl, AllocError> {
 }
 
 #[test]
-fn long_sequences_are_walked_and_dropped(rt: HostRuntime) -> Result<(), Fail> {
-    let flat = skips(rt.alloc(), 1_000_000, Simpl::Skip)?;
+fn long_sequences_are_walked_copied_compared_and_dropped(rt: HostRuntime) -> Result<(), Fail> {
+    let alloc = rt.alloc();
+    let flat = skips(alloc, 1_000_000, Simpl::Skip)?;
     assert!(rt; is_flat(&flat));
     assert_eq!(rt; commands(&flat), 2_000_001);
-    let thrown = skips(rt.alloc(), 1_000_000, Simpl::Throw)?;
+    let copy = copy_of_command(alloc, &flat)?;
+    assert!(rt; same_command(&flat, &copy));
+    let thrown = skips(alloc, 1_000_000, Simpl::Throw)?;
     assert!(rt; !is_flat(&thrown));
     assert_eq!(rt; commands(&thrown), 2_000_001);
+    assert!(rt; !same_command(&copy, &thrown));
     Ok(())
 }

@@ -1,0 +1,4 @@
+pub mod SameExpression
+pub mod Front
+pub mod SameCommand
+pub mod CodeCopies
