@@ -85,9 +85,12 @@ impl Shelf for MemoryShelf {
         ensures contents { (n : List ℕ) → told_contents self.new n ≡ told_contents self.old n }
         ensures counts { (n : List ℕ) → fault_count self.old n ≤ fault_count self.new n }
         ensures within { IfOk result (λ k. k ≤ length into.old) }
-        ensures bytes { IfOk result (λ k. AreBytesAt (told_contents self.old name.now) at k into.new) }
-        ensures end { IfOk result (λ k. k ≡ 0 → 0 < length into.old → EndsBy (told_contents self.old name.now) at) }
-        ensures cause { OnErr result (Rose (fault_count self.old name.now) (fault_count self.new name.now)) }
+        ensures bytes { IfOk result
+            (λ k. AreBytesAt (told_contents self.old name.now) at k into.new) }
+        ensures end { IfOk result
+            (λ k. k ≡ 0 → 0 < length into.old → EndsBy (told_contents self.old name.now) at) }
+        ensures cause { OnErr result
+            (Rose (fault_count self.old name.now) (fault_count self.new name.now)) }
 
         ensures answer { result_ok result ≡ read_count self.old name.now at (length into.old) }
         ensures after { self.new ≡ after_read self.old name.now }

@@ -94,7 +94,8 @@ impl Sink for MemorySink {
         ensures count { self.old.faults ≤ self.new.faults }
         ensures within { IfOk result (λ k. k ≤ length bytes.now) }
         ensures progress { IfOk result (λ k. 0 < length bytes.now → 1 ≤ k) }
-        ensures taken { IfOk result (λ k. Some self.new.taken ≡ grown (Some self.old.taken) (take k bytes.now)) }
+        ensures taken { IfOk result
+            (λ k. Some self.new.taken ≡ grown (Some self.old.taken) (take k bytes.now)) }
         ensures unchanged { OnErr result (Some self.new.taken ≡ Some self.old.taken) }
         ensures cause { OnErr result (Rose self.old.faults self.new.faults) }
 
@@ -115,5 +116,6 @@ impl Sink for MemorySink {
 
 /// A sink that plans no failure doesn't fail while its room holds what it is given.
 pub fn sink_with_room_never_fails()
-    ensures { (sink : RoomInMemory) (bytes : List ℕ) → HasRoomFor sink (length bytes) → TakesUnfailing sink bytes }
+    ensures { (sink : RoomInMemory) (bytes : List ℕ) → HasRoomFor sink (length bytes) →
+        TakesUnfailing sink bytes }
 {}

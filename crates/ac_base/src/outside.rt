@@ -24,7 +24,8 @@ pub trait Shelf {
         ensures counts { (n : List ℕ) → faults self.old n ≤ faults self.new n }
         ensures within { IfOk result (λ k. k ≤ length into.old) }
         ensures bytes { IfOk result (λ k. AreBytesAt (contents self.old name.now) at k into.new) }
-        ensures end { IfOk result (λ k. k ≡ 0 → 0 < length into.old → EndsBy (contents self.old name.now) at) }
+        ensures end { IfOk result
+            (λ k. k ≡ 0 → 0 < length into.old → EndsBy (contents self.old name.now) at) }
         ensures cause { OnErr result (Rose (faults self.old name.now) (faults self.new name.now)) };
 }
 
@@ -42,7 +43,8 @@ pub trait Sink {
         ensures count { faults self.old ≤ faults self.new }
         ensures within { IfOk result (λ k. k ≤ length bytes.now) }
         ensures progress { IfOk result (λ k. 0 < length bytes.now → 1 ≤ k) }
-        ensures taken { IfOk result (λ k. taken self.new ≡ grown (taken self.old) (take k bytes.now)) }
+        ensures taken { IfOk result
+            (λ k. taken self.new ≡ grown (taken self.old) (take k bytes.now)) }
         ensures unchanged { OnErr result (taken self.new ≡ taken self.old) }
         ensures cause { OnErr result (Rose (faults self.old) (faults self.new)) };
 }

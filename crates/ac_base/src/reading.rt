@@ -57,8 +57,10 @@ pub fn read_whole<H: Shelf>(
     ensures counts { (n : List ℕ) → H.faults shelf.old n ≤ H.faults shelf.new n }
     ensures whole { IfOk result (λ bytes. AreWhole (H.contents shelf.old name.now) bytes.items) }
     ensures within { IfOk result (λ bytes. vec_len bytes ≤ limit) }
-    ensures limit { IsErrOf result ReadTrouble.Limit → IsLonger (H.contents shelf.old name.now) limit }
-    ensures fault { IsErrOf result ReadTrouble.ReadFault → Rose (H.faults shelf.old name.now) (H.faults shelf.new name.now) }
+    ensures limit { IsErrOf result ReadTrouble.Limit →
+        IsLonger (H.contents shelf.old name.now) limit }
+    ensures fault { IsErrOf result ReadTrouble.ReadFault →
+        Rose (H.faults shelf.old name.now) (H.faults shelf.new name.now) }
 {
     let mut bytes = Vec::new(alloc);
     let mut piece = [0u8; PIECE_LEN];

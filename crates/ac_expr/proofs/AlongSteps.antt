@@ -5,7 +5,7 @@ use Rattle.c_values.specs.Layout.{Shape, Incomplete, Scalar, Record, Row}
 use Rattle.c_values.specs.Path.{Field, Spot, step_spot, member_spot}
 use Rattle.ac_expr.specs.Expression.{Exp, Path, IntoField, IntoElement}
 use Rattle.ac_expr.specs.Sort.{Scope, shape_along, shape_in, is_number, sort_of}
-use Rattle.ac_expr.specs.Along.{shape_at, element_in}
+use Rattle.ac_expr.specs.CodeAlong.{shape_at, element_in}
 
 -- to a member
 pub next_field : (g : Scope) (k : ℕ) (path : Path) (s r : Shape) → Some r ≡ shape_at (step_spot s (Field k)) → shape_along g (IntoField k path) s ≡ shape_along g path r

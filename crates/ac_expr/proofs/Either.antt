@@ -1,22 +1,13 @@
 -- The right side of an `or`.
-use Rattle.std.proofs.Common.{◌≡◌, ◌<◌, Bool, true, false, ◌&&◌, List, [], ◌∷◌, ◌++◌, refl, ap, ◌∙◌, subst, sym, arith}
+use Rattle.std.proofs.Common.{◌≡◌, ◌<◌, Bool, true, false, ◌&&◌, refl, ap, ◌∙◌, subst, sym, arith}
 use Rattle.ac_expr.specs.declared.expression.Exp as R
 use Rattle.ac_expr.specs.declared.expression.Exp.{size-Exp}
 use Rattle.ac_expr.specs.declared.expression.Exp.TheBlock.{the_depth}
 use Rattle.ac_expr.specs.Expression.{Exp, Or}
 use Rattle.ac_expr.specs.Sort.{Scope, sort_of, is_truth, where_holds, truth_sort}
-use Rattle.ac_expr.specs.Code.{exp_of}
+use Rattle.ac_expr.specs.CodeExpression.{exp_of}
 use denote.Hole.Rolled.{depth}
 use denote.Hole.Carrier.{fold}
-
--- the first operand first, and the last one apart
-abbrev pub any_of : List R.Exp → Exp → Exp
-any_of [] e = e
-any_of (x ∷ xs) e = Or (exp_of x) (any_of xs e)
-
-pub any_of_push : (xs : List R.Exp) (x : R.Exp) (e : Exp) → any_of (xs ++ x ∷ []) e ≡ any_of xs (Or (exp_of x) e)
-any_of_push [] x e = refl
-any_of_push (y ∷ ys) x e = ap (λ o. Or (exp_of y) o) (any_of_push ys x e)
 
 is_truth_where : (b : Bool) → is_truth (where_holds b truth_sort) ≡ b
 is_truth_where true = refl

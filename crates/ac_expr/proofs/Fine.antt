@@ -13,26 +13,20 @@ use Rattle.c_values.specs.Layout.{Layout, IsLayout, Shape, Incomplete, Scalar, R
 use Rattle.c_values.specs.Path.{Step, Spot, spot, member_spot, and_then_spot, further, HasShape, IsBits}
 use Rattle.c_values.proofs.Parts.{laid_shape}
 use Rattle.c_values.proofs.Laid.{structs_of}
-use Rattle.c_memory.specs.CodeParts.{has_parts}
+use Rattle.c_values.specs.CodeParts.{has_parts}
 use Rattle.c_memory.specs.Heap.{IsHeap}
 use Rattle.ac_expr.specs.Expression as X
 use Rattle.ac_expr.specs.Sort as S
 use Rattle.ac_expr.specs.Sort.{Scope, Sort, Of, PartsSort, WordSort, NumberSort, TruthSort, is_width, sort_of, shape_along, shape_in, sort_at, word_width, word_sort, number_sort, truth_sort, is_number, is_truth, is_word_of, is_unary, is_one_step, where_holds, of_word, of_shape, parts_shape, are_same, cast_fits}
 use Rattle.ac_expr.specs.Evaluation.{Env, State, value, steps, cast_op, if_truth, moved_to}
-use Rattle.ac_expr.specs.Ready.{IsReady, AreReady, IsRoot}
-use Rattle.ac_expr.proofs.Follow.{path_ends}
+use Rattle.ac_expr.specs.States.{IsOfSort}
+use Rattle.ac_expr.specs.CodeReady.{IsReady, AreReady, IsRoot}
+use Rattle.c_values.proofs.Follow.{path_ends}
 use Rattle.ac_expr.proofs.Good.{is_word, address_below, upd_put, heap_read, Good, good_whole, good_object, good_spot}
 use Rattle.ac_expr.proofs.Inversion.{where_inv, words_inv, word_inv, width_inv, number_inv, truth_inv, word_of_inv, same_inv, shape_inv, type_inv, parts_inv, scalar_inv, some_is}
 
-abbrev pub HasScalar : S.Scalar → Value → Type 0
-HasScalar (WordSort n) v = IsBits n v
-HasScalar NumberSort (Number n) = Unit {0}
-HasScalar NumberSort _ = ⊥
-HasScalar TruthSort (Truth b) = Unit {0}
-HasScalar TruthSort _ = ⊥
-
 abbrev pub HasSort : Layout → Sort → Value → Type 0
-HasSort l (Of c) v = HasScalar c v
+HasSort l (Of c) v = IsOfSort c v
 HasSort l (PartsSort t) v = HasShape (shape_of l t) v
 
 -- parts are of good shapes
@@ -46,7 +40,7 @@ bits_word n (Number w) h = absurd h
 bits_word n (Truth w) h = absurd h
 bits_word n (Parts w) h = absurd h
 
-no_parts : (c : S.Scalar) (v : Value) → HasScalar c v → has_parts v ≡ false
+no_parts : (c : S.Scalar) (v : Value) → IsOfSort c v → has_parts v ≡ false
 no_parts c (Bits w) h = refl
 no_parts c (Number w) h = refl
 no_parts c (Truth w) h = refl
@@ -106,7 +100,7 @@ width_of_test n h =
     ]
 
 module _ (g : Scope) (h : IsLayout g.layout) (env : Env) (s : State)
-    (names : (x : Name) (c : S.Scalar) → g.names x ≡ Some c → HasScalar c (env x))
+    (names : (x : Name) (c : S.Scalar) → g.names x ≡ Some c → IsOfSort c (env x))
     (globals : (x : Name) (t : CType) → g.globals x ≡ Some t → HasShape (shape_of g.layout t) (s.globals x))
     (heap : IsHeap g.layout s.heap) where
   abbrev l : Layout
@@ -135,10 +129,10 @@ module _ (g : Scope) (h : IsLayout g.layout) (env : Env) (s : State)
   word_fine : (e : X.Exp) (n : ℕ) (o : Sort) → word_sort n ≡ Some o → IsReady l env s e → IsBits n (at e) → Fine e o
   word_fine e n o q r b = subst (λ p. Fine e p) (some_is (Of (WordSort n)) o q) (record { ready = r; sort = b; good = tt })
 
-  number_fine : (e : X.Exp) (o : Sort) → number_sort ≡ Some o → IsReady l env s e → HasScalar NumberSort (at e) → Fine e o
+  number_fine : (e : X.Exp) (o : Sort) → number_sort ≡ Some o → IsReady l env s e → IsOfSort NumberSort (at e) → Fine e o
   number_fine e o q r b = subst (λ p. Fine e p) (some_is (Of NumberSort) o q) (record { ready = r; sort = b; good = tt })
 
-  truth_fine : (e : X.Exp) (o : Sort) → truth_sort ≡ Some o → IsReady l env s e → HasScalar TruthSort (at e) → Fine e o
+  truth_fine : (e : X.Exp) (o : Sort) → truth_sort ≡ Some o → IsReady l env s e → IsOfSort TruthSort (at e) → Fine e o
   truth_fine e o q r b = subst (λ p. Fine e p) (some_is (Of TruthSort) o q) (record { ready = r; sort = b; good = tt })
 
   if_fine : (b : Bool) (o : Sort) (v w : Value) → HasSort l o v → HasSort l o w → HasSort l o (if_truth b v w)

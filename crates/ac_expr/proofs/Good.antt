@@ -19,7 +19,7 @@ use Rattle.c_memory.specs.TypedHeap.{TypedHeap, zeros_spot, cell_part, read_cell
 use Rattle.c_memory.specs.Heap.{Heap, OnBytes, OnTypes, read_heap, IsHeap, CellsFit}
 use Rattle.c_memory.proofs.Loaded.{load_shaped}
 use Rattle.c_memory.proofs.Roots.{found_leads}
-use Rattle.ac_expr.proofs.Follow.{path_ends, sel_append}
+use Rattle.c_values.proofs.Follow.{path_ends, sel_append}
 use Rattle.ac_expr.proofs.Sorting.{object_whole}
 
 some_same : {A : Type 0} {a b : A} → ◌≡◌ {A = Option A} (Some a) (Some b) → a ≡ b

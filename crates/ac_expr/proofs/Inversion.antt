@@ -3,7 +3,7 @@ use Rattle.std.proofs.Common.{◌≡◌, ℕ, ◌==◌, Bool, true, false, Optio
 use Rattle.std.proofs.lemmas.Bool.{eqb-true}
 use Rattle.c_values.specs.Types.{CType}
 use Rattle.c_values.specs.Layout.{Layout, Shape, shape_of}
-use Rattle.c_values.proofs.SameType.{type_is}
+use Rattle.c_values.specs.CodeSameType.{type_is}
 use Rattle.ac_expr.specs.Sort.{Scalar, WordSort, NumberSort, TruthSort, Sort, Of, PartsSort, same_scalar, same_sort, word_width, is_word_of, is_number, is_truth, number_sort, truth_sort, where_holds, of_words, of_word, are_same, of_shape, of_type, parts_shape, scalar_sort}
 
 pub where_inv : (b : Bool) (o : Option Sort) (r : Sort) → where_holds b o ≡ Some r → (b ≡ true) × (o ≡ Some r)

@@ -10,7 +10,7 @@ use Rattle.c_values.specs.Value.{nothing}
 use Rattle.c_values.specs.CodeValue.{value_of}
 use Rattle.ac_expr.specs.declared.signatures.Binder as B
 use Rattle.ac_expr.specs.Sort.{Scalar, word_sort_of}
-use Rattle.ac_expr.specs.Code.{kind_of}
+use Rattle.ac_expr.specs.CodeExpression.{kind_of}
 use Rattle.ac_expr.specs.CodeSort.{names_with_all, IsScalarAmong}
 use Rattle.ac_expr.specs.Evaluation.{Env}
 use Rattle.ac_expr.specs.CodeState.{Bindings, env_with, env_of, globals_of}

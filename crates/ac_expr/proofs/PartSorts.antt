@@ -7,9 +7,9 @@ use Rattle.c_values.specs.Types.{CType, address_width}
 use Rattle.c_values.specs.Layout.{IsLayout, Shape, shape_of, is_complete, is_object}
 use Rattle.ac_expr.specs.Expression.{Exp, Path, Load, Global, Sel, Upd}
 use Rattle.ac_expr.specs.Sort.{Scope, Sort, sort_of, sort_at, shape_along, where_holds, of_shape, of_type, parts_shape, are_same, is_word_of, is_one_step}
-use Rattle.ac_expr.specs.Along.{parts_type}
+use Rattle.ac_expr.specs.CodeAlong.{parts_type}
 use Rattle.ac_expr.proofs.Sorting.{some_complete, object_whole}
-use Rattle.ac_expr.proofs.Whole.{parts_complete, parts_are}
+use Rattle.ac_expr.proofs.WholeShapes.{parts_complete, parts_are}
 
 -- what the code's rule for the sort of a part says of its answer
 abbrev pub IsPartSort : Bool → Option Shape → Option Sort → Type 0

@@ -16,22 +16,23 @@ use Rattle.ac_expr.specs.Expression.{Exp}
 use Rattle.ac_expr.specs.Sort as S
 use Rattle.ac_expr.specs.Sort.{Sort, WordSort, NumberSort, TruthSort, sort_of}
 use Rattle.ac_expr.specs.Evaluation.{Env}
-use Rattle.ac_expr.specs.Ready.{IsReady}
+use Rattle.ac_expr.specs.CodeReady.{IsReady}
 use Rattle.ac_expr.specs.CodeState.{Bindings, env_with, env_of, scalar_of_value, scalars_with, scope_in, IsScalar, AreScalars, globals_of, AreOfTypes, state_of}
-use Rattle.ac_expr.proofs.Fine.{HasScalar, fine}
+use Rattle.ac_expr.specs.States.{IsOfSort}
+use Rattle.ac_expr.proofs.Fine.{fine}
 
-scalar_has : (v : Value) (c : S.Scalar) → IsScalar v → scalar_of_value v ≡ Some c → HasScalar c v
-scalar_has (Bits w) c h e = let same : WordSort w.width ≡ c = cc in subst (λ d. HasScalar d (Bits w)) same h
-scalar_has (Number n) c h e = let same : NumberSort ≡ c = cc in subst (λ d. HasScalar d (Number n)) same tt
-scalar_has (Truth b) c h e = let same : TruthSort ≡ c = cc in subst (λ d. HasScalar d (Truth b)) same tt
+scalar_has : (v : Value) (c : S.Scalar) → IsScalar v → scalar_of_value v ≡ Some c → IsOfSort c v
+scalar_has (Bits w) c h e = let same : WordSort w.width ≡ c = cc in subst (λ d. IsOfSort d (Bits w)) same h
+scalar_has (Number n) c h e = let same : NumberSort ≡ c = cc in subst (λ d. IsOfSort d (Number n)) same tt
+scalar_has (Truth b) c h e = let same : TruthSort ≡ c = cc in subst (λ d. IsOfSort d (Truth b)) same tt
 scalar_has (Parts vs) c h e = absurd h
 
-either_has : (b : Bool) (o p : Option S.Scalar) (v w : Value) (c : S.Scalar) → (o ≡ Some c → HasScalar c v) → (p ≡ Some c → HasScalar c w) → cond b o p ≡ Some c → HasScalar c (cond b v w)
+either_has : (b : Bool) (o p : Option S.Scalar) (v w : Value) (c : S.Scalar) → (o ≡ Some c → IsOfSort c v) → (p ≡ Some c → IsOfSort c w) → cond b o p ≡ Some c → IsOfSort c (cond b v w)
 either_has true o p v w c h k e = h e
 either_has false o p v w c h k e = k e
 
-names_have : (bs : Bindings) (names : Name → Option S.Scalar) (env : Env) → AreScalars bs → ((x : Name) (c : S.Scalar) → names x ≡ Some c → HasScalar c (env x)) →
-    (x : Name) (c : S.Scalar) → scalars_with bs names x ≡ Some c → HasScalar c (env_with bs env x)
+names_have : (bs : Bindings) (names : Name → Option S.Scalar) (env : Env) → AreScalars bs → ((x : Name) (c : S.Scalar) → names x ≡ Some c → IsOfSort c (env x)) →
+    (x : Name) (c : S.Scalar) → scalars_with bs names x ≡ Some c → IsOfSort c (env_with bs env x)
 names_have [] names env h k x c e = k x c e
 names_have (b ∷ bs) names env h k x c e =
     names_have bs (with_name (string_bytes b.0) (scalar_of_value (value_of b.1)) names) (with_name (string_bytes b.0) (value_of b.1) env) h.1

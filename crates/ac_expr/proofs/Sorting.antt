@@ -9,7 +9,7 @@ use Rattle.c_values.specs.Layout.{Layout, IsLayout, StructDef, Shape, Incomplete
 use Rattle.c_values.specs.Path.{Spot, member_spot}
 use Rattle.c_values.proofs.Laid.{shape_type}
 use Rattle.ac_expr.specs.Expression.{Path, Here, IntoField, IntoElement}
-use Rattle.ac_expr.specs.Along.{element_in}
+use Rattle.ac_expr.specs.CodeAlong.{element_in}
 use Rattle.ac_expr.specs.Sort.{Sort, PartsSort, Scope, is_width, is_number, sort_of, sort_at, shape_along, shape_in, where_holds, word_sort}
 
 -- a struct's shape, or that of what has no body

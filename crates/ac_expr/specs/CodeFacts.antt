@@ -7,7 +7,7 @@ use Rattle.ac_expr.specs.Fact.{Fact, Whole, NotTrue, IsTagged, IsBetween, AtLeas
 use Rattle.ac_expr.specs.Facts.{without_name, without_reads}
 use Rattle.ac_expr.specs.Sort.{Scope}
 use Rattle.ac_expr.specs.Sorted.{scope_with}
-use Rattle.ac_expr.specs.Code.{exp_of}
+use Rattle.ac_expr.specs.CodeExpression.{exp_of}
 use Rattle.ac_expr.specs.CodeSort.{scalar_of, scope_of}
 
 abbrev pub fact_of : F.Fact → Fact

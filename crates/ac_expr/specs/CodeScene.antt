@@ -14,7 +14,7 @@ use Rattle.ac_expr.specs.declared.faults.EvalFault as F
 use Rattle.ac_expr.specs.Expression.{Exp, Path}
 use Rattle.ac_expr.specs.Evaluation.{Env, State, value, steps}
 use Rattle.ac_expr.specs.Wide.{wide, wide_in}
-use Rattle.ac_expr.specs.Ready.{IsReady, AreReady}
+use Rattle.ac_expr.specs.CodeReady.{IsReady, AreReady}
 use Rattle.ac_expr.specs.CodeState.{env_of, state_of}
 use Rattle.ac_expr.specs.CodeFault.{Gives}
 

@@ -4,7 +4,7 @@ use Rattle.std.specs.Option.{option_map}
 use Rattle.ac_expr.specs.declared.signatures.Binder as B
 use Rattle.ac_expr.specs.declared.signatures.Signature as S
 use Rattle.ac_expr.specs.Signature.{Binder, Signature}
-use Rattle.ac_expr.specs.Code.{level_of, kind_of}
+use Rattle.ac_expr.specs.CodeExpression.{level_of, kind_of}
 
 abbrev pub binder_of : B.Binder → Binder
 binder_of b = record { name = string_bytes b.name; kind = kind_of b.kind }

@@ -2,9 +2,10 @@
 use Rattle.std.specs.Prelude.{List, [], ◌∷◌, Option, Some, None, if◌then◌else◌}
 use Rattle.c_values.specs.Name.{Name, same_name, with_name}
 use Rattle.c_values.specs.Value.{Value, nothing}
-use Rattle.c_values.specs.Layout.{Layout}
+use Rattle.c_values.specs.Types.{Target, CType, Integer, is_signed, width_of}
+use Rattle.c_values.specs.Layout.{Layout, scalar_width}
 use Rattle.ac_expr.specs.Expression.{Exp}
-use Rattle.ac_expr.specs.Sort.{Level, Kind}
+use Rattle.ac_expr.specs.Sort.{Level, Numbers, Kind, WordKind, NatKind, IntKind}
 use Rattle.ac_expr.specs.Evaluation.{Env, State, value}
 
 -- a name with its kind
@@ -49,3 +50,15 @@ bound _ _ env = env
 -- no name has a value
 abbrev pub no_env : Env
 no_env x = nothing
+
+-- A name's kind at a level: numbers stand for integers at the level of numbers alone, by their sign; pointers are words.
+abbrev pub kind_at : Target → Level → CType → Kind
+kind_at t Numbers (Integer i) = if is_signed i then IntKind (width_of t i) else NatKind (width_of t i)
+kind_at t level u = WordKind (scalar_width t u)
+
+abbrev pub binder : Name → Kind → Binder
+binder x k = record { name = x; kind = k }
+
+abbrev pub result_kind : Target → Level → Option CType → Option Kind
+result_kind t level None = None
+result_kind t level (Some u) = Some (kind_at t level u)

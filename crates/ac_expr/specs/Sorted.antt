@@ -1,5 +1,5 @@
 -- What programs and commands ask of their expressions: sorts of lists, of places and of calls.
-use Rattle.std.specs.Prelude.{Bool, true, false, not, ◌&&◌, List, [], ◌∷◌, map, Option, Some, None, if◌then◌else◌}
+use Rattle.std.specs.Prelude.{Bool, true, false, ◌&&◌, List, [], ◌∷◌, map, Option, Some, None, if◌then◌else◌}
 use Rattle.c_values.specs.Name.{Name, with_name}
 use Rattle.c_values.specs.Types.{CType, address_width}
 use Rattle.c_values.specs.Layout.{Shape, is_object, shape_of}
@@ -42,14 +42,17 @@ abbrev pub sort_in : Option Shape → Option Sort
 sort_in None = None
 sort_in (Some s) = sort_at s
 
+-- a part of an object that a program may write to
+abbrev pub part_place : Scope → CType → Path → Option Sort
+part_place g t path = if path_has is_part_of_value path then None else sort_in (shape_along g path (shape_of g.layout t))
+
 abbrev pub typed_place : Scope → CType → Exp → Path → Option Sort
 typed_place g t p path =
-    if is_object g.layout t && is_word_of (address_width g.layout.target) (program_sort g p) && not (path_has is_part_of_value path)
-    then sort_in (shape_along g path (shape_of g.layout t)) else None
+    if is_object g.layout t && is_word_of (address_width g.layout.target) (program_sort g p) then part_place g t path else None
 
 abbrev pub global_place : Scope → Option CType → Path → Option Sort
 global_place g None path = None
-global_place g (Some t) path = if path_has is_part_of_value path then None else sort_in (shape_along g path (shape_of g.layout t))
+global_place g (Some t) path = if is_object g.layout t then part_place g t path else None
 
 abbrev pub fits_place : Option Sort → Option Sort → Bool
 fits_place (Some s) (Some t) = same_sort s t

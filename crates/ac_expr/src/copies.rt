@@ -1,243 +1,165 @@
 //! Copies of expressions and paths.
 
 ghost use Rattle.std.specs.Prelude.{◌≡◌, IfOk};
-ghost use Rattle.ac_expr.specs.Expression.{Or};
-ghost use Rattle.ac_expr.specs.Code.{exp_of, path_of};
-ghost use Rattle.ac_expr.specs.Heads.{IsTest, IsPlace};
-ghost use Rattle.ac_expr.specs.CodePath.{with_part};
+ghost use Rattle.ac_expr.specs.declared.expression.Exp.{size-Exp};
+ghost use Rattle.ac_expr.specs.declared.paths.Path.{size-Path};
+ghost use Rattle.ac_expr.specs.Expression.{Here};
+ghost use Rattle.ac_expr.specs.CodeExpression.{exp_of, path_of};
+ghost use Rattle.ac_expr.specs.CodeShapeView.{with_fronts, with_step, with_steps};
+ghost use Rattle.ac_expr.specs.CodeCopied.{peeled_in, LastIsSmaller, peeled_path_in, RestIsSmaller};
 
 use crate::expression::Exp;
 use crate::paths::Path;
-use crate::types::copy_of;
+use crate::shape::{Front, PathFront, Shape, boxed, shape_of, whole, whole_leaf};
 use std::alloc::{AllocError, Global};
 
 impl Exp {
     /// A copy.
-    #[cycle(copy)]
     pub fn copy(&self, alloc: Global) -> Result<Exp, AllocError>
         ensures { IfOk result (λ copy. exp_of copy ≡ exp_of self.now) }
     {
-        match self {
-            Exp::Var(name) => Ok(Exp::Var(name.clone()?)),
-            Exp::Word(word) => Ok(Exp::Word(*word)),
-            Exp::Number(number) => Ok(Exp::Number(*number)),
-            Exp::Truth(truth) => Ok(Exp::Truth(*truth)),
-            Exp::WordBinary(op, a, b) => {
-                let a = boxed(alloc, a)?;
-                Ok(Exp::WordBinary(*op, a, boxed(alloc, b)?))
-            }
-            Exp::WordShift(op, a, n) => {
-                let a = boxed(alloc, a)?;
-                Ok(Exp::WordShift(*op, a, boxed(alloc, n)?))
-            }
-            Exp::WordUnary(op, a) => Ok(Exp::WordUnary(*op, boxed(alloc, a)?)),
-            Exp::WordCompare(op, a, b) => {
-                let a = boxed(alloc, a)?;
-                Ok(Exp::WordCompare(*op, a, boxed(alloc, b)?))
-            }
-            Exp::Cast(op, width, a) => Ok(Exp::Cast(*op, *width, boxed(alloc, a)?)),
-            Exp::ToNat(a) => Ok(Exp::ToNat(boxed(alloc, a)?)),
-            Exp::ToInt(a) => Ok(Exp::ToInt(boxed(alloc, a)?)),
-            Exp::ToWord(width, a) => Ok(Exp::ToWord(*width, boxed(alloc, a)?)),
-            Exp::Arith(op, a, b) => {
-                let a = boxed(alloc, a)?;
-                Ok(Exp::Arith(*op, a, boxed(alloc, b)?))
-            }
-            Exp::Negate(a) => Ok(Exp::Negate(boxed(alloc, a)?)),
-            Exp::Lt(_, _)
-            | Exp::Le(_, _)
-            | Exp::Between(_, _, _)
-            | Exp::Eq(_, _)
-            | Exp::And(_, _)
-            | Exp::Or(_, _)
-            | Exp::Imp(_, _)
-            | Exp::Not(_)
-            | Exp::If(_, _, _) => self.copy_of_test(alloc),
-            Exp::Padd(_, _, _)
-            | Exp::At(_, _, _)
-            | Exp::Load(_, _, _)
-            | Exp::Read(_, _, _)
-            | Exp::Tagged(_, _)
-            | Exp::PtrOk(_, _)
-            | Exp::Global(_, _)
-            | Exp::Sel(_, _)
-            | Exp::Upd(_, _, _) => self.copy_of_place(alloc),
-        }
+        let copy = self.boxed_copy(alloc)?;
+        Ok(Box::into_inner(copy))
     }
 
-    // A copy of a test of numbers, of an operation on truth values or of a choice.
+    /// A copy on the heap. It goes along the last parts by a loop, since a text may have long chains.
     #[cycle(copy)]
-    fn copy_of_test(&self, alloc: Global) -> Result<Exp, AllocError>
-        requires { IsTest (exp_of self.now) }
-        ensures { IfOk result (λ copy. exp_of copy ≡ exp_of self.now) }
+    #[tactic(auto, using(crate::proofs::Fronts::with_fronts_push))]
+    pub fn boxed_copy(&self, alloc: Global) -> Result<Box<Exp>, AllocError>
+        ensures { IfOk result (λ copy. exp_of copy.value ≡ exp_of self.now) }
     {
-        match self {
-            Exp::Lt(a, b) => {
-                let a = boxed(alloc, a)?;
-                Ok(Exp::Lt(a, boxed(alloc, b)?))
+        let mut fronts = Vec::new(alloc);
+        let mut rest = self;
+        'along: loop {
+            match peeled(alloc, rest)? {
+                Peel::Ended(copy) => return closed(alloc, fronts, copy),
+                Peel::Last(front, last) => {
+                    fronts.push(front)?;
+                    rest = last;
+                }
             }
-            Exp::Le(a, b) => {
-                let a = boxed(alloc, a)?;
-                Ok(Exp::Le(a, boxed(alloc, b)?))
-            }
-            Exp::Between(low, a, high) => Ok(Exp::Between(*low, boxed(alloc, a)?, *high)),
-            Exp::Eq(a, b) => {
-                let a = boxed(alloc, a)?;
-                Ok(Exp::Eq(a, boxed(alloc, b)?))
-            }
-            Exp::And(a, b) => {
-                let a = boxed(alloc, a)?;
-                Ok(Exp::And(a, boxed(alloc, b)?))
-            }
-            Exp::Or(a, b) => {
-                let a = a.copy(alloc)?;
-                either(alloc, a, last_operand(alloc, b)?)
-            }
-            Exp::Imp(a, b) => {
-                let a = boxed(alloc, a)?;
-                Ok(Exp::Imp(a, boxed(alloc, b)?))
-            }
-            Exp::Not(a) => Ok(Exp::Not(boxed(alloc, a)?)),
-            Exp::If(c, a, b) => {
-                let c = boxed(alloc, c)?;
-                let a = boxed(alloc, a)?;
-                Ok(Exp::If(c, a, boxed(alloc, b)?))
-            }
-            _ => unreachable!(),
-        }
-    }
-
-    // A copy of an expression that speaks of a place.
-    #[cycle(copy)]
-    fn copy_of_place(&self, alloc: Global) -> Result<Exp, AllocError>
-        requires { IsPlace (exp_of self.now) }
-        ensures { IfOk result (λ copy. exp_of copy ≡ exp_of self.now) }
-    {
-        match self {
-            Exp::Padd(t, p, n) => {
-                let p = boxed(alloc, p)?;
-                let n = boxed(alloc, n)?;
-                Ok(Exp::Padd(copy_of(alloc, t)?, p, n))
-            }
-            Exp::At(t, p, path) => {
-                let p = boxed(alloc, p)?;
-                let path = path.copy(alloc)?;
-                Ok(Exp::At(copy_of(alloc, t)?, p, path))
-            }
-            Exp::Load(t, p, path) => {
-                let p = boxed(alloc, p)?;
-                let path = path.copy(alloc)?;
-                Ok(Exp::Load(copy_of(alloc, t)?, p, path))
-            }
-            Exp::Read(t, p, path) => {
-                let p = boxed(alloc, p)?;
-                let path = path.copy(alloc)?;
-                Ok(Exp::Read(copy_of(alloc, t)?, p, path))
-            }
-            Exp::Tagged(t, p) => {
-                let p = boxed(alloc, p)?;
-                Ok(Exp::Tagged(copy_of(alloc, t)?, p))
-            }
-            Exp::PtrOk(t, p) => {
-                let p = boxed(alloc, p)?;
-                Ok(Exp::PtrOk(copy_of(alloc, t)?, p))
-            }
-            Exp::Global(name, path) => {
-                let path = path.copy(alloc)?;
-                Ok(Exp::Global(name.clone()?, path))
-            }
-            Exp::Sel(e, path) => {
-                let e = boxed(alloc, e)?;
-                Ok(Exp::Sel(e, path.copy(alloc)?))
-            }
-            Exp::Upd(e, path, v) => {
-                let e = boxed(alloc, e)?;
-                let path = path.copy(alloc)?;
-                Ok(Exp::Upd(e, path, boxed(alloc, v)?))
-            }
-            _ => unreachable!(),
         }
     }
 }
 
-#[cycle(copy)]
-fn boxed(alloc: Global, e: &Exp) -> Result<Box<Exp>, AllocError>
-    ensures { IfOk result (λ copy. exp_of copy.value ≡ exp_of e.now) }
-{
-    Ok(Box::new(alloc, e.copy(alloc)?)?)
+// An expression with all but the last part copied.
+#[derive(Drop)]
+enum Peel<'a> {
+    Ended(Box<Exp>),
+    Last(Front<'a>, &'a Exp),
 }
 
-// A copy of the right operand of an `or`. It goes along the right side of the `or`s in it by a loop, since the test of a switch is
-// an `or` of as many equations as there are labels.
 #[cycle(copy)]
-#[tactic(auto, using(crate::proofs::Either::any_of_push))]
-fn last_operand(alloc: Global, e: &Exp) -> Result<Exp, AllocError>
-    ensures { IfOk result (λ copy. exp_of copy ≡ exp_of e.now) }
+#[tactic(auto, using(crate::proofs::ShapeLaws::whole_shape))]
+fn peeled(alloc: Global, e: &Exp) -> Result<Peel<'_>, AllocError>
+    ensures same { IfOk result (λ peel. peeled_in peel ≡ exp_of e.now) }
+    ensures smaller { IfOk result (λ peel. LastIsSmaller peel (size-Exp e.now)) }
 {
-    let mut firsts = Vec::new(alloc);
-    let mut rest = e;
-    'operands: while let Exp::Or(a, b) = rest {
-        firsts.push(a.copy(alloc)?)?;
-        rest = &**b;
+    match shape_of(e) {
+        Shape::Leaf(leaf) => Ok(Peel::Ended(boxed(alloc, whole_leaf(alloc, leaf)?)?)),
+        Shape::One(head, last) => Ok(Peel::Last(Front::One(head), last)),
+        Shape::Two(head, a, last) => Ok(Peel::Last(Front::Two(head, a.boxed_copy(alloc)?), last)),
+        Shape::Between(low, last, high) => Ok(Peel::Last(Front::Between(low, high), last)),
+        Shape::If(c, a, last) => {
+            let c = c.boxed_copy(alloc)?;
+            Ok(Peel::Last(Front::If(c, a.boxed_copy(alloc)?), last))
+        }
+        Shape::Padd(ty, p, last) => Ok(Peel::Last(Front::Padd(ty, p.boxed_copy(alloc)?), last)),
+        Shape::Root(head, ty, last) => Ok(Peel::Last(Front::Root(head, ty), last)),
+        Shape::Place(head, ty, last, path) => {
+            Ok(Peel::Last(Front::Place(head, ty, path.copy(alloc)?), last))
+        }
+        Shape::Global(name, path) => {
+            let path = path.copy(alloc)?;
+            let name = String::from_str(alloc, name)?;
+            Ok(Peel::Ended(boxed(alloc, Exp::Global(name, path))?))
+        }
+        Shape::Sel(last, path) => Ok(Peel::Last(Front::Sel(path.copy(alloc)?), last)),
+        Shape::Upd(whole, path, last) => {
+            let whole = whole.boxed_copy(alloc)?;
+            Ok(Peel::Last(Front::Upd(whole, path.copy(alloc)?), last))
+        }
     }
-    let mut copy = rest.copy(alloc)?;
-    'back: while let Some(first) = firsts.pop() {
-        copy = either(alloc, first, copy)?;
+}
+
+// An expression with fronts around it, the first front outermost.
+#[tactic(auto, using(crate::proofs::Fronts::with_fronts_push))]
+pub(crate) fn closed(
+    alloc: Global,
+    mut fronts: Vec<Front<'_>>,
+    last: Box<Exp>,
+) -> Result<Box<Exp>, AllocError>
+    ensures { IfOk result (λ e.
+        exp_of e.value ≡ with_fronts fronts.entry.items (exp_of last.value)) }
+{
+    let mut copy = last;
+    'back: while let Some(front) = fronts.pop() {
+        copy = boxed(alloc, whole(alloc, front, copy)?)?;
     }
     Ok(copy)
-}
-
-fn either(alloc: Global, a: Exp, b: Exp) -> Result<Exp, AllocError>
-    ensures { IfOk result (λ e. exp_of e ≡ Or (exp_of a) (exp_of b)) }
-{
-    let a = Box::new(alloc, a)?;
-    Ok(Exp::Or(a, Box::new(alloc, b)?))
-}
-
-// A step of a path.
-#[derive(Drop)]
-enum PathPart {
-    Field(u32),
-    Index(Box<Exp>),
 }
 
 impl Path {
     /// A copy. It goes along the path by a loop, since a text may have long paths.
     #[cycle(copy)]
-    #[tactic(auto, using(crate::proofs::Parted::with_parts_push))]
+    #[tactic(auto, using(crate::proofs::Fronts::with_steps_push))]
     pub fn copy(&self, alloc: Global) -> Result<Path, AllocError>
         ensures { IfOk result (λ copy. path_of copy ≡ path_of self.now) }
     {
-        let mut parts = Vec::new(alloc);
+        let mut fronts = Vec::new(alloc);
         let mut rest = self;
-        'down: loop {
-            match rest {
-                Path::Here => break,
-                Path::Field(k, next) => {
-                    parts.push(PathPart::Field(*k))?;
-                    rest = &**next;
-                }
-                Path::Index(e, next) => {
-                    let index = e.copy(alloc)?;
-                    parts.push(PathPart::Index(Box::new(alloc, index)?))?;
-                    rest = &**next;
+        'along: loop {
+            match peeled_path(alloc, rest)? {
+                PathPeel::Ended => return closed_path(alloc, fronts),
+                PathPeel::Last(front, next) => {
+                    fronts.push(front)?;
+                    rest = next;
                 }
             }
         }
-        let mut copy = Path::Here;
-        'up: while let Some(part) = parts.pop() {
-            copy = with_part(alloc, part, copy)?;
-        }
-        Ok(copy)
     }
 }
 
-fn with_part(alloc: Global, part: PathPart, rest: Path) -> Result<Path, AllocError>
-    ensures { IfOk result (λ path. path_of path ≡ with_part part (path_of rest)) }
+// A path with its first step copied.
+#[derive(Drop)]
+enum PathPeel<'a> {
+    Ended,
+    Last(PathFront, &'a Path),
+}
+
+#[cycle(copy)]
+fn peeled_path(alloc: Global, path: &Path) -> Result<PathPeel<'_>, AllocError>
+    ensures same { IfOk result (λ peel. peeled_path_in peel ≡ path_of path.now) }
+    ensures smaller { IfOk result (λ peel. RestIsSmaller peel (size-Path path.now)) }
+{
+    match path {
+        Path::Here => Ok(PathPeel::Ended),
+        Path::Field(k, rest) => Ok(PathPeel::Last(PathFront::Field(*k), &**rest)),
+        Path::Index(e, rest) => {
+            let index = e.boxed_copy(alloc)?;
+            Ok(PathPeel::Last(PathFront::Index(index), &**rest))
+        }
+    }
+}
+
+// A path of these steps.
+#[tactic(auto, using(crate::proofs::Fronts::with_steps_push))]
+pub(crate) fn closed_path(alloc: Global, mut fronts: Vec<PathFront>) -> Result<Path, AllocError>
+    ensures { IfOk result (λ path. path_of path ≡ with_steps fronts.items Here) }
+{
+    let mut copy = Path::Here;
+    'back: while let Some(front) = fronts.pop() {
+        copy = whole_path(alloc, front, copy)?;
+    }
+    Ok(copy)
+}
+
+fn whole_path(alloc: Global, front: PathFront, rest: Path) -> Result<Path, AllocError>
+    ensures { IfOk result (λ path. path_of path ≡ with_step front (path_of rest)) }
 {
     let rest = Box::new(alloc, rest)?;
-    match part {
-        PathPart::Field(k) => Ok(Path::Field(k, rest)),
-        PathPart::Index(e) => Ok(Path::Index(e, rest)),
+    match front {
+        PathFront::Field(k) => Ok(Path::Field(k, rest)),
+        PathFront::Index(e) => Ok(Path::Index(e, rest)),
     }
 }

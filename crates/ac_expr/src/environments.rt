@@ -3,18 +3,16 @@
 ghost use Rattle.std.specs.Prelude.{◌≡◌, false, None, map, IfSome, IfNone};
 ghost use Rattle.c_values.specs.Path.{sel};
 ghost use Rattle.c_memory.specs.CodeStep.{step_of};
-ghost use Rattle.ac_expr.specs.Follow.{CanFollow};
+ghost use Rattle.c_values.specs.CodeFollow.{CanFollow};
 ghost use Rattle.ac_expr.specs.CodeFault.{Gives};
 ghost use Rattle.c_values.specs.Value.{nothing};
 ghost use Rattle.c_values.specs.CodeValue.{value_of};
-ghost use Rattle.c_memory.specs.CodeParts.{has_parts};
+ghost use Rattle.c_values.specs.CodeParts.{has_parts};
 ghost use Rattle.ac_expr.specs.CodeState.{env_of, globals_of};
 
-use crate::copying::copy_value;
 use crate::faults::EvalFault;
-use crate::selecting::select;
-use c_memory::Step;
-use c_values::{GlobalVar, Value};
+use c_memory::{Step, select};
+use c_values::{GlobalVar, Value, copy_value};
 use std::alloc::Global;
 
 /// Names with values. Of two with one name the last counts.
@@ -74,7 +72,8 @@ pub(crate) fn global_part(
     path: &[Step],
 ) -> Result<Value, EvalFault>
     requires { CanFollow (globals_of vars.now globals.now name.now) (map step_of path.now) }
-    ensures { Gives value_of result (sel (globals_of vars.now globals.now name.now) (map step_of path.now)) None }
+    ensures { Gives value_of result
+        (sel (globals_of vars.now globals.now name.now) (map step_of path.now)) None }
 {
     match global_value(vars, globals, name) {
         Some(value) => Ok(copy_value(alloc, select(value, path))?),

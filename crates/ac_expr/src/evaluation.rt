@@ -2,23 +2,22 @@
 #![tactic(auto, using(crate::proofs::Meeting::met_first, crate::proofs::Meeting::met_second, crate::proofs::Meeting::met_none))]
 
 ghost use Rattle.c_memory.specs.Heap.{IsHeap};
-ghost use Rattle.ac_expr.specs.Heads.{GivesAWord, GivesANumber, IsOrderTest, IsConnective, IsChoice, IsOfAddress, IsOfPart, IsEquality, IsUpdate};
-ghost use Rattle.ac_expr.specs.Code.{exp_of, path_of};
+ghost use Rattle.ac_expr.specs.CodeHeads.{GivesAWord, GivesANumber, IsOrderTest, IsConnective, IsChoice, IsOfAddress, IsOfPart, IsEquality, IsUpdate};
+ghost use Rattle.ac_expr.specs.CodeExpression.{exp_of, path_of};
 ghost use Rattle.ac_expr.specs.CodeScene.{scene_of, ReadyIn, ReadyAlong, GivesValue, GivesWord, GivesNumber, GivesTruth, GivesSteps};
 
-use crate::copying::copy_value;
 use crate::environments::{global_part, variable};
-use crate::equality::same_value;
 use crate::expression::Exp;
 use crate::faults::EvalFault;
 use crate::operations::{arithmetic, cast_word, is_pointer_ok, moved, place_address};
 use crate::paths::Path;
 use crate::scalars::{is_at_most, is_between, is_less, negated, number_in, truth_in, word_in};
 use crate::scene::Scene;
-use crate::selecting::{replace, select};
-use c_memory::{Heap, Step};
+use c_memory::{Heap, Step, replace, select};
 use c_values::views::word;
-use c_values::{Number, Value, Word, int, nat, word_op, word_shift, word_test, word_unary};
+use c_values::{
+    Number, Value, Word, copy_value, int, nat, word_op, word_shift, word_test, word_unary,
+};
 
 impl<H: Heap> Scene<'_, H> {
     /// The value of an expression. Each kind of heads has a function of its own, which isn't inlined: one for all would take as
@@ -272,7 +271,7 @@ impl<H: Heap> Scene<'_, H> {
             Exp::Eq(a, b) => {
                 let a = self.value(a)?;
                 let b = self.value(b)?;
-                Ok(Value::Truth(same_value(&a, &b)))
+                Ok(Value::Truth(a == b))
             }
             _ => unreachable!(),
         }

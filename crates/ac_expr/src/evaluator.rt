@@ -6,7 +6,7 @@ ghost use Rattle.c_memory.specs.Heap.{IsHeap};
 ghost use Rattle.ac_expr.specs.Sort.{sort_of};
 ghost use Rattle.ac_expr.specs.Evaluation.{value};
 ghost use Rattle.ac_expr.specs.Wide.{wide};
-ghost use Rattle.ac_expr.specs.Code.{exp_of};
+ghost use Rattle.ac_expr.specs.CodeExpression.{exp_of};
 ghost use Rattle.ac_expr.specs.CodeState.{env_of, state_of, scope_in, AreScalars, AreOfTypes};
 ghost use Rattle.ac_expr.specs.CodeFault.{IsFault};
 

@@ -71,7 +71,7 @@ pub enum Exp {
     Upd(Box<Exp>, Path, Box<Exp>),
 }
 
-// A derived drop would call itself once for each label of a switch, whose test is an `or` of as many equations.
+// A derived drop would call itself once for each last part, and a text may have long chains of these.
 impl Drop for Exp {
     #[cycle(drop_expression)]
     fn drop(mut self) {
@@ -79,28 +79,32 @@ impl Drop for Exp {
             match self {
                 Exp::Var(_name) => return,
                 Exp::Word(_) | Exp::Number(_) | Exp::Truth(_) => return,
-                Exp::WordBinary(_, _a, _b) => return,
-                Exp::WordShift(_, _a, _n) => return,
-                Exp::WordUnary(_, _a) => return,
-                Exp::WordCompare(_, _a, _b) => return,
-                Exp::Cast(_, _, _a) => return,
-                Exp::ToNat(_a) | Exp::ToInt(_a) | Exp::Negate(_a) | Exp::Not(_a) => return,
-                Exp::ToWord(_, _a) => return,
-                Exp::Arith(_, _a, _b) => return,
-                Exp::Lt(_a, _b) | Exp::Le(_a, _b) | Exp::Eq(_a, _b) => return,
-                Exp::Between(_, _a, _) => return,
+                Exp::WordBinary(_, _a, last) => self = Box::into_inner(last),
+                Exp::WordShift(_, _a, last) => self = Box::into_inner(last),
+                Exp::WordUnary(_, last) => self = Box::into_inner(last),
+                Exp::WordCompare(_, _a, last) => self = Box::into_inner(last),
+                Exp::Cast(_, _, last) | Exp::ToWord(_, last) => self = Box::into_inner(last),
+                Exp::ToNat(last) | Exp::ToInt(last) | Exp::Negate(last) | Exp::Not(last) => {
+                    self = Box::into_inner(last);
+                }
+                Exp::Arith(_, _a, last) => self = Box::into_inner(last),
+                Exp::Lt(_a, last) | Exp::Le(_a, last) | Exp::Eq(_a, last) => self = Box::into_inner(
+                    last,
+                ),
+                Exp::Between(_, last, _) => self = Box::into_inner(last),
                 Exp::And(_a, last) | Exp::Or(_a, last) | Exp::Imp(_a, last) => {
                     self = Box::into_inner(last);
                 }
-                Exp::If(_c, _a, _b) => return,
-                Exp::Padd(_ty, _p, _n) => return,
-                Exp::At(_ty, _p, _path) | Exp::Load(_ty, _p, _path) | Exp::Read(_ty, _p, _path) => {
-                    return;
-                }
-                Exp::Tagged(_ty, _p) | Exp::PtrOk(_ty, _p) => return,
+                Exp::If(_c, _a, last) => self = Box::into_inner(last),
+                Exp::Padd(_ty, _p, last) => self = Box::into_inner(last),
+                Exp::At(_ty, last, _path) | Exp::Load(_ty, last, _path) => self = Box::into_inner(
+                    last,
+                ),
+                Exp::Read(_ty, last, _path) => self = Box::into_inner(last),
+                Exp::Tagged(_ty, last) | Exp::PtrOk(_ty, last) => self = Box::into_inner(last),
                 Exp::Global(_name, _path) => return,
-                Exp::Sel(_whole, _path) => return,
-                Exp::Upd(_whole, _path, _part) => return,
+                Exp::Sel(last, _path) => self = Box::into_inner(last),
+                Exp::Upd(_whole, _path, last) => self = Box::into_inner(last),
             }
         }
     }

@@ -28,7 +28,8 @@ impl<'a> Names<'a> {
 
     /// The same names, and one more.
     pub fn push(&'a self, name: &'a str, scalar: Scalar) -> Names<'a>
-        ensures { names_of result ≡ with_name name.now (Some (scalar_of scalar)) (names_of self.now) }
+        ensures { names_of result ≡ with_name name.now (Some (scalar_of scalar))
+            (names_of self.now) }
     {
         Names::Named(self, name, scalar)
     }

@@ -12,16 +12,14 @@ ghost use Rattle.c_values.specs.CodeValue.{value_of};
 ghost use Rattle.c_memory.specs.CodeStep.{step_of};
 ghost use Rattle.c_memory.specs.Tags.{is_pointer_ok};
 ghost use Rattle.ac_expr.specs.Evaluation.{cast_op, moved, moved_to};
-ghost use Rattle.ac_expr.specs.Code.{cast_op_of};
+ghost use Rattle.ac_expr.specs.CodeExpression.{cast_op_of};
 ghost use Rattle.c_values.specs.Width.{IsWidth};
 ghost use Rattle.ac_expr.specs.Wide.{wide_operation};
 ghost use Rattle.ac_expr.specs.CodeFault.{Gives};
 
-use crate::addresses::element_address;
 use crate::expression::CastOp;
 use crate::faults::EvalFault;
-use crate::places::place_at;
-use c_memory::Step;
+use c_memory::{Step, element_address, place_at};
 use c_values::{
     CType, Layout, Number, NumberOp, Target, Value, Word, address_width, align_of, cast, number_op,
     size_of,
@@ -29,7 +27,8 @@ use c_values::{
 
 /// The value of an operation on numbers.
 pub(crate) fn arithmetic(op: NumberOp, a: Number, b: Number) -> Result<Value, EvalFault>
-    ensures { Gives value_of result (NumberValue (number_op (number_op_of op) a b)) (wide_operation (number_op_of op) a b) }
+    ensures { Gives value_of result (NumberValue (number_op (number_op_of op) a b))
+        (wide_operation (number_op_of op) a b) }
 {
     match number_op(op, a, b) {
         Some(n) => Ok(Value::Number(n)),
@@ -61,7 +60,8 @@ pub(crate) fn moved(l: &Layout, t: &CType, p: Word, n: Number) -> Word
 pub(crate) fn place_address(l: &Layout, t: &CType, p: Word, path: &[Step]) -> Word
     requires object { is_object l.now (type_of t.now) ≡ true }
     requires address { p.bits < space l.now }
-    ensures { Bits result ≡ moved_to l.now p (spot (shape_of l.now (type_of t.now)) (map step_of path.now)) }
+    ensures { Bits result
+        ≡ moved_to l.now p (spot (shape_of l.now (type_of t.now)) (map step_of path.now)) }
 {
     match place_at(l, t, p.bits(), path) {
         Some(place) => pointer(l.target(), place.address),

@@ -6,7 +6,7 @@ ghost use Rattle.c_values.specs.Layout.{shape_of, global_type};
 ghost use Rattle.c_values.specs.Path.{Field, step_spot};
 ghost use Rattle.c_values.specs.CodeTypes.{type_of};
 ghost use Rattle.c_values.specs.CodeValue.{global_of};
-ghost use Rattle.ac_expr.specs.Along.{shape_at, element_in};
+ghost use Rattle.ac_expr.specs.CodeAlong.{shape_at, element_in};
 
 use c_values::{CType, GlobalVar, Layout};
 
@@ -26,7 +26,8 @@ pub(crate) fn member<'a>(l: &'a Layout, t: &'a CType, k: u32) -> Option<&'a CTyp
 
 /// The type of the elements.
 pub(crate) fn element<'a>(l: &Layout, t: &'a CType) -> Option<&'a CType>
-    ensures { option_map (λ u. shape_of l.now (type_of u.now)) result ≡ element_in (shape_of l.now (type_of t.now)) }
+    ensures { option_map (λ u. shape_of l.now (type_of u.now)) result
+        ≡ element_in (shape_of l.now (type_of t.now)) }
 {
     // Its structs are no arrays.
     let _ = l.target();
@@ -39,7 +40,8 @@ pub(crate) fn element<'a>(l: &Layout, t: &'a CType) -> Option<&'a CType>
 
 /// The type of a global, where there is one of the name.
 pub fn global<'a>(globals: &'a [GlobalVar], name: &str) -> Option<&'a CType>
-    ensures { option_map (λ t. type_of t.now) result ≡ global_type (map global_of globals.now) name.now }
+    ensures { option_map (λ t. type_of t.now) result
+        ≡ global_type (map global_of globals.now) name.now }
 {
     for global in globals {
         if global.name.as_str() == name {

@@ -2,7 +2,7 @@
 
 ghost use Rattle.std.specs.Prelude.{◌≡◌};
 ghost use Rattle.ac_expr.specs.Sort.{word_sort_of};
-ghost use Rattle.ac_expr.specs.Code.{kind_of};
+ghost use Rattle.ac_expr.specs.CodeExpression.{kind_of};
 ghost use Rattle.ac_expr.specs.CodeSort.{scalar_of};
 
 use c_values::CType;

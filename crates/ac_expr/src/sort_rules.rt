@@ -7,13 +7,12 @@ ghost use Rattle.c_values.specs.Layout.{IsLayout, is_object, is_complete, shape_
 ghost use Rattle.c_values.specs.CodeTypes.{target_of, type_of};
 ghost use Rattle.c_values.specs.CodeNumber.{number_op_of};
 ghost use Rattle.ac_expr.specs.Sort.{is_width, word_width, is_number, is_truth, is_word_of, is_unary, word_sort, number_sort, truth_sort, where_holds, of_words, of_word, are_same, cast_fits, of_shape, sort_at};
-ghost use Rattle.ac_expr.specs.Along.{parts_type};
-ghost use Rattle.ac_expr.specs.Code.{cast_op_of};
+ghost use Rattle.ac_expr.specs.CodeAlong.{parts_type};
+ghost use Rattle.ac_expr.specs.CodeExpression.{cast_op_of};
 ghost use Rattle.ac_expr.specs.CodeSort.{sort_value};
 
 use crate::expression::CastOp;
 use crate::sort::{Scalar, Sort};
-use crate::types::same_type;
 use c_values::{CType, Layout, NumberOp, Word, address_width, is_object, width_of};
 
 /// The sort of words of so many bits.
@@ -102,7 +101,7 @@ pub fn are_same(a: Option<Sort<'_>>, b: Option<Sort<'_>>) -> bool
             Some(Sort::Parts(_)) | None => false,
         },
         Some(Sort::Parts(t)) => match b {
-            Some(Sort::Parts(u)) => same_type(t, u),
+            Some(Sort::Parts(u)) => t == u,
             Some(Sort::Of(_)) | None => false,
         },
         None => false,
@@ -111,7 +110,8 @@ pub fn are_same(a: Option<Sort<'_>>, b: Option<Sort<'_>>) -> bool
 
 /// Of two words of one width: a word of that width.
 pub(crate) fn word_of_words<'a>(a: Option<Sort<'a>>, b: Option<Sort<'a>>) -> Option<Sort<'a>>
-    ensures { option_map sort_value result ≡ of_words (word_width (option_map sort_value a.entry)) (word_width (option_map sort_value b.entry)) word_sort }
+    ensures { option_map sort_value result ≡ of_words (word_width (option_map sort_value a.entry))
+        (word_width (option_map sort_value b.entry)) word_sort }
 {
     match word_width(a) {
         Some(width) if is_word_of(width, b) => word(width),
@@ -121,7 +121,8 @@ pub(crate) fn word_of_words<'a>(a: Option<Sort<'a>>, b: Option<Sort<'a>>) -> Opt
 
 /// Of two words of one width: a truth value.
 pub(crate) fn truth_of_words<'a>(a: Option<Sort<'a>>, b: Option<Sort<'a>>) -> Option<Sort<'a>>
-    ensures { option_map sort_value result ≡ of_words (word_width (option_map sort_value a.entry)) (word_width (option_map sort_value b.entry)) (λ n. truth_sort) }
+    ensures { option_map sort_value result ≡ of_words (word_width (option_map sort_value a.entry))
+        (word_width (option_map sort_value b.entry)) (λ n. truth_sort) }
 {
     match word_width(a) {
         Some(width) => truth(is_word_of(width, b)),
@@ -131,7 +132,8 @@ pub(crate) fn truth_of_words<'a>(a: Option<Sort<'a>>, b: Option<Sort<'a>>) -> Op
 
 /// Of a word, where a test holds: a word of its width.
 pub(crate) fn word_of_word<'a>(holds: bool, a: Option<Sort<'a>>) -> Option<Sort<'a>>
-    ensures { option_map sort_value result ≡ where_holds holds (of_word (word_width (option_map sort_value a.entry)) word_sort) }
+    ensures { option_map sort_value result
+        ≡ where_holds holds (of_word (word_width (option_map sort_value a.entry)) word_sort) }
 {
     if !holds {
         return None;
@@ -144,14 +146,17 @@ pub(crate) fn word_of_word<'a>(holds: bool, a: Option<Sort<'a>>) -> Option<Sort<
 
 /// Of a word: a number.
 pub(crate) fn number_of_word<'a>(a: Option<Sort<'a>>) -> Option<Sort<'a>>
-    ensures { option_map sort_value result ≡ of_word (word_width (option_map sort_value a.entry)) (λ n. number_sort) }
+    ensures { option_map sort_value result ≡ of_word (word_width (option_map sort_value a.entry))
+        (λ n. number_sort) }
 {
     number(word_width(a).is_some())
 }
 
 /// Of a word: a word of another width.
 pub(crate) fn cast_sort<'a>(op: CastOp, width: u8, a: Option<Sort<'a>>) -> Option<Sort<'a>>
-    ensures { option_map sort_value result ≡ of_word (word_width (option_map sort_value a.entry)) (λ from. where_holds (is_width width && cast_fits (cast_op_of op) from width) (word_sort width)) }
+    ensures { option_map sort_value result ≡ of_word (word_width (option_map sort_value a.entry))
+        (λ from. where_holds (is_width width && cast_fits (cast_op_of op) from width)
+        (word_sort width)) }
 {
     match word_width(a) {
         Some(from) => {
@@ -176,7 +181,9 @@ fn cast_fits(op: CastOp, from: u8, to: u8) -> bool
 
 /// Of a number: a word.
 pub(crate) fn word_of_number<'a>(width: u8, a: Option<Sort<'a>>) -> Option<Sort<'a>>
-    ensures { option_map sort_value result ≡ where_holds (is_width width && is_number (option_map sort_value a.entry)) (word_sort width) }
+    ensures { option_map sort_value result
+        ≡ where_holds (is_width width && is_number (option_map sort_value a.entry))
+        (word_sort width) }
 {
     if is_width(width) && is_number(a) {
         word(width)
@@ -197,7 +204,8 @@ pub(crate) fn is_unary(op: NumberOp) -> bool
 
 // The sort of what lies at a place of a type.
 fn sort_at<'a>(l: &Layout, t: &'a CType) -> Option<Sort<'a>>
-    ensures { is_complete (shape_of l.now (type_of t.now)) ≡ true → option_map sort_value result ≡ sort_at (shape_of l.now (type_of t.now)) }
+    ensures { is_complete (shape_of l.now (type_of t.now)) ≡ true → option_map sort_value result
+        ≡ sort_at (shape_of l.now (type_of t.now)) }
 {
     let target = l.target();
     match t {
@@ -211,14 +219,16 @@ fn sort_at<'a>(l: &Layout, t: &'a CType) -> Option<Sort<'a>>
 
 /// Whether a root can be of a type: it is a complete object type, and the address has a pointer's width.
 pub fn is_root(l: &Layout, t: &CType, address: Option<Sort<'_>>) -> bool
-    ensures { result ≡ (is_object l.now (type_of t.now) && is_word_of (address_width l.now.target) (option_map sort_value address.entry)) }
+    ensures { result ≡ (is_object l.now (type_of t.now) && is_word_of (address_width l.now.target)
+        (option_map sort_value address.entry)) }
 {
     is_object(l, t) && is_word_of(address_width(l.target()), address)
 }
 
 /// The sort of a word.
 pub(crate) fn literal<'a>(w: Word) -> Option<Sort<'a>>
-    ensures { option_map sort_value result ≡ where_holds (is_width w.width && nat_lt w.bits (2 ^ w.width)) (word_sort w.width) }
+    ensures { option_map sort_value result
+        ≡ where_holds (is_width w.width && nat_lt w.bits (2 ^ w.width)) (word_sort w.width) }
 {
     // Its bits are those of its width.
     let _ = w.bits();
@@ -228,7 +238,8 @@ pub(crate) fn literal<'a>(w: Word) -> Option<Sort<'a>>
 /// The sort of the address of a part, where a test holds and there is a part.
 pub(crate) fn address_sort<'a>(holds: bool, part: Option<&CType>, l: &Layout) -> Option<Sort<'a>>
     ensures { option_map sort_value result ≡ where_holds holds (of_shape
-        (option_map (λ u. shape_of l.now (type_of u.now)) part.entry) (λ s. word_sort (address_width l.now.target))) }
+        (option_map (λ u. shape_of l.now (type_of u.now)) part.entry)
+        (λ s. word_sort (address_width l.now.target))) }
 {
     if holds && part.is_some() {
         word(address_width(l.target()))
@@ -239,9 +250,12 @@ pub(crate) fn address_sort<'a>(holds: bool, part: Option<&CType>, l: &Layout) ->
 
 /// The sort of a part of a complete type, where a test holds and there is a part.
 pub fn part_sort<'a>(holds: bool, part: Option<&'a CType>, l: &Layout) -> Option<Sort<'a>>
-    ensures sort { (holds ≡ true → IfSome (option_map (λ u. shape_of l.now (type_of u.now)) part.entry) (λ s. is_complete s ≡ true)) →
+    ensures sort { (holds ≡ true →
+        IfSome (option_map (λ u. shape_of l.now (type_of u.now)) part.entry)
+        (λ s. is_complete s ≡ true)) →
         option_map sort_value result
-        ≡ where_holds holds (of_shape (option_map (λ u. shape_of l.now (type_of u.now)) part.entry) sort_at) }
+        ≡ where_holds holds
+        (of_shape (option_map (λ u. shape_of l.now (type_of u.now)) part.entry) sort_at) }
     ensures layout { IsLayout l.now }
 {
     let _ = l.target();
@@ -256,7 +270,8 @@ pub fn part_sort<'a>(holds: bool, part: Option<&'a CType>, l: &Layout) -> Option
 
 /// The type whose parts a sort is of.
 pub(crate) fn parts_in<'a>(sort: Option<Sort<'a>>) -> Option<&'a CType>
-    ensures { option_map (λ t. type_of t.now) result ≡ parts_type (option_map sort_value sort.entry) }
+    ensures { option_map (λ t. type_of t.now) result
+        ≡ parts_type (option_map sort_value sort.entry) }
 {
     match sort {
         Some(Sort::Parts(t)) => Some(t),
@@ -271,7 +286,8 @@ pub(crate) fn where_same<'a>(
     sort: Option<Sort<'a>>,
 ) -> Option<Sort<'a>>
     ensures { option_map sort_value result ≡ where_holds
-        (are_same (option_map sort_value a.entry) (option_map sort_value b.entry)) (option_map sort_value sort.entry) }
+        (are_same (option_map sort_value a.entry) (option_map sort_value b.entry))
+        (option_map sort_value sort.entry) }
 {
     if are_same(a, b) { sort } else { None }
 }

@@ -5,7 +5,7 @@ ghost use Rattle.std.specs.Option.{option_map};
 ghost use Rattle.c_values.specs.Layout.{shape_of};
 ghost use Rattle.c_values.specs.CodeTypes.{type_of};
 ghost use Rattle.ac_expr.specs.Sort.{sort_of, shape_along, is_one_step, is_truth};
-ghost use Rattle.ac_expr.specs.Code.{exp_of, path_of};
+ghost use Rattle.ac_expr.specs.CodeExpression.{exp_of, path_of};
 ghost use Rattle.ac_expr.specs.CodeSort.{sort_value, scope_of};
 
 use crate::expression::Exp;
@@ -28,7 +28,8 @@ pub fn sort_of<'a>(
     l: &'a Layout,
     globals: &'a [GlobalVar],
 ) -> Option<Sort<'a>>
-    ensures { option_map sort_value result ≡ sort_of (scope_of l.now names.now globals.now) (exp_of e.now) }
+    ensures { option_map sort_value result ≡ sort_of (scope_of l.now names.now globals.now)
+        (exp_of e.now) }
 {
     match e {
         Exp::Var(x) => match names.get(x.as_str()) {
@@ -158,7 +159,8 @@ pub fn along<'a>(
     globals: &'a [GlobalVar],
 ) -> Option<&'a CType>
     ensures { option_map (λ u. shape_of l.now (type_of u.now)) result
-        ≡ shape_along (scope_of l.now names.now globals.now) (path_of path.now) (shape_of l.now (type_of t.now)) }
+        ≡ shape_along (scope_of l.now names.now globals.now) (path_of path.now)
+        (shape_of l.now (type_of t.now)) }
 {
     let mut rest = path;
     let mut whole = t;

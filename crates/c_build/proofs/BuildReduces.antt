@@ -3,9 +3,9 @@ use Rattle.std.proofs.Common.{◌≡◌, true, false, List, ◌∷◌, Some, IfS
 use Rattle.c_grammar.specs.declared.symbol.Production.{Production}
 use Rattle.c_grammar.specs.declared.symbol.Production.TheVariants as ends
 use Rattle.c_grammar.specs.Tree as tree
-use Rattle.c_grammar.specs.Build.{Value, act, OfBracket, OfCall, OfDeclarator, OfDeclarators, OfDimensions, OfEnumerator, OfEnumerators, OfExp, OfExps, OfExternal, OfGroups, OfInit, OfInits, OfItems, OfLabel, OfLabels, OfLocal, OfMembers, OfParam, OfParamName, OfParameters, OfParams, OfRhs, OfSimple, OfStars, OfStart, OfStep, OfStmt, OfTest, OfTop, OfTops, OfType, OfUnit, OfWord, OfWords, Tok}
-use Rattle.c_build.specs.Stacks.{split}
-use Rattle.c_build.specs.Reduce.{reduce}
+use Rattle.c_grammar.specs.CodeBuild.{Value, act, OfBracket, OfCall, OfDeclarator, OfDeclarators, OfDimensions, OfEnumerator, OfEnumerators, OfExp, OfExps, OfExternal, OfGroups, OfInit, OfInits, OfItems, OfLabel, OfLabels, OfLocal, OfMembers, OfParam, OfParamName, OfParameters, OfParams, OfRhs, OfSimple, OfStars, OfStart, OfStep, OfStmt, OfTest, OfTop, OfTops, OfType, OfUnit, OfWord, OfWords, Tok}
+use Rattle.c_build.specs.CodeStacks.{split}
+use Rattle.c_build.specs.CodeReduce.{reduce}
 
 pub reduces : (p : Production) (vs : List Value) → IfSome (act p vs) (λ ws. reduce p (split vs) ≡ Some (split ws))
 unfolding act

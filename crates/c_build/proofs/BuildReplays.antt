@@ -2,13 +2,13 @@
 use Rattle.std.proofs.Common.{◌≡◌, List, [], ◌∷◌, Option, Some, None, IfSome, ap}
 use Rattle.std.specs.Option.{option_map}
 use Rattle.c_lex.specs.Lexeme.{Lexeme}
-use Rattle.c_grammar.specs.declared.script.Step.{Step}
-use Rattle.c_grammar.specs.declared.script.Step.TheVariants.{Shift, Reduce}
+use Rattle.c_grammar.specs.declared.scripts.Step.{Step}
+use Rattle.c_grammar.specs.declared.scripts.Step.TheVariants.{Shift, Reduce}
 use Rattle.c_grammar.specs.Tree.{External}
-use Rattle.c_grammar.specs.Build.{Value, Tok, OfUnit, act}
-use Rattle.c_grammar.specs.Script.{replay}
-use Rattle.c_build.specs.Stacks.{Stacks, split, put, empty}
-use Rattle.c_build.specs.Reduce.{reduce, rebuild}
+use Rattle.c_grammar.specs.CodeBuild.{Value, Tok, OfUnit, act}
+use Rattle.c_grammar.specs.CodeScript.{replay}
+use Rattle.c_build.specs.CodeStacks.{Stacks, split, put, empty}
+use Rattle.c_build.specs.CodeReduce.{reduce, rebuild}
 use Rattle.c_build.proofs.BuildReduces.{reduces}
 
 goes_on : (ss : List Step) (ts : List Lexeme) (ws : List Value) (o : Option (List Value)) (r : Option Stacks) →

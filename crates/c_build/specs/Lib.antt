@@ -1,3 +1,3 @@
-pub mod Stacks
-pub mod Reduce
-pub mod StacksOf
+pub mod CodeStacks
+pub mod CodeReduce
+pub mod CodeStacksOf

@@ -3,14 +3,14 @@
 ghost use Rattle.std.specs.Prelude.{◌≡◌, [], ◌∷◌, IfOk, List, MatchResult, None, Some};
 ghost use Rattle.std.specs.Option.{option_map};
 ghost use Rattle.c_lex.specs.Lexeme.{lexemes_of};
-ghost use Rattle.c_grammar.specs.declared.script.Step.{Step as Steps};
-ghost use Rattle.c_grammar.specs.Build.{OfUnit};
-ghost use Rattle.c_grammar.specs.Script.{replay};
+ghost use Rattle.c_grammar.specs.declared.scripts.Step.{Step as Steps};
+ghost use Rattle.c_grammar.specs.CodeBuild.{OfUnit};
+ghost use Rattle.c_grammar.specs.CodeScript.{replay};
 ghost use Rattle.c_grammar.specs.Tree.{External};
-ghost use Rattle.c_grammar.specs.View.{unit_of};
-ghost use Rattle.c_build.specs.Reduce.{rebuild};
-ghost use Rattle.c_build.specs.Stacks.{empty, put};
-ghost use Rattle.c_build.specs.StacksOf.{stacks_of};
+ghost use Rattle.c_grammar.specs.CodeTree.{unit_of};
+ghost use Rattle.c_build.specs.CodeReduce.{rebuild};
+ghost use Rattle.c_build.specs.CodeStacks.{empty, put};
+ghost use Rattle.c_build.specs.CodeStacksOf.{stacks_of};
 
 mod declarators;
 mod externals;
@@ -24,7 +24,7 @@ mod statements;
 mod tokens;
 mod types;
 
-use c_grammar::script::Step;
+use c_grammar::Step;
 use c_grammar::tree::Unit;
 use c_lex::Token;
 use stack::BuildFault;
@@ -39,8 +39,11 @@ fn follow<'a>(
     rest: &'a [Token],
 ) -> Result<&'a [Token], BuildFault>
     ensures { MatchResult result
-        (λ left. (steps : List Steps) → rebuild (step ∷ steps) (lexemes_of rest.now) (stacks_of stacks.old) ≡ rebuild steps (lexemes_of left.now) (stacks_of stacks.new))
-        (λ e. e ≡ BuildFault.Missing → (steps : List Steps) → rebuild (step ∷ steps) (lexemes_of rest.now) (stacks_of stacks.old) ≡ None) }
+        (λ left. (steps : List Steps) →
+        rebuild (step ∷ steps) (lexemes_of rest.now) (stacks_of stacks.old)
+        ≡ rebuild steps (lexemes_of left.now) (stacks_of stacks.new))
+        (λ e. e ≡ BuildFault.Missing → (steps : List Steps) →
+        rebuild (step ∷ steps) (lexemes_of rest.now) (stacks_of stacks.old) ≡ None) }
 {
     match step {
         Step::Shift => {
@@ -73,7 +76,9 @@ fn run<'a>(alloc: Global, steps: &[Step], tokens: &'a [Token]) -> Result<Stacks<
 
 /// The tree that stands alone on the stacks after all steps.
 fn tree_of(alloc: Global, steps: &[Step], tokens: &[Token]) -> Result<Unit, BuildFault>
-    ensures { (exts : List External) → rebuild steps.now (lexemes_of tokens.now) empty ≡ Some (put (OfUnit exts) empty) → MatchResult result (λ unit. unit_of unit ≡ exts) (λ e. e ≡ BuildFault.Memory) }
+    ensures { (exts : List External) → rebuild steps.now (lexemes_of tokens.now) empty
+        ≡ Some (put (OfUnit exts) empty) → MatchResult result (λ unit. unit_of unit ≡ exts)
+        (λ e. e ≡ BuildFault.Memory) }
 {
     let mut stacks = run(alloc, steps, tokens)?;
     let externals = stacks.externals.texts.pop()?;
@@ -85,7 +90,8 @@ fn tree_of(alloc: Global, steps: &[Step], tokens: &[Token]) -> Result<Unit, Buil
 /// The tree of a script, where its steps leave one.
 #[tactic(auto, using(crate::proofs::BuildReplays::built))]
 pub fn build(alloc: Global, steps: &[Step], tokens: &[Token]) -> Result<Option<Unit>, AllocError>
-    ensures { (exts : List External) → replay steps.now (lexemes_of tokens.now) [] ≡ Some (OfUnit exts ∷ []) → IfOk result (λ found. option_map unit_of found ≡ Some exts) }
+    ensures { (exts : List External) → replay steps.now (lexemes_of tokens.now) []
+        ≡ Some (OfUnit exts ∷ []) → IfOk result (λ found. option_map unit_of found ≡ Some exts) }
 {
     match tree_of(alloc, steps, tokens) {
         Ok(unit) => Ok(Some(unit)),

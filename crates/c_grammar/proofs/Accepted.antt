@@ -7,10 +7,10 @@ use Rattle.c_grammar.specs.declared.symbol.Symbol.TheVariants as symbol
 use Rattle.c_grammar.specs.Tree.{Name, External}
 use Rattle.c_grammar.specs.Spells as spells
 use Rattle.c_grammar.specs.Spells.{Spells}
-use Rattle.c_grammar.specs.Choice.{Choice, Refuse, Pass, Take, choice_of}
-use Rattle.c_grammar.specs.Build.{Value, Tok, OfUnit, act, acts}
-use Rattle.c_grammar.specs.Stack.{State, go, read, run, settle, advance, finish, is_type, noted, made_behind, next_behind}
-use Rattle.c_grammar.specs.Accepts.{Stage, drop_ends, forward, is_complete, accepts, first_stage}
+use Rattle.c_grammar.specs.CodeChoice.{Choice, Refuse, Pass, Take, choice_of}
+use Rattle.c_grammar.specs.CodeBuild.{Value, Tok, OfUnit, act, acts}
+use Rattle.c_grammar.specs.CodeStack.{State, go, read, run, settle, advance, finish, is_type, noted, made_behind, next_behind}
+use Rattle.c_grammar.specs.CodeAccepts.{Stage, drop_ends, forward, is_complete, accepts, first_stage}
 use Rattle.c_grammar.proofs.Steps.{false≢true}
 use Rattle.c_grammar.proofs.Means.{plain, made_true, made_false, externals, same, All, nil, cons, Sound, parts}
 use Rattle.c_grammar.proofs.Sound.{sound}

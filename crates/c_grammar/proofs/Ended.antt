@@ -17,9 +17,9 @@ use Rattle.c_grammar.specs.declared.symbol.Production.TheVariants as ends
 use Rattle.c_grammar.specs.declared.symbol.Symbol.{Symbol}
 use Rattle.c_grammar.specs.declared.symbol.Symbol.TheVariants as symbol
 use Rattle.c_grammar.specs.Operators.{level, add, complete}
-use Rattle.c_grammar.specs.Choice as choice
-use Rattle.c_grammar.specs.Choice.{Choice, Refuse, Pass, Take, choice_of, take, and_then, only_if, least, may_open_type, starts_type}
-use Rattle.c_grammar.specs.Written.{ended_by, ended_before}
+use Rattle.c_grammar.specs.CodeChoice as choice
+use Rattle.c_grammar.specs.CodeChoice.{Choice, Refuse, Pass, Take, choice_of, take, and_then, only_if, least, may_open_type, starts_type}
+use Rattle.c_grammar.specs.CodeWritten.{ended_by, ended_before}
 
 abbrev pub listed : Option Production → List Production
 listed None = []

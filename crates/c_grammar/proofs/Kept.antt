@@ -6,7 +6,7 @@ use Rattle.std.proofs.lemmas.Bool.{eqb-true, eq-eqb}
 use lib.Pointwise.{pointwise}
 use Rattle.std.specs.Prelude.{nat_eq}
 use Rattle.c_grammar.specs.Tree.{Name}
-use Rattle.c_grammar.specs.Names.{made_of, next_of}
+use Rattle.c_grammar.specs.CodeNames.{made_of, next_of}
 use Rattle.c_grammar.specs.Operators.{is_made}
 
 map_one : {X : Type 0} (f : X → Name) (xs : List X) (x : X) → map f (xs ++ x ∷ []) ≡ map f xs ++ f x ∷ []

@@ -16,8 +16,8 @@ use Rattle.c_grammar.specs.Tree.{Name, Exp, Words, Members, Declarators, Declara
 use Rattle.c_grammar.specs.Operators.{is_made}
 use Rattle.c_grammar.specs.Spells as spells
 use Rattle.c_grammar.specs.Spells.{token, named, mark, reserved, names_of, names_after, SpellsStars, SpellsExp, SpellsWords, SpellsMembers, SpellsDeclarators, SpellsDeclarator, SpellsDimensions, SpellsEnumerators, SpellsEnumerator, SpellsExps, SpellsArguments, SpellsRhs, SpellsSimple, SpellsInit, SpellsInits, SpellsLabels, SpellsStart, SpellsTest, SpellsStep, SpellsStmt, SpellsItems, SpellsGroups, SpellsBracket, SpellsParam, SpellsParams, SpellsParameters, SpellsTop, SpellsTops, SpellsDeclared, SpellsExternal, SpellsUnit}
-use Rattle.c_grammar.specs.Choice.{Choice, Refuse, Pass, Take, least, and_then, only_if}
-use Rattle.c_grammar.specs.Stack.{noted, made_behind, next_behind}
+use Rattle.c_grammar.specs.CodeChoice.{Choice, Refuse, Pass, Take, least, and_then, only_if}
+use Rattle.c_grammar.specs.CodeStack.{noted, made_behind, next_behind}
 
 pub data IsMark (p : Punct) : List Lexeme → List Lexeme → Type 0 where
   is_mark : {a z : ℕ} {s : List Lexeme} → IsMark p (mark p a z ∷ s) s

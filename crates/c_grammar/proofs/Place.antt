@@ -3,7 +3,7 @@ use Rattle.std.proofs.Common.{ℕ, ◌≡◌, List, [], ◌∷◌, ◌++◌, Opt
 use Rattle.c_lex.specs.Lexeme.{Lexeme}
 use Rattle.c_grammar.specs.declared.fault.ScriptFault.{ScriptFault}
 use Rattle.c_grammar.specs.declared.fault.ScriptFault.TheVariants.{Syntax, Memory}
-use Rattle.c_grammar.specs.Accepts.{Stage, forward, accepts, first_stage, stop}
+use Rattle.c_grammar.specs.CodeAccepts.{Stage, forward, accepts, first_stage, stop}
 use Rattle.c_grammar.specs.Faults.{IsAt}
 use Rattle.c_grammar.specs.Place.{end_of, IsPlace, at_token, at_end, IsPlaced}
 use Rattle.c_grammar.proofs.Accepted.{has_no_tree}

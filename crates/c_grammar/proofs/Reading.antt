@@ -12,9 +12,9 @@ use Rattle.c_grammar.specs.declared.symbol.Symbol.TheVariants as symbol
 use Rattle.c_grammar.specs.Tree.{Name, Exp, TypeName, Words, Members, Declarators, Declarator, Dimensions, Enumerators, Enumerator}
 use Rattle.c_grammar.specs.Operators.{level}
 use Rattle.c_grammar.specs.Spells.{SpellsExp, SpellsType, SpellsWords, SpellsStars, SpellsMembers, SpellsDeclarators, SpellsDeclarator, SpellsDimensions, SpellsEnumerators, SpellsEnumerator, looser, variable, number_constant, character_constant, parenthesis, index, member, pointer_member, unary, sizeof_value, sizeof_type, cast, binary, conditional, typed, no_words, plain_word, type_name, struct_tag, struct_body, tagged_struct, enum_tag, enum_body, tagged_enum, last_member, more_members, last_declarator, more_declarators, declare, no_dimensions, more_dimensions, last_enumerator, last_enumerator_comma, more_enumerators, implicit, explicit, no_stars, star, star_const, mark}
-use Rattle.c_grammar.specs.Choice.{choice_of, least, end, declarator}
-use Rattle.c_grammar.specs.Build.{Value, Tok, OfExp, OfType, OfWords, OfMembers, OfDeclarators, OfDeclarator, OfDimensions, OfStars, OfEnumerators, OfEnumerator, act}
-use Rattle.c_grammar.specs.Stack.{go}
+use Rattle.c_grammar.specs.CodeChoice.{choice_of, least, end, declarator}
+use Rattle.c_grammar.specs.CodeBuild.{Value, Tok, OfExp, OfType, OfWords, OfMembers, OfDeclarators, OfDeclarator, OfDimensions, OfStars, OfEnumerators, OfEnumerator, act}
+use Rattle.c_grammar.specs.CodeStack.{go}
 use Rattle.c_grammar.proofs.Steps.{ended_by, rank, same_level, rank_least, needs, takes, le_more, le_trans, le_zero, le_next, not_below, level_small, needs_sign, gap, tail_level, tail_nothing, tail_sized, takes_identifier, takes_variable, takes_unary, takes_sizeof, takes_index, takes_dot, takes_arrow, takes_binary, takes_question, opens_value, opens_type, opens_cast, cast_rest, type_starts, value_starts, ends_words, ends_stars, stars_end, declarators_end, words_are_no_brace, passes_words, passes_stars, passes_struct, passes_enum, takes_tag, takes_enum_tag, takes_word, takes_type_name, opens_members, opens_more_members, members_start, ends_dimensions, passes_dimensions, takes_enumerator, ends_enumerator, enumerator_needs, passes_enum_value, enumerators_next}
 
 pub reads_stars : {f : Bool} {ats : List ℕ} {s t : List Lexeme} → SpellsStars f ats s t → (ns next : List Name) (K : List Symbol) (vs : List Value) → ends_stars t ≡ true → go ns next (symbol.Stars f ∷ K) vs s ≡ go ns next K (OfStars ats ∷ vs) t

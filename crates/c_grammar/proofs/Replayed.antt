@@ -1,19 +1,19 @@
 -- The script of a text that is read gives what is read.
 use Rattle.std.proofs.Common.{◌≡◌, true, List, [], ◌∷◌, ◌++◌, Option, Some, None, refl, sym, ap, ◌∙◌, append_assoc, subst}
 use Rattle.c_lex.specs.Lexeme.{Lexeme}
-use Rattle.c_grammar.specs.declared.script.Step.{Step}
-use Rattle.c_grammar.specs.declared.script.Step.TheVariants.{Shift, Reduce}
+use Rattle.c_grammar.specs.declared.scripts.Step.{Step}
+use Rattle.c_grammar.specs.declared.scripts.Step.TheVariants.{Shift, Reduce}
 use Rattle.c_grammar.specs.declared.symbol.Production.{Production}
 use Rattle.c_grammar.specs.declared.symbol.Symbol.{Symbol}
 use Rattle.c_grammar.specs.declared.symbol.Symbol.TheVariants as symbol
 use Rattle.c_grammar.specs.Tree.{Name, External}
 use Rattle.c_grammar.specs.Spells.{Spells}
-use Rattle.c_grammar.specs.Choice.{Choice, Refuse, Pass, Take, choice_of}
-use Rattle.c_grammar.specs.Build.{Value, Tok, OfUnit, act, acts}
-use Rattle.c_grammar.specs.Script.{replay}
-use Rattle.c_grammar.specs.Stack.{State, go, read, run, settle, advance, finish, is_type, noted, made_behind, next_behind}
-use Rattle.c_grammar.specs.Accepts.{drop_ends, forward, accepts, first_stage}
-use Rattle.c_grammar.specs.Written.{script, token_steps, end_steps, last_steps, reduces, reduces_one, ended_by, ended_before}
+use Rattle.c_grammar.specs.CodeChoice.{Choice, Refuse, Pass, Take, choice_of}
+use Rattle.c_grammar.specs.CodeBuild.{Value, Tok, OfUnit, act, acts}
+use Rattle.c_grammar.specs.CodeScript.{replay}
+use Rattle.c_grammar.specs.CodeStack.{State, go, read, run, settle, advance, finish, is_type, noted, made_behind, next_behind}
+use Rattle.c_grammar.specs.CodeAccepts.{drop_ends, forward, accepts, first_stage}
+use Rattle.c_grammar.specs.CodeWritten.{script, token_steps, end_steps, last_steps, reduces, reduces_one, ended_by, ended_before}
 use Rattle.c_grammar.proofs.Accepted.{bare, has_tree}
 use Rattle.c_grammar.proofs.Ended.{Ends, listed, told}
 use Rattle.c_grammar.proofs.Texts.{is_read}

@@ -3,10 +3,10 @@ use Rattle.std.proofs.Common.{◌≡◌, true, List, [], ◌∷◌, Some, refl, 
 use Rattle.c_lex.specs.Lexeme.{Lexeme}
 use Rattle.c_grammar.specs.Tree.{External}
 use Rattle.c_grammar.specs.Spells.{Spells}
-use Rattle.c_grammar.specs.Choice.{choice_of}
-use Rattle.c_grammar.specs.Build.{OfUnit, act}
-use Rattle.c_grammar.specs.Stack.{read, go}
-use Rattle.c_grammar.specs.Accepts.{accepts, first_stage}
+use Rattle.c_grammar.specs.CodeChoice.{choice_of}
+use Rattle.c_grammar.specs.CodeBuild.{OfUnit, act}
+use Rattle.c_grammar.specs.CodeStack.{read, go}
+use Rattle.c_grammar.specs.CodeAccepts.{accepts, first_stage}
 use Rattle.c_grammar.specs.Examples.{dangling_else, inner_else, levels, left_sum, without_typedef, difference, with_typedef, cast}
 use Rattle.c_grammar.proofs.Texts.{is_read}
 use Rattle.c_grammar.proofs.Accepted.{has_tree}

@@ -5,8 +5,8 @@ use Rattle.c_grammar.specs.declared.symbol.Symbol.{Symbol}
 use Rattle.c_grammar.specs.declared.symbol.Symbol.TheVariants as symbol
 use Rattle.c_grammar.specs.Tree.{Name}
 use Rattle.c_grammar.specs.Spells.{token}
-use Rattle.c_grammar.specs.Choice.{choice_of}
-use Rattle.c_grammar.specs.Stack.{is_type}
+use Rattle.c_grammar.specs.CodeChoice.{choice_of}
+use Rattle.c_grammar.specs.CodeStack.{is_type}
 use Rattle.c_grammar.proofs.Means.{same, plain, made_true, made_false, Sound}
 use Rattle.c_grammar.proofs.SoundExpressions.{words_sound, operand_sound, opened_sound, tail_sound, arguments_sound, arguments_more_sound}
 use Rattle.c_grammar.proofs.SoundTypes.{struct_tag_sound, struct_body_sound, enum_tag_sound, enum_body_sound, members_sound, members_more_sound, declarators_more_sound, stars_sound, dimensions_sound, enumerators_sound, enum_value_sound, enum_more_sound, enum_next_sound}

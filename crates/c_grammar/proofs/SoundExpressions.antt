@@ -22,9 +22,9 @@ use Rattle.c_grammar.specs.Tree.{Name, Exp, Words, Call}
 use Rattle.c_grammar.specs.Operators.{unary_sign, binary_sign, update_of, level, add, complete, is_made}
 use Rattle.c_grammar.specs.Spells as spells
 use Rattle.c_grammar.specs.Spells.{token, named, mark, reserved, SpellsExp, SpellsArguments, SpellsCall}
-use Rattle.c_grammar.specs.Choice as choice
-use Rattle.c_grammar.specs.Choice.{Refuse, Pass, take, least, expression}
-use Rattle.c_grammar.specs.Stack.{is_type}
+use Rattle.c_grammar.specs.CodeChoice as choice
+use Rattle.c_grammar.specs.CodeChoice.{Refuse, Pass, take, least, expression}
+use Rattle.c_grammar.specs.CodeStack.{is_type}
 use Rattle.c_grammar.proofs.Steps.{false≢true, le_trans, le_zero, level_small}
 use Rattle.c_grammar.proofs.Means.{IsName, is_mark, is_name, same, Means, plain, All, nil, cons, Sound, then_sound, if_sound, only_sound, loosen}
 

@@ -12,9 +12,9 @@ use Rattle.c_grammar.specs.Tree.{Name, Words, Declarator, Bracket, Param, Top}
 use Rattle.c_grammar.specs.Operators.{is_made}
 use Rattle.c_grammar.specs.Spells as spells
 use Rattle.c_grammar.specs.Spells.{token, named, mark, reserved, declared, name_of, names_of, SpellsStars, SpellsWords, SpellsDeclarator, SpellsBracket, SpellsParam, SpellsTop, SpellsUnit}
-use Rattle.c_grammar.specs.Choice as choice
-use Rattle.c_grammar.specs.Choice.{Refuse, Pass, Take, take, expression, parameter_rest, next_top, first_top}
-use Rattle.c_grammar.specs.Stack.{is_type}
+use Rattle.c_grammar.specs.CodeChoice as choice
+use Rattle.c_grammar.specs.CodeChoice.{Refuse, Pass, Take, take, expression, parameter_rest, next_top, first_top}
+use Rattle.c_grammar.specs.CodeStack.{is_type}
 use Rattle.c_grammar.proofs.Means.{is_mark, is_word, is_name, same, MayHaveParameters, without_parameters, with_parameters, MayHaveValue, without_value, with_value, MayHaveName, without_name, with_name, Means, plain, new_name, top_more, typedef_tops, first_tops, first_parameters, first_rest, made_true, made_false, externals, All, nil, cons, Sound, then_sound, if_sound}
 use Rattle.c_grammar.proofs.SoundExpressions.{words_sound, operand_sound}
 
@@ -185,10 +185,10 @@ parameter_bracket_sound ns next (punct sign.LeftBracket) a z = λ s u ns2 next2 
 parameter_bracket_sound ns next k a z = λ s. plain (tree.NoBracket, spells.no_bracket)
 
 open_bracket_row : {ns next ns2 next2 : List Name} {s u : List Lexeme} (a z : ℕ) → All ns next (symbol.End ends.OpenBracket ∷ []) s u ns2 next2 → Means ns next symbol.BracketRest (mark sign.RightBracket a z ∷ s) u ns2 next2
-open_bracket_row a z (cons (plain same) nil) = plain (λ a1 z1. (tree.OpenBracket, spells.open_bracket))
+open_bracket_row a z (cons (plain same) nil) = plain (λ a1 z1. (tree.OpenBracket a1, spells.open_bracket))
 
 sized_bracket_row : {ns next ns1 next1 ns2 next2 : List Name} {s m u : List Lexeme} (x : Lexeme) → Means ns next (expression false 0) (x ∷ s) m ns1 next1 → All ns1 next1 (symbol.RightBracket ∷ symbol.End ends.SizedBracket ∷ []) m u ns2 next2 → Means ns next symbol.BracketRest (x ∷ s) u ns2 next2
-sized_bracket_row x (plain f) (cons (plain is_mark) (cons (plain same) nil)) = let p = f refl in plain (λ a1 z1. (tree.SizedBracket p.0, spells.sized_bracket p.1))
+sized_bracket_row x (plain f) (cons (plain is_mark) (cons (plain same) nil)) = let p = f refl in plain (λ a1 z1. (tree.SizedBracket a1 p.0, spells.sized_bracket p.1))
 
 pub bracket_rest_sound : (ns next : List Name) (k : Kind) (a z : ℕ) → Sound ns next symbol.BracketRest (token k a z) (choice.bracket_rest (is_type ns k) k)
 bracket_rest_sound ns next (punct sign.RightBracket) a z = λ s u ns2 next2 all. open_bracket_row a z all

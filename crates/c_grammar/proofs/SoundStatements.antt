@@ -12,9 +12,9 @@ use Rattle.c_grammar.specs.Tree as tree
 use Rattle.c_grammar.specs.Tree.{Name, Words}
 use Rattle.c_grammar.specs.Spells as spells
 use Rattle.c_grammar.specs.Spells.{token, mark, reserved}
-use Rattle.c_grammar.specs.Choice as choice
-use Rattle.c_grammar.specs.Choice.{expression, declarator, local_rest, condition}
-use Rattle.c_grammar.specs.Stack.{is_type}
+use Rattle.c_grammar.specs.CodeChoice as choice
+use Rattle.c_grammar.specs.CodeChoice.{expression, declarator, local_rest, condition}
+use Rattle.c_grammar.specs.CodeStack.{is_type}
 use Rattle.c_grammar.proofs.Means.{is_mark, is_word, is_name, same, Means, plain, All, nil, cons, Sound, then_sound, if_sound, any}
 use Rattle.c_grammar.proofs.SoundExpressions.{words_sound, operand_sound}
 

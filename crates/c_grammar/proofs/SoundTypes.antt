@@ -11,9 +11,9 @@ use Rattle.c_grammar.specs.Tree.{Name, Words}
 use Rattle.c_grammar.specs.Operators.{is_made}
 use Rattle.c_grammar.specs.Spells as spells
 use Rattle.c_grammar.specs.Spells.{token, named, mark, reserved}
-use Rattle.c_grammar.specs.Choice as choice
-use Rattle.c_grammar.specs.Choice.{Refuse, take, expression, declarator}
-use Rattle.c_grammar.specs.Stack.{is_type}
+use Rattle.c_grammar.specs.CodeChoice as choice
+use Rattle.c_grammar.specs.CodeChoice.{Refuse, take, expression, declarator}
+use Rattle.c_grammar.specs.CodeStack.{is_type}
 use Rattle.c_grammar.proofs.Means.{is_mark, is_name, same, Means, plain, All, nil, cons, Sound, then_sound, if_sound}
 use Rattle.c_grammar.proofs.SoundExpressions.{words_sound}
 

@@ -20,9 +20,9 @@ use Rattle.c_grammar.specs.Tree.{Name, Exp, Call, Rhs, Simple, Init, Local, Labe
 use Rattle.c_grammar.specs.Operators.{unary_sign, update_of, step_sign}
 use Rattle.c_grammar.specs.Spells as spells
 use Rattle.c_grammar.specs.Spells.{mark, SpellsExp, SpellsExps, SpellsArguments, SpellsCall, SpellsRhs, SpellsSimple, SpellsInits, SpellsLocal, SpellsLabels, SpellsStart, SpellsTest, SpellsStep, SpellsStmt, SpellsItems, SpellsGroups}
-use Rattle.c_grammar.specs.Choice.{Choice, Refuse, Pass, Take, take, choice_of, starts_type, tail, tail_end, operand, expression, end, declarator, words, and_then, only_if, arguments, return_value, for_test, for_start, for_start_rest, for_step, simple, statement, items, items_end, else_part, groups, labels, local_rest}
-use Rattle.c_grammar.specs.Build.{Value, Tok, OfExp, OfExps, OfRhs, OfSimple, OfInits, OfLocal, OfLabels, OfStart, OfTest, OfStep, OfStmt, OfItems, OfGroups, act}
-use Rattle.c_grammar.specs.Stack.{go, is_type, noted}
+use Rattle.c_grammar.specs.CodeChoice.{Choice, Refuse, Pass, Take, take, choice_of, starts_type, tail, tail_end, operand, expression, end, declarator, words, and_then, only_if, arguments, return_value, for_test, for_start, for_start_rest, for_step, simple, statement, items, items_end, else_part, groups, labels, local_rest}
+use Rattle.c_grammar.specs.CodeBuild.{Value, Tok, OfExp, OfExps, OfRhs, OfSimple, OfInits, OfLocal, OfLabels, OfStart, OfTest, OfStep, OfStmt, OfItems, OfGroups, act}
+use Rattle.c_grammar.specs.CodeStack.{go, is_type, noted}
 use Rattle.c_grammar.proofs.Steps.{passes, takes, ended_by, expands, rank, rank_least, needs, needs_kind, starts, false≢true, le_trans, le_zero, closes_zero, tail_nothing, takes_variable, never_passes, operand_takes, first_words_take, value_starts, words_start, ends_words, declarator_ends}
 use Rattle.c_grammar.proofs.Reading.{reads, reads_words, reads_declarator}
 

@@ -21,9 +21,9 @@ use Rattle.c_grammar.specs.Tree as tree
 use Rattle.c_grammar.specs.Tree.{Name, Exp, TypeName, Words, Members, Declarators, Declarator, Dimensions, Enumerators, Enumerator}
 use Rattle.c_grammar.specs.Operators.{unary_sign, binary_sign, level, add, complete, is_made}
 use Rattle.c_grammar.specs.Spells.{SpellsExp, SpellsType, SpellsWords, SpellsStars, SpellsMembers, SpellsDeclarators, SpellsDeclarator, SpellsEnumerators, SpellsEnumerator, looser, variable, number_constant, character_constant, parenthesis, index, member, pointer_member, unary, sizeof_value, sizeof_type, cast, binary, conditional, typed, no_words, plain_word, type_name, struct_tag, struct_body, tagged_struct, enum_tag, enum_body, tagged_enum, last_member, more_members, last_declarator, more_declarators, declare, last_enumerator, last_enumerator_comma, more_enumerators, implicit, explicit, no_stars, star, star_const, named, mark, reserved}
-use Rattle.c_grammar.specs.Choice.{Choice, Refuse, Pass, Take, choice_of, least, starts_type, tail, tail_end, operand, expression, end, unary_choice, binary_choice, declarator, words, stars, dimensions, struct_body as struct_choice, enum_body as enum_choice, enum_value, members_more, word_choice, pass_words, and_then, only_if, may_open_type, open_rest}
-use Rattle.c_grammar.specs.Build.{Value, Tok, OfExp, OfWord, OfWords, OfDimensions, OfStars, OfEnumerator, act, acts, name_in}
-use Rattle.c_grammar.specs.Stack.{go, run, advance, settle, is_type, made_behind, next_behind, noted}
+use Rattle.c_grammar.specs.CodeChoice.{Choice, Refuse, Pass, Take, choice_of, least, starts_type, tail, tail_end, operand, expression, end, unary_choice, binary_choice, declarator, words, stars, dimensions, struct_body as struct_choice, enum_body as enum_choice, enum_value, members_more, word_choice, pass_words, and_then, only_if, may_open_type, open_rest}
+use Rattle.c_grammar.specs.CodeBuild.{Value, Tok, OfExp, OfWord, OfWords, OfDimensions, OfStars, OfEnumerator, act, acts, name_in}
+use Rattle.c_grammar.specs.CodeStack.{go, run, advance, settle, is_type, made_behind, next_behind, noted}
 
 -- settling is what the next token would do first
 pub settled : (ns next : List Name) (stack : List Symbol) (vs : Option (List Value)) (x : Lexeme) (t : List Lexeme) → run (settle ns next stack vs) (x ∷ t) ≡ run (advance ns next x stack vs) t

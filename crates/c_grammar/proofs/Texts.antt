@@ -13,10 +13,10 @@ use Rattle.c_grammar.specs.Tree.{Name, Words, Declarator, Bracket, Param, Top, E
 use Rattle.c_grammar.specs.Operators.{is_made}
 use Rattle.c_grammar.specs.Spells as spells
 use Rattle.c_grammar.specs.Spells.{named, mark, declared, name_of, names_of, names_after, parameters, SpellsDeclarator, SpellsBracket, SpellsParam, SpellsParams, SpellsParameters, SpellsTop, SpellsTops, SpellsDeclared, SpellsExternal, SpellsUnit, Spells}
-use Rattle.c_grammar.specs.Choice as choice
-use Rattle.c_grammar.specs.Choice.{Pass, choice_of, starts_type, operand, expression, end, words, and_then, bracket_rest, parameter_rest, parameter_name, parameter_bracket, top_parameters, top_value, first_top, externals}
-use Rattle.c_grammar.specs.Build.{Value, Tok, OfWords, OfStars, OfDeclarator, OfBracket, OfParamName, OfParam, OfParams, OfParameters, OfTest, OfTop, OfTops, OfExternal, OfUnit, act}
-use Rattle.c_grammar.specs.Stack.{go, read, finish, is_type, made_behind, next_behind}
+use Rattle.c_grammar.specs.CodeChoice as choice
+use Rattle.c_grammar.specs.CodeChoice.{Pass, choice_of, starts_type, operand, expression, end, words, and_then, bracket_rest, parameter_rest, parameter_name, parameter_bracket, top_parameters, top_value, first_top, externals}
+use Rattle.c_grammar.specs.CodeBuild.{Value, Tok, OfWords, OfStars, OfDeclarator, OfBracket, OfParamName, OfParam, OfParams, OfParameters, OfTest, OfTop, OfTops, OfExternal, OfUnit, act}
+use Rattle.c_grammar.specs.CodeStack.{go, read, finish, is_type, made_behind, next_behind}
 use Rattle.c_grammar.proofs.Steps.{passes, takes, ended_by, expands, rank, needs, starts, false≢true, le_zero, le_trans, needs_kind, is_brace, is_star, tail_nothing, operand_takes, first_words_take, words_start, ends_words, ends_stars, ends_dimensions, is_bracket, stars_end, declarator_ends, passes_stars}
 use Rattle.c_grammar.proofs.Reading.{reads, reads_words, reads_stars, reads_dimensions}
 use Rattle.c_grammar.proofs.Statements.{begins_value, value_first, value_begins, reads_items}

@@ -1,6 +1,7 @@
 -- The signs of the operators, how tightly they bind (C99 6.5), and what the words of a type may be (C99 6.7.2).
 use Rattle.std.specs.Prelude.{ℕ, Bool, true, false, List, [], ◌∷◌, Option, Some, None, ◌||◌, nat_eq}
 use lib.Pointwise.{pointwise}
+use Rattle.c_grammar.specs.Levels as levels
 use Rattle.c_lex.specs.declared.token.Keyword.{Keyword}
 use Rattle.c_lex.specs.declared.token.Keyword.TheVariants as word
 use Rattle.c_lex.specs.declared.token.Punct.{Punct}
@@ -63,28 +64,26 @@ abbrev pub step_sign : StepOperator → Punct
 step_sign step.Increment = sign.PlusPlus
 step_sign step.Decrement = sign.MinusMinus
 
--- How tightly an operator binds: 1 is the weakest. An expression has the level of its operator:
--- 0 is `? :`, 11 a cast, 12 an operator before its operand or `sizeof`, 13 a part of a place,
--- 14 what stands by itself, and 15 a name.
+-- How tightly an operator between operands binds.
 abbrev pub level : BinaryOperator → ℕ
-level binary.LogicalOr = 1
-level binary.LogicalAnd = 2
-level binary.Or = 3
-level binary.ExclusiveOr = 4
-level binary.And = 5
-level binary.Equal = 6
-level binary.NotEqual = 6
-level binary.Less = 7
-level binary.Greater = 7
-level binary.LessEqual = 7
-level binary.GreaterEqual = 7
-level binary.ShiftLeft = 8
-level binary.ShiftRight = 8
-level binary.Add = 9
-level binary.Subtract = 9
-level binary.Multiply = 10
-level binary.Divide = 10
-level binary.Remainder = 10
+level binary.LogicalOr = levels.disjunction
+level binary.LogicalAnd = levels.conjunction
+level binary.Or = levels.bits_or
+level binary.ExclusiveOr = levels.bits_exclusive
+level binary.And = levels.bits_and
+level binary.Equal = levels.equality
+level binary.NotEqual = levels.equality
+level binary.Less = levels.comparison
+level binary.Greater = levels.comparison
+level binary.LessEqual = levels.comparison
+level binary.GreaterEqual = levels.comparison
+level binary.ShiftLeft = levels.shift
+level binary.ShiftRight = levels.shift
+level binary.Add = levels.sum
+level binary.Subtract = levels.sum
+level binary.Multiply = levels.product
+level binary.Divide = levels.product
+level binary.Remainder = levels.product
 
 -- what has been seen of a type after one more word, where the word may stand there
 abbrev pub add : Seen → Keyword → Option Seen

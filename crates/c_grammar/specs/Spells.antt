@@ -13,6 +13,7 @@ use Rattle.c_grammar.specs.declared.operator.BinaryOperator.{BinaryOperator}
 use Rattle.c_grammar.specs.declared.operator.StepOperator.{StepOperator}
 use Rattle.c_grammar.specs.declared.symbol.Seen.{Seen}
 use Rattle.c_grammar.specs.declared.symbol.Seen.TheVariants as seen
+use Rattle.c_grammar.specs.Levels as levels
 use Rattle.c_grammar.specs.Tree as tree
 use Rattle.c_grammar.specs.Tree.{Name, Exp, TypeName, Words, Members, Declarators, Declarator, Dimensions, Enumerators, Enumerator, Call, Rhs, Simple, Init, Local, Label, Start, Stmt, Items, Groups, Bracket, Param, Top, External}
 use Rattle.c_grammar.specs.Operators.{unary_sign, binary_sign, update_of, step_sign, level, add, complete, is_made}
@@ -40,19 +41,19 @@ mutual
   -- an expression of a level or a tighter one
   pub data SpellsExp (ns : List Name) : Bool → ℕ → Exp → List Lexeme → List Lexeme → Type 0 where
     looser : {b : Bool} {l : ℕ} {e : Exp} {s t : List Lexeme} → SpellsExp ns b (suc l) e s t → SpellsExp ns b l e s t
-    variable : {n : Name} {b : Bool} {a z : ℕ} {s : List Lexeme} → is_made ns n ≡ false → SpellsExp ns b 15 (tree.Variable a n) (named n a z ∷ s) s
-    number_constant : {b decimal unsigned : Bool} {a value longs z : ℕ} {s : List Lexeme} → SpellsExp ns b 14 (tree.Number a value decimal unsigned longs) (token (number value decimal unsigned longs) a z ∷ s) s
-    character_constant : {b : Bool} {a value z : ℕ} {s : List Lexeme} → SpellsExp ns b 14 (tree.Character a value) (token (character value) a z ∷ s) s
-    parenthesis : {b : Bool} {e : Exp} {s t : List Lexeme} {a1 z1 a z : ℕ} → SpellsExp ns b 0 e s (mark sign.RightParenthesis a1 z1 ∷ t) → SpellsExp ns b 14 (tree.Parenthesis a e) (mark sign.LeftParenthesis a z ∷ s) t
-    index : {b : Bool} {e x : Exp} {s t u : List Lexeme} {a z a1 z1 : ℕ} → SpellsExp ns b 13 e s (mark sign.LeftBracket a z ∷ t) → SpellsExp ns b 0 x t (mark sign.RightBracket a1 z1 ∷ u) → SpellsExp ns b 13 (tree.Index e x) s u
-    member : {b : Bool} {e : Exp} {s t : List Lexeme} {a z a1 z1 : ℕ} {n : Name} → SpellsExp ns b 13 e s (mark sign.Dot a z ∷ named n a1 z1 ∷ t) → is_made ns n ≡ false → SpellsExp ns b 13 (tree.Member e n) s t
-    pointer_member : {b : Bool} {e : Exp} {s t : List Lexeme} {a z a1 z1 : ℕ} {n : Name} → SpellsExp ns b 13 e s (mark sign.Arrow a z ∷ named n a1 z1 ∷ t) → is_made ns n ≡ false → SpellsExp ns b 13 (tree.PointerMember e n) s t
-    unary : {b : Bool} {e : Exp} {s t : List Lexeme} {a z : ℕ} {un : UnaryOperator} → SpellsExp ns b 11 e s t → SpellsExp ns b 12 (tree.Unary a un e) (mark (unary_sign un) a z ∷ s) t
-    sizeof_value : {b : Bool} {e : Exp} {s t : List Lexeme} {a z : ℕ} → SpellsExp ns b 12 e s t → SpellsExp ns b 12 (tree.SizeofValue a e) (reserved word.Sizeof a z ∷ s) t
-    sizeof_type : {b : Bool} {ty : TypeName} {s t : List Lexeme} {a1 z1 a z a2 z2 : ℕ} → SpellsType ns b ty s (mark sign.RightParenthesis a1 z1 ∷ t) → SpellsExp ns b 12 (tree.SizeofType a ty) (reserved word.Sizeof a z ∷ mark sign.LeftParenthesis a2 z2 ∷ s) t
-    cast : {b : Bool} {ty : TypeName} {s t u : List Lexeme} {a1 z1 a z : ℕ} {e : Exp} → SpellsType ns b ty s (mark sign.RightParenthesis a1 z1 ∷ t) → SpellsExp ns b 11 e t u → SpellsExp ns b 11 (tree.Cast a ty e) (mark sign.LeftParenthesis a z ∷ s) u
+    variable : {n : Name} {b : Bool} {a z : ℕ} {s : List Lexeme} → is_made ns n ≡ false → SpellsExp ns b levels.name (tree.Variable a n) (named n a z ∷ s) s
+    number_constant : {b decimal unsigned : Bool} {a value longs z : ℕ} {s : List Lexeme} → SpellsExp ns b levels.primary (tree.Number a value decimal unsigned longs) (token (number value decimal unsigned longs) a z ∷ s) s
+    character_constant : {b : Bool} {a value z : ℕ} {s : List Lexeme} → SpellsExp ns b levels.primary (tree.Character a value) (token (character value) a z ∷ s) s
+    parenthesis : {b : Bool} {e : Exp} {s t : List Lexeme} {a1 z1 a z : ℕ} → SpellsExp ns b levels.any e s (mark sign.RightParenthesis a1 z1 ∷ t) → SpellsExp ns b levels.primary (tree.Parenthesis a e) (mark sign.LeftParenthesis a z ∷ s) t
+    index : {b : Bool} {e x : Exp} {s t u : List Lexeme} {a z a1 z1 : ℕ} → SpellsExp ns b levels.postfix e s (mark sign.LeftBracket a z ∷ t) → SpellsExp ns b levels.any x t (mark sign.RightBracket a1 z1 ∷ u) → SpellsExp ns b levels.postfix (tree.Index e x) s u
+    member : {b : Bool} {e : Exp} {s t : List Lexeme} {a z a1 z1 : ℕ} {n : Name} → SpellsExp ns b levels.postfix e s (mark sign.Dot a z ∷ named n a1 z1 ∷ t) → is_made ns n ≡ false → SpellsExp ns b levels.postfix (tree.Member e n) s t
+    pointer_member : {b : Bool} {e : Exp} {s t : List Lexeme} {a z a1 z1 : ℕ} {n : Name} → SpellsExp ns b levels.postfix e s (mark sign.Arrow a z ∷ named n a1 z1 ∷ t) → is_made ns n ≡ false → SpellsExp ns b levels.postfix (tree.PointerMember e n) s t
+    unary : {b : Bool} {e : Exp} {s t : List Lexeme} {a z : ℕ} {un : UnaryOperator} → SpellsExp ns b levels.cast e s t → SpellsExp ns b levels.unary (tree.Unary a un e) (mark (unary_sign un) a z ∷ s) t
+    sizeof_value : {b : Bool} {e : Exp} {s t : List Lexeme} {a z : ℕ} → SpellsExp ns b levels.unary e s t → SpellsExp ns b levels.unary (tree.SizeofValue a e) (reserved word.Sizeof a z ∷ s) t
+    sizeof_type : {b : Bool} {ty : TypeName} {s t : List Lexeme} {a1 z1 a z a2 z2 : ℕ} → SpellsType ns b ty s (mark sign.RightParenthesis a1 z1 ∷ t) → SpellsExp ns b levels.unary (tree.SizeofType a ty) (reserved word.Sizeof a z ∷ mark sign.LeftParenthesis a2 z2 ∷ s) t
+    cast : {b : Bool} {ty : TypeName} {s t u : List Lexeme} {a1 z1 a z : ℕ} {e : Exp} → SpellsType ns b ty s (mark sign.RightParenthesis a1 z1 ∷ t) → SpellsExp ns b levels.cast e t u → SpellsExp ns b levels.cast (tree.Cast a ty e) (mark sign.LeftParenthesis a z ∷ s) u
     binary : {b : Bool} {op : BinaryOperator} {x y : Exp} {s t u : List Lexeme} {a z : ℕ} → SpellsExp ns b (level op) x s (mark (binary_sign op) a z ∷ t) → SpellsExp ns b (suc (level op)) y t u → SpellsExp ns b (level op) (tree.Binary op x y) s u
-    conditional : {b : Bool} {c x y : Exp} {s t u v : List Lexeme} {a z a1 z1 : ℕ} → SpellsExp ns b 1 c s (mark sign.Question a z ∷ t) → SpellsExp ns b 0 x t (mark sign.Colon a1 z1 ∷ u) → SpellsExp ns b 0 y u v → SpellsExp ns b 0 (tree.Conditional c x y) s v
+    conditional : {b : Bool} {c x y : Exp} {s t u v : List Lexeme} {a z a1 z1 : ℕ} → SpellsExp ns b levels.disjunction c s (mark sign.Question a z ∷ t) → SpellsExp ns b levels.any x t (mark sign.Colon a1 z1 ∷ u) → SpellsExp ns b levels.any y u v → SpellsExp ns b levels.any (tree.Conditional c x y) s v
 
   pub data SpellsType (ns : List Name) : Bool → TypeName → List Lexeme → List Lexeme → Type 0 where
     typed : {b : Bool} {ws : Words} {s t u : List Lexeme} {ats : List ℕ} → SpellsWords ns b seen.Nothing ws s t → SpellsStars false ats t u → SpellsType ns b (tree.Typed ws ats) s u
@@ -84,7 +85,7 @@ mutual
 
   pub data SpellsDimensions (ns : List Name) : Bool → Dimensions → List Lexeme → List Lexeme → Type 0 where
     no_dimensions : {b : Bool} {s : List Lexeme} → SpellsDimensions ns b tree.NoDimensions s s
-    more_dimensions : {b : Bool} {e : Exp} {s t u : List Lexeme} {a1 z1 a z : ℕ} {dims : Dimensions} → SpellsExp ns b 0 e s (mark sign.RightBracket a1 z1 ∷ t) → SpellsDimensions ns b dims t u → SpellsDimensions ns b (tree.MoreDimensions e dims) (mark sign.LeftBracket a z ∷ s) u
+    more_dimensions : {b : Bool} {e : Exp} {s t u : List Lexeme} {a1 z1 a z : ℕ} {dims : Dimensions} → SpellsExp ns b levels.any e s (mark sign.RightBracket a1 z1 ∷ t) → SpellsDimensions ns b dims t u → SpellsDimensions ns b (tree.MoreDimensions e dims) (mark sign.LeftBracket a z ∷ s) u
 
   -- the enumerators of an enum, and the `}` behind them
   pub data SpellsEnumerators (ns : List Name) : Enumerators → List Lexeme → List Lexeme → Type 0 where
@@ -94,12 +95,12 @@ mutual
 
   pub data SpellsEnumerator (ns : List Name) : Enumerator → List Lexeme → List Lexeme → Type 0 where
     implicit : {n : Name} {a z : ℕ} {s : List Lexeme} → is_made ns n ≡ false → SpellsEnumerator ns (tree.Implicit a n) (named n a z ∷ s) s
-    explicit : {n : Name} {e : Exp} {s t : List Lexeme} {a z a1 z1 : ℕ} → is_made ns n ≡ false → SpellsExp ns true 0 e s t → SpellsEnumerator ns (tree.Explicit a n e) (named n a z ∷ mark sign.Equal a1 z1 ∷ s) t
+    explicit : {n : Name} {e : Exp} {s t : List Lexeme} {a z a1 z1 : ℕ} → is_made ns n ≡ false → SpellsExp ns true levels.any e s t → SpellsEnumerator ns (tree.Explicit a n e) (named n a z ∷ mark sign.Equal a1 z1 ∷ s) t
 
 -- arguments, one at least, and the `)` behind them
 pub data SpellsExps (ns : List Name) : Bool → List Exp → List Lexeme → List Lexeme → Type 0 where
-  last_argument : {b : Bool} {e : Exp} {s t : List Lexeme} {a z : ℕ} → SpellsExp ns b 0 e s (mark sign.RightParenthesis a z ∷ t) → SpellsExps ns b (e ∷ []) s t
-  more_arguments : {b : Bool} {e : Exp} {s t u : List Lexeme} {a z : ℕ} {es : List Exp} → SpellsExp ns b 0 e s (mark sign.Comma a z ∷ t) → SpellsExps ns b es t u → SpellsExps ns b (e ∷ es) s u
+  last_argument : {b : Bool} {e : Exp} {s t : List Lexeme} {a z : ℕ} → SpellsExp ns b levels.any e s (mark sign.RightParenthesis a z ∷ t) → SpellsExps ns b (e ∷ []) s t
+  more_arguments : {b : Bool} {e : Exp} {s t u : List Lexeme} {a z : ℕ} {es : List Exp} → SpellsExp ns b levels.any e s (mark sign.Comma a z ∷ t) → SpellsExps ns b es t u → SpellsExps ns b (e ∷ es) s u
 
 pub data SpellsArguments (ns : List Name) : Bool → List Exp → List Lexeme → List Lexeme → Type 0 where
   no_arguments : {b : Bool} {a z : ℕ} {s : List Lexeme} → SpellsArguments ns b [] (mark sign.RightParenthesis a z ∷ s) s
@@ -109,14 +110,14 @@ pub data SpellsCall (ns : List Name) : Bool → Call → List Lexeme → List Le
   calls : {n : Name} {b : Bool} {es : List Exp} {s t : List Lexeme} {a z a1 z1 : ℕ} → is_made ns n ≡ false → SpellsArguments ns b es s t → SpellsCall ns b (tree.Calls a n es) (named n a z ∷ mark sign.LeftParenthesis a1 z1 ∷ s) t
 
 pub data SpellsRhs (ns : List Name) : Bool → Rhs → List Lexeme → List Lexeme → Type 0 where
-  value : {b : Bool} {e : Exp} {s t : List Lexeme} → SpellsExp ns b 0 e s t → SpellsRhs ns b (tree.Value e) s t
+  value : {b : Bool} {e : Exp} {s t : List Lexeme} → SpellsExp ns b levels.any e s t → SpellsRhs ns b (tree.Value e) s t
   result_of : {b : Bool} {call : Call} {s t : List Lexeme} → SpellsCall ns b call s t → SpellsRhs ns b (tree.Result call) s t
 
 pub data SpellsSimple (ns : List Name) : Bool → Simple → List Lexeme → List Lexeme → Type 0 where
-  assign : {b : Bool} {e : Exp} {s t u : List Lexeme} {a z : ℕ} {rhs : Rhs} → SpellsExp ns b 12 e s (mark sign.Equal a z ∷ t) → SpellsRhs ns b rhs t u → SpellsSimple ns b (tree.Assign e rhs) s u
-  update : {p : Punct} {op : BinaryOperator} {b : Bool} {e x : Exp} {s t u : List Lexeme} {a z : ℕ} → update_of p ≡ Some op → SpellsExp ns b 12 e s (mark p a z ∷ t) → SpellsExp ns b 0 x t u → SpellsSimple ns b (tree.Update op e x) s u
-  after : {b : Bool} {e : Exp} {s t : List Lexeme} {st : StepOperator} {a z : ℕ} → SpellsExp ns b 13 e s (mark (step_sign st) a z ∷ t) → SpellsSimple ns b (tree.After st e) s t
-  before : {b : Bool} {e : Exp} {s t : List Lexeme} {a z : ℕ} {st : StepOperator} → SpellsExp ns b 12 e s t → SpellsSimple ns b (tree.Before a st e) (mark (step_sign st) a z ∷ s) t
+  assign : {b : Bool} {e : Exp} {s t u : List Lexeme} {a z : ℕ} {rhs : Rhs} → SpellsExp ns b levels.unary e s (mark sign.Equal a z ∷ t) → SpellsRhs ns b rhs t u → SpellsSimple ns b (tree.Assign e rhs) s u
+  update : {p : Punct} {op : BinaryOperator} {b : Bool} {e x : Exp} {s t u : List Lexeme} {a z : ℕ} → update_of p ≡ Some op → SpellsExp ns b levels.unary e s (mark p a z ∷ t) → SpellsExp ns b levels.any x t u → SpellsSimple ns b (tree.Update op e x) s u
+  after : {b : Bool} {e : Exp} {s t : List Lexeme} {st : StepOperator} {a z : ℕ} → SpellsExp ns b levels.postfix e s (mark (step_sign st) a z ∷ t) → SpellsSimple ns b (tree.After st e) s t
+  before : {b : Bool} {e : Exp} {s t : List Lexeme} {a z : ℕ} {st : StepOperator} → SpellsExp ns b levels.unary e s t → SpellsSimple ns b (tree.Before a st e) (mark (step_sign st) a z ∷ s) t
   invoke : {b : Bool} {call : Call} {s t : List Lexeme} → SpellsCall ns b call s t → SpellsSimple ns b (tree.Invoke call) s t
 
 pub data SpellsInit (ns : List Name) : Init → List Lexeme → List Lexeme → Type 0 where
@@ -132,7 +133,7 @@ pub data SpellsLocal (ns : List Name) : Local → List Lexeme → List Lexeme �
   locals : {ws : Words} {s t u : List Lexeme} {inis : List Init} → SpellsWords ns false seen.Nothing ws s t → SpellsInits ns inis t u → SpellsLocal ns (tree.Locals ws inis) s u
 
 pub data SpellsLabel (ns : List Name) : Label → List Lexeme → List Lexeme → Type 0 where
-  case : {e : Exp} {s t : List Lexeme} {a1 z1 a z : ℕ} → SpellsExp ns false 0 e s (mark sign.Colon a1 z1 ∷ t) → SpellsLabel ns (tree.Case a e) (reserved word.Case a z ∷ s) t
+  case : {e : Exp} {s t : List Lexeme} {a1 z1 a z : ℕ} → SpellsExp ns false levels.any e s (mark sign.Colon a1 z1 ∷ t) → SpellsLabel ns (tree.Case a e) (reserved word.Case a z ∷ s) t
   default : {a z a1 z1 : ℕ} {s : List Lexeme} → SpellsLabel ns (tree.Default a) (reserved word.Default a z ∷ mark sign.Colon a1 z1 ∷ s) s
 
 pub data SpellsLabels (ns : List Name) : List Label → List Lexeme → List Lexeme → Type 0 where
@@ -148,7 +149,7 @@ pub data SpellsStart (ns : List Name) : Start → List Lexeme → List Lexeme �
 -- the test in the head of a `for`, and its `;`
 pub data SpellsTest (ns : List Name) : Option Exp → List Lexeme → List Lexeme → Type 0 where
   no_test : {a z : ℕ} {s : List Lexeme} → SpellsTest ns None (mark sign.Semicolon a z ∷ s) s
-  some_test : {e : Exp} {s t : List Lexeme} {a z : ℕ} → SpellsExp ns false 0 e s (mark sign.Semicolon a z ∷ t) → SpellsTest ns (Some e) s t
+  some_test : {e : Exp} {s t : List Lexeme} {a z : ℕ} → SpellsExp ns false levels.any e s (mark sign.Semicolon a z ∷ t) → SpellsTest ns (Some e) s t
 
 -- the last part of the head of a `for`, and its `)`
 pub data SpellsStep (ns : List Name) : Option Simple → List Lexeme → List Lexeme → Type 0 where
@@ -166,12 +167,12 @@ mutual
     continue_on : {m : Bool} {a z a1 z1 : ℕ} {s : List Lexeme} → SpellsStmt ns m (tree.Continue a) (reserved word.Continue a z ∷ mark sign.Semicolon a1 z1 ∷ s) s
     return_nothing : {m : Bool} {a z a1 z1 : ℕ} {s : List Lexeme} → SpellsStmt ns m (tree.Return a None) (reserved word.Return a z ∷ mark sign.Semicolon a1 z1 ∷ s) s
     return_value : {rhs : Rhs} {s t : List Lexeme} {a1 z1 a z : ℕ} {m : Bool} → SpellsRhs ns false rhs s (mark sign.Semicolon a1 z1 ∷ t) → SpellsStmt ns m (tree.Return a (Some rhs)) (reserved word.Return a z ∷ s) t
-    if_only : {e : Exp} {s t u : List Lexeme} {a2 z2 a z a1 z1 : ℕ} {g : Stmt} → SpellsExp ns false 0 e s (mark sign.RightParenthesis a2 z2 ∷ t) → SpellsStmt ns false g t u → SpellsStmt ns false (tree.If a e g) (reserved word.If a z ∷ mark sign.LeftParenthesis a1 z1 ∷ s) u
-    if_else : {e : Exp} {s t u v : List Lexeme} {a2 z2 a3 z3 a z a1 z1 : ℕ} {g h : Stmt} {m : Bool} → SpellsExp ns false 0 e s (mark sign.RightParenthesis a2 z2 ∷ t) → SpellsStmt ns true g t (reserved word.Else a3 z3 ∷ u) → SpellsStmt ns m h u v → SpellsStmt ns m (tree.IfElse a e g h) (reserved word.If a z ∷ mark sign.LeftParenthesis a1 z1 ∷ s) v
-    while_do : {e : Exp} {s t u : List Lexeme} {a2 z2 a z a1 z1 : ℕ} {m : Bool} {g : Stmt} → SpellsExp ns false 0 e s (mark sign.RightParenthesis a2 z2 ∷ t) → SpellsStmt ns m g t u → SpellsStmt ns m (tree.While a e g) (reserved word.While a z ∷ mark sign.LeftParenthesis a1 z1 ∷ s) u
+    if_only : {e : Exp} {s t u : List Lexeme} {a2 z2 a z a1 z1 : ℕ} {g : Stmt} → SpellsExp ns false levels.any e s (mark sign.RightParenthesis a2 z2 ∷ t) → SpellsStmt ns false g t u → SpellsStmt ns false (tree.If a e g) (reserved word.If a z ∷ mark sign.LeftParenthesis a1 z1 ∷ s) u
+    if_else : {e : Exp} {s t u v : List Lexeme} {a2 z2 a3 z3 a z a1 z1 : ℕ} {g h : Stmt} {m : Bool} → SpellsExp ns false levels.any e s (mark sign.RightParenthesis a2 z2 ∷ t) → SpellsStmt ns true g t (reserved word.Else a3 z3 ∷ u) → SpellsStmt ns m h u v → SpellsStmt ns m (tree.IfElse a e g h) (reserved word.If a z ∷ mark sign.LeftParenthesis a1 z1 ∷ s) v
+    while_do : {e : Exp} {s t u : List Lexeme} {a2 z2 a z a1 z1 : ℕ} {m : Bool} {g : Stmt} → SpellsExp ns false levels.any e s (mark sign.RightParenthesis a2 z2 ∷ t) → SpellsStmt ns m g t u → SpellsStmt ns m (tree.While a e g) (reserved word.While a z ∷ mark sign.LeftParenthesis a1 z1 ∷ s) u
     for_do : {start : Start} {s t u v w : List Lexeme} {te : Option Exp} {sp : Option Simple} {m : Bool} {g : Stmt} {a z a1 z1 : ℕ} → SpellsStart ns start s t → SpellsTest ns te t u → SpellsStep ns sp u v → SpellsStmt ns m g v w → SpellsStmt ns m (tree.For a start te sp g) (reserved word.For a z ∷ mark sign.LeftParenthesis a1 z1 ∷ s) w
-    do_while : {g : Stmt} {s t u : List Lexeme} {a1 z1 a2 z2 a3 z3 a4 z4 a z : ℕ} {e : Exp} {m : Bool} → SpellsStmt ns false g s (reserved word.While a1 z1 ∷ mark sign.LeftParenthesis a2 z2 ∷ t) → SpellsExp ns false 0 e t (mark sign.RightParenthesis a3 z3 ∷ mark sign.Semicolon a4 z4 ∷ u) → SpellsStmt ns m (tree.Do a g e) (reserved word.Do a z ∷ s) u
-    switch_on : {e : Exp} {s t u : List Lexeme} {a2 z2 a3 z3 a4 z4 a z a1 z1 : ℕ} {gs : Groups} {m : Bool} → SpellsExp ns false 0 e s (mark sign.RightParenthesis a2 z2 ∷ mark sign.LeftBrace a3 z3 ∷ t) → SpellsGroups ns gs t (mark sign.RightBrace a4 z4 ∷ u) → SpellsStmt ns m (tree.Switch a e gs) (reserved word.Switch a z ∷ mark sign.LeftParenthesis a1 z1 ∷ s) u
+    do_while : {g : Stmt} {s t u : List Lexeme} {a1 z1 a2 z2 a3 z3 a4 z4 a z : ℕ} {e : Exp} {m : Bool} → SpellsStmt ns false g s (reserved word.While a1 z1 ∷ mark sign.LeftParenthesis a2 z2 ∷ t) → SpellsExp ns false levels.any e t (mark sign.RightParenthesis a3 z3 ∷ mark sign.Semicolon a4 z4 ∷ u) → SpellsStmt ns m (tree.Do a g e) (reserved word.Do a z ∷ s) u
+    switch_on : {e : Exp} {s t u : List Lexeme} {a2 z2 a3 z3 a4 z4 a z a1 z1 : ℕ} {gs : Groups} {m : Bool} → SpellsExp ns false levels.any e s (mark sign.RightParenthesis a2 z2 ∷ mark sign.LeftBrace a3 z3 ∷ t) → SpellsGroups ns gs t (mark sign.RightBrace a4 z4 ∷ u) → SpellsStmt ns m (tree.Switch a e gs) (reserved word.Switch a z ∷ mark sign.LeftParenthesis a1 z1 ∷ s) u
 
   -- locals and statements
   pub data SpellsItems (ns : List Name) : Items → List Lexeme → List Lexeme → Type 0 where
@@ -186,8 +187,8 @@ mutual
 
 pub data SpellsBracket (ns : List Name) : Bracket → List Lexeme → List Lexeme → Type 0 where
   no_bracket : {s : List Lexeme} → SpellsBracket ns tree.NoBracket s s
-  open_bracket : {a z a1 z1 : ℕ} {s : List Lexeme} → SpellsBracket ns tree.OpenBracket (mark sign.LeftBracket a z ∷ mark sign.RightBracket a1 z1 ∷ s) s
-  sized_bracket : {e : Exp} {s t : List Lexeme} {a1 z1 a z : ℕ} → SpellsExp ns false 0 e s (mark sign.RightBracket a1 z1 ∷ t) → SpellsBracket ns (tree.SizedBracket e) (mark sign.LeftBracket a z ∷ s) t
+  open_bracket : {a z a1 z1 : ℕ} {s : List Lexeme} → SpellsBracket ns (tree.OpenBracket a) (mark sign.LeftBracket a z ∷ mark sign.RightBracket a1 z1 ∷ s) s
+  sized_bracket : {e : Exp} {s t : List Lexeme} {a1 z1 a z : ℕ} → SpellsExp ns false levels.any e s (mark sign.RightBracket a1 z1 ∷ t) → SpellsBracket ns (tree.SizedBracket a e) (mark sign.LeftBracket a z ∷ s) t
 
 pub data SpellsParam (ns : List Name) : Param → List Lexeme → List Lexeme → Type 0 where
   unnamed : {ws : Words} {s t u v : List Lexeme} {ats : List ℕ} {br : Bracket} → SpellsWords ns false seen.Nothing ws s t → SpellsStars false ats t u → SpellsBracket ns br u v → SpellsParam ns (tree.Parameter ws ats None br) s v
@@ -210,9 +211,9 @@ pub data SpellsParameters (ns : List Name) : List Param → List Lexeme → List
 
 pub data SpellsTop (ns : List Name) : Top → List Lexeme → List Lexeme → Type 0 where
   object : {d : Declarator} {s t : List Lexeme} → SpellsDeclarator ns true d s t → SpellsTop ns (tree.Topmost d None None) s t
-  object_value : {d : Declarator} {s t u : List Lexeme} {a z : ℕ} {e : Exp} → SpellsDeclarator ns true d s (mark sign.Equal a z ∷ t) → SpellsExp ns true 0 e t u → SpellsTop ns (tree.Topmost d None (Some e)) s u
+  object_value : {d : Declarator} {s t u : List Lexeme} {a z : ℕ} {e : Exp} → SpellsDeclarator ns true d s (mark sign.Equal a z ∷ t) → SpellsExp ns true levels.any e t u → SpellsTop ns (tree.Topmost d None (Some e)) s u
   prototype : {d : Declarator} {s t u : List Lexeme} {pas : List Param} → SpellsDeclarator ns true d s t → SpellsParameters ns pas t u → SpellsTop ns (tree.Topmost d (Some pas) None) s u
-  prototype_value : {d : Declarator} {s t u v : List Lexeme} {pas : List Param} {a z : ℕ} {e : Exp} → SpellsDeclarator ns true d s t → SpellsParameters ns pas t (mark sign.Equal a z ∷ u) → SpellsExp ns true 0 e u v → SpellsTop ns (tree.Topmost d (Some pas) (Some e)) s v
+  prototype_value : {d : Declarator} {s t u v : List Lexeme} {pas : List Param} {a z : ℕ} {e : Exp} → SpellsDeclarator ns true d s t → SpellsParameters ns pas t (mark sign.Equal a z ∷ u) → SpellsExp ns true levels.any e u v → SpellsTop ns (tree.Topmost d (Some pas) (Some e)) s v
 
 -- declarators outside functions, one at least, and the `;` behind them
 pub data SpellsTops (ns : List Name) : List Top → List Lexeme → List Lexeme → Type 0 where

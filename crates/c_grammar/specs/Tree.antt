@@ -127,8 +127,8 @@ mutual
 
 pub data Bracket : Type 0 where
   NoBracket : Bracket
-  OpenBracket : Bracket
-  SizedBracket : Exp → Bracket
+  OpenBracket : ℕ → Bracket
+  SizedBracket : ℕ → Exp → Bracket
 
 -- the words, the offset of each star, the name with its offset, and the brackets
 pub data Param : Type 0 where

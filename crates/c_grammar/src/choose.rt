@@ -2,8 +2,8 @@
 
 ghost use Rattle.std.specs.Prelude.{◌≡◌, ◌++◌, [], IfOk, reverse};
 ghost use Rattle.c_lex.specs.Lexeme.{kind_of};
-ghost use Rattle.c_grammar.specs.Follows.{Follows};
-ghost use Rattle.c_grammar.specs.Choice.{choice_of, only_if, take};
+ghost use Rattle.c_grammar.specs.CodeFollows.{Follows};
+ghost use Rattle.c_grammar.specs.CodeChoice.{choice_of, only_if, take};
 
 use crate::symbol::Symbol;
 use c_lex::{Keyword, Punct, TokenKind};
@@ -39,7 +39,9 @@ fn push_all(stack: &mut Vec<Symbol>, next: &[Symbol]) -> Result<(), AllocError>
 
 /// Takes the token: these symbols come next.
 fn take(stack: &mut Vec<Symbol>, next: &[Symbol]) -> Result<Answer, AllocError>
-    ensures { IfOk result (λ answer. (answer ≡ Answer.Taken) × (reverse stack.new.items ≡ next.now ++ reverse stack.old.items)) }
+    ensures { IfOk result
+        (λ answer. (answer ≡ Answer.Taken)
+        × (reverse stack.new.items ≡ next.now ++ reverse stack.old.items)) }
 {
     push_all(stack, next)?;
     Ok(Answer::Taken)
@@ -53,14 +55,16 @@ fn expect(same: bool) -> Answer
 }
 
 /// What a symbol makes of a token; `typed` says that it is a name which a typedef made.
-#[tactic(auto, unfolding(crate::specs::Choice::choice_of))]
+#[tactic(auto, unfolding(crate::specs::CodeChoice::choice_of))]
 pub(crate) fn choose(
     stack: &mut Vec<Symbol>,
     symbol: Symbol,
     typed: bool,
     kind: &TokenKind,
 ) -> Result<Answer, AllocError>
-    ensures { IfOk result (λ answer. Follows (choice_of symbol typed (kind_of kind.now)) answer (reverse stack.old.items) (reverse stack.new.items)) }
+    ensures { IfOk result
+        (λ answer. Follows (choice_of symbol typed (kind_of kind.now)) answer
+        (reverse stack.old.items) (reverse stack.new.items)) }
 {
     match symbol {
         Symbol::LeftParenthesis => Ok(expect(matches!(

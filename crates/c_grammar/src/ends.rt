@@ -2,7 +2,7 @@
 
 ghost use Rattle.std.specs.Prelude.{◌≡◌, false};
 ghost use Rattle.c_lex.specs.Lexeme.{kind_of};
-ghost use Rattle.c_grammar.specs.Written as written;
+ghost use Rattle.c_grammar.specs.CodeWritten as written;
 
 use crate::symbol::{Production, Symbol, Wanted};
 use c_lex::{Punct, TokenKind};

@@ -13,12 +13,13 @@ mod fault;
 mod names;
 pub mod operator;
 mod recogniser;
-pub mod script;
+mod scripts;
 mod symbol;
 pub mod tree;
 
 pub use fault::ScriptFault;
 pub use operator::{BinaryOperator, StepOperator, UnaryOperator};
+pub use scripts::{Step, script};
 pub use symbol::Production;
 
 /// A law of the grammar: no list of tokens has two trees.

@@ -4,9 +4,9 @@ ghost use Rattle.std.specs.Prelude.{◌≡◌, ◌∷◌, ◌≤◌, ℕ, [], Li
 ghost use Rattle.std.specs.HashSet.{contains_by};
 ghost use lib.Pointwise.{pointwise};
 ghost use Rattle.c_lex.specs.Lexeme.{kind_of};
-ghost use Rattle.c_grammar.specs.Names.{made_of, next_of};
+ghost use Rattle.c_grammar.specs.CodeNames.{made_of, next_of};
 ghost use Rattle.c_grammar.specs.Operators as operators;
-ghost use Rattle.c_grammar.specs.Stack as stack;
+ghost use Rattle.c_grammar.specs.CodeStack as stack;
 
 use crate::symbol::Symbol;
 use c_lex::TokenKind;
@@ -41,7 +41,8 @@ impl<'a> Names<'a> {
 
     /// Whether the token is a name that a typedef made.
     pub(crate) fn is_type(&self, kind: &TokenKind) -> bool
-        ensures { result ≡ stack.is_type (made_of (map (λ name. name.now) self.now.all.items) self.now.made) (kind_of kind.now) }
+        ensures { result ≡ stack.is_type
+            (made_of (map (λ name. name.now) self.now.all.items) self.now.made) (kind_of kind.now) }
     {
         match kind {
             TokenKind::Name(name) => self.types.contains(name.as_str()),
@@ -51,8 +52,11 @@ impl<'a> Names<'a> {
 
     /// Notes a name that the present external declares.
     pub(crate) fn note(&mut self, name: &'a str) -> Result<(), AllocError>
-        ensures made { OnOk result (made_of (map (λ name. name.now) self.new.all.items) self.new.made ≡ made_of (map (λ name. name.now) self.old.all.items) self.old.made) }
-        ensures next { OnOk result (next_of (map (λ name. name.now) self.new.all.items) ≡ name.now ∷ next_of (map (λ name. name.now) self.old.all.items)) }
+        ensures made { OnOk result
+            (made_of (map (λ name. name.now) self.new.all.items) self.new.made
+            ≡ made_of (map (λ name. name.now) self.old.all.items) self.old.made) }
+        ensures next { OnOk result (next_of (map (λ name. name.now) self.new.all.items)
+            ≡ name.now ∷ next_of (map (λ name. name.now) self.old.all.items)) }
     {
         self.all.push(name)?;
         Ok(())
@@ -60,8 +64,15 @@ impl<'a> Names<'a> {
 
     /// Here an external ends: a typedef's names are types from here on, and others are forgotten.
     pub(crate) fn end(&mut self, typedef: bool) -> Result<(), AllocError>
-        ensures made { OnOk result (made_of (map (λ name. name.now) self.new.all.items) self.new.made ≡ stack.made_behind (Symbol.Made typedef) (made_of (map (λ name. name.now) self.old.all.items) self.old.made) (next_of (map (λ name. name.now) self.old.all.items))) }
-        ensures next { OnOk result (next_of (map (λ name. name.now) self.new.all.items) ≡ stack.next_behind (Symbol.Made typedef) (made_of (map (λ name. name.now) self.old.all.items) self.old.made) (next_of (map (λ name. name.now) self.old.all.items))) }
+        ensures made { OnOk result
+            (made_of (map (λ name. name.now) self.new.all.items) self.new.made
+            ≡ stack.made_behind (Symbol.Made typedef)
+            (made_of (map (λ name. name.now) self.old.all.items) self.old.made)
+            (next_of (map (λ name. name.now) self.old.all.items))) }
+        ensures next { OnOk result (next_of (map (λ name. name.now) self.new.all.items)
+            ≡ stack.next_behind (Symbol.Made typedef)
+            (made_of (map (λ name. name.now) self.old.all.items) self.old.made)
+            (next_of (map (λ name. name.now) self.old.all.items))) }
     {
         if typedef {
             while self.made < self.all.len() {

@@ -1,7 +1,7 @@
 //! What is still to come: the symbols of the parser's stack.
 
 ghost use Rattle.std.specs.Prelude.{◌≡◌};
-ghost use Rattle.c_grammar.specs.Choice as choice;
+ghost use Rattle.c_grammar.specs.CodeChoice as choice;
 ghost use Rattle.c_grammar.specs.Operators as operators;
 
 use crate::operator::{BinaryOperator, StepOperator, UnaryOperator};

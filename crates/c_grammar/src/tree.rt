@@ -60,7 +60,6 @@ impl Drop for Words {
 
 /// A word of a type, or of its storage.
 #[cycle(exp)]
-#[derive(Drop)]
 pub enum Word {
     /// A keyword.
     Reserved(usize, Keyword),
@@ -74,6 +73,20 @@ pub enum Word {
     EnumTag(usize, String),
     /// An enum with its enumerators.
     EnumBody(usize, Option<String>, Box<Enumerators>),
+}
+
+impl Drop for Word {
+    #[cycle(drop_exp)]
+    fn drop(self) {
+        match self {
+            Word::Reserved(_, _) => {}
+            Word::Named(_, _a) => {}
+            Word::StructTag(_, _a) => {}
+            Word::StructBody(_, _a, _b) => {}
+            Word::EnumTag(_, _a) => {}
+            Word::EnumBody(_, _a, _b) => {}
+        }
+    }
 }
 
 /// The members of a struct, one at least.
@@ -190,7 +203,6 @@ pub struct Call {
 }
 
 /// What may stand on the right of an assignment.
-#[derive(Drop)]
 pub enum Rhs {
     /// An expression.
     Value(CExp),
@@ -198,8 +210,16 @@ pub enum Rhs {
     Call(Call),
 }
 
+impl Drop for Rhs {
+    fn drop(self) {
+        match self {
+            Rhs::Value(_a) => {}
+            Rhs::Call(_a) => {}
+        }
+    }
+}
+
 /// A simple statement.
-#[derive(Drop)]
 pub enum Simple {
     /// `e = r`
     Assign(CExp, Rhs),
@@ -211,6 +231,18 @@ pub enum Simple {
     Before(usize, StepOperator, CExp),
     /// A call.
     Call(Call),
+}
+
+impl Drop for Simple {
+    fn drop(self) {
+        match self {
+            Simple::Assign(_a, _b) => {}
+            Simple::Update(_, _a, _b) => {}
+            Simple::After(_, _a) => {}
+            Simple::Before(_, _, _a) => {}
+            Simple::Call(_a) => {}
+        }
+    }
 }
 
 /// A local: its declarator and its value.
@@ -241,7 +273,6 @@ pub enum Label {
 }
 
 /// The first part of the head of a `for`.
-#[derive(Drop)]
 pub enum Start {
     /// None.
     None,
@@ -251,9 +282,18 @@ pub enum Start {
     Simple(Simple),
 }
 
+impl Drop for Start {
+    fn drop(self) {
+        match self {
+            Start::None => {}
+            Start::Local(_a) => {}
+            Start::Simple(_a) => {}
+        }
+    }
+}
+
 /// A statement.
 #[cycle(stmt)]
-#[derive(Drop)]
 pub enum Stmt {
     /// `;`
     Empty(usize),
@@ -279,6 +319,26 @@ pub enum Stmt {
     Do(usize, Box<Stmt>, CExp),
     /// A switch, with its groups.
     Switch(usize, CExp, Box<Groups>),
+}
+
+impl Drop for Stmt {
+    #[cycle(drop_stmt)]
+    fn drop(self) {
+        match self {
+            Stmt::Empty(_) => {}
+            Stmt::Block(_, _a) => {}
+            Stmt::Simple(_a) => {}
+            Stmt::Break(_) => {}
+            Stmt::Continue(_) => {}
+            Stmt::Return(_, _a) => {}
+            Stmt::If(_, _a, _b) => {}
+            Stmt::IfElse(_, _a, _b, _c) => {}
+            Stmt::While(_, _a, _b) => {}
+            Stmt::For(_, _a, _b, _c, _d) => {}
+            Stmt::Do(_, _a, _b) => {}
+            Stmt::Switch(_, _a, _b) => {}
+        }
+    }
 }
 
 /// Locals and statements.
@@ -332,9 +392,9 @@ pub enum Bracket {
     /// None.
     None,
     /// `[]`
-    Open,
+    Open(usize),
     /// `[e]`
-    Length(CExp),
+    Length(usize, CExp),
 }
 
 /// A parameter.
@@ -362,12 +422,20 @@ pub struct Top {
 }
 
 /// A function or a declaration.
-#[derive(Drop)]
 pub enum Decl {
     /// A function: its words, declarator, parameters and body.
     Function(Words, Declarator, Vec<Param>, Items),
     /// A declaration: the offset of its `typedef`, where it begins with that word, its words and declarators.
     Declaration(Option<usize>, Words, Vec<Top>),
+}
+
+impl Drop for Decl {
+    fn drop(self) {
+        match self {
+            Decl::Function(_a, _b, _c, _d) => {}
+            Decl::Declaration(_a, _b, _c) => {}
+        }
+    }
 }
 
 /// A text.

@@ -3,10 +3,9 @@ ghost use Rattle.std.specs.Prelude.{◌≡◌, ℕ, ◌<◌, List, length, IfOk,
 ghost use Rattle.std.specs.List.{take_while};
 ghost use Rattle.std.specs.Str.{IsAscii};
 ghost use Rattle.c_lex.specs.Bytes.{is_word, is_numeral};
-ghost use Rattle.c_lex.specs.Front.{front, word_front, number_front, character_front, comment_front, mark_front};
+ghost use Rattle.c_lex.specs.Front.{front, word_front, number_front, character_front, comment_front, mark_front, bad_byte, bad_number, open_comment, unsupported, long_name};
 ghost use Rattle.c_lex.specs.declared.fault.Unsupported.{Unsupported};
 ghost use Rattle.c_lex.specs.Lexeme.{Lexeme, lexemes_of};
-ghost use Rattle.c_lex.specs.Front.{bad_byte, bad_number, open_comment, unsupported, long_name};
 ghost use Rattle.c_lex.specs.Tokens.{Tokens, FaultAt};
 ghost use Rattle.c_lex.specs.Answer.{Shows, IsFaultOf, IsRefused};
 
@@ -206,17 +205,23 @@ fn read(alloc: Global, text: &[u8]) -> Result<Vec<Token>, LexFault>
 pub fn tokens(alloc: Global, text: &[u8]) -> Result<Vec<Token>, LexFault>
     // Ok is the tokens of the text, all of it, and where the text has tokens, it is these, unless memory runs out.
     ensures found { IfOk result (λ v. Tokens text.now (lexemes_of v.items)) }
-    ensures only { (ts : List Lexeme) → Tokens text.now ts → MatchResult result (λ v. lexemes_of v.items ≡ ts) (λ e. e ≡ LexFault.Memory) }
+    ensures only { (ts : List Lexeme) → Tokens text.now ts →
+        MatchResult result (λ v. lexemes_of v.items ≡ ts) (λ e. e ≡ LexFault.Memory) }
 
     // An error is the first fault of the text ..
     ensures fault { IfErr result (IsFaultOf text.now) }
 
     // .. and the first fault of the text is the error, unless memory runs out.
-    ensures bad_byte { (at : ℕ) → FaultAt text.now bad_byte at → IsRefused result (LexFault.BadByte at) }
-    ensures bad_number { (at : ℕ) → FaultAt text.now bad_number at → IsRefused result (LexFault.BadNumber at) }
-    ensures open_comment { (at : ℕ) → FaultAt text.now open_comment at → IsRefused result (LexFault.OpenComment at) }
-    ensures unsupported { (word : Unsupported) → (at : ℕ) → FaultAt text.now (unsupported word) at → IsRefused result (LexFault.Unsupported word at) }
-    ensures long_name { (at : ℕ) → FaultAt text.now long_name at → IsRefused result (LexFault.LongName at) }
+    ensures bad_byte { (at : ℕ) → FaultAt text.now bad_byte at →
+        IsRefused result (LexFault.BadByte at) }
+    ensures bad_number { (at : ℕ) → FaultAt text.now bad_number at →
+        IsRefused result (LexFault.BadNumber at) }
+    ensures open_comment { (at : ℕ) → FaultAt text.now open_comment at →
+        IsRefused result (LexFault.OpenComment at) }
+    ensures unsupported { (word : Unsupported) → (at : ℕ) → FaultAt text.now (unsupported word) at →
+        IsRefused result (LexFault.Unsupported word at) }
+    ensures long_name { (at : ℕ) → FaultAt text.now long_name at →
+        IsRefused result (LexFault.LongName at) }
 {
     read(alloc, text)
 }

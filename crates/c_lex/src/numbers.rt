@@ -36,7 +36,8 @@ pub(crate) fn digit_count(base: u32, text: &[u8]) -> usize
 pub(crate) fn digits_value(base: u32, digits: &[u8]) -> Option<u64>
     requires low { 2 ≤ base }
     requires high { base ≤ 16 }
-    ensures { SomeIff result (digits_value base digits.now < 2 ^ 64) (digits_value base digits.now) }
+    ensures { SomeIff result (digits_value base digits.now < 2 ^ 64)
+        (digits_value base digits.now) }
 {
     let mut value: u64 = 0;
     for byte in digits {

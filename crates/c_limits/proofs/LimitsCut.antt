@@ -6,8 +6,8 @@ use Rattle.c_limits.specs.declared.limits.Limit.TheVariants as limit
 use Rattle.c_limits.specs.declared.limits.role.Role.{Role}
 use Rattle.c_limits.specs.declared.limits.role.Role.TheVariants as roles
 use Rattle.c_limits.specs.Limits.{Measure, beside, node, statement, local, function, earlier}
-use Rattle.c_limits.specs.Roles.{arity, role_of}
-use Rattle.c_limits.specs.Measure.{Part, cut, cut_part, joined, gathered, made, pushed, empty, reduced}
+use Rattle.c_limits.specs.CodeRoles.{arity, role_of}
+use Rattle.c_limits.specs.CodeMeasure.{Part, cut, cut_part, joined, gathered, made, pushed, empty, reduced}
 use Rattle.c_limits.proofs.LimitsLists.{take_take, take_append, take_leftmost, get_take}
 use Rattle.c_limits.proofs.LimitsParts.{whole}
 

@@ -3,14 +3,14 @@ use Rattle.std.proofs.Common.{◌≡◌, ◌∙◌, List, [], ◌∷◌, Option,
 use Rattle.std.specs.Option.{option_map}
 use Rattle.c_lex.specs.Lexeme.{Lexeme}
 use Rattle.c_grammar.specs.declared.symbol.Production.{Production}
-use Rattle.c_grammar.specs.declared.script.Step.{Step}
-use Rattle.c_grammar.specs.declared.script.Step.TheVariants.{Shift, Reduce}
+use Rattle.c_grammar.specs.declared.scripts.Step.{Step}
+use Rattle.c_grammar.specs.declared.scripts.Step.TheVariants.{Shift, Reduce}
 use Rattle.c_grammar.specs.Tree.{External}
-use Rattle.c_grammar.specs.Build.{Value, Tok, OfUnit, act}
-use Rattle.c_grammar.specs.Script.{replay}
+use Rattle.c_grammar.specs.CodeBuild.{Value, Tok, OfUnit, act}
+use Rattle.c_grammar.specs.CodeScript.{replay}
 use Rattle.c_limits.specs.declared.limits.Limit.TheVariants as limit
 use Rattle.c_limits.specs.Limits.{earlier, unit, first_limit}
-use Rattle.c_limits.specs.Measure.{Part, cut, cut_part, reduced, advanced, measured, limit_of}
+use Rattle.c_limits.specs.CodeMeasure.{Part, cut, cut_part, reduced, advanced, measured, limit_of}
 use Rattle.c_limits.proofs.LimitsLists.{get_take}
 use Rattle.c_limits.proofs.LimitsParts.{Agrees, part, whole, reduces}
 use Rattle.c_limits.proofs.LimitsCut.{cut_reduced}

@@ -9,8 +9,8 @@ use Rattle.c_grammar.specs.Tree.{Exp, TypeName, Words, Word, Members, Declarator
 use Rattle.c_limits.specs.FirstToken.{first_of}
 use Rattle.c_limits.specs.Limits as limits
 use Rattle.c_limits.specs.Limits.{Measure, leftmost, nothing, beside, all, node}
-use Rattle.c_limits.specs.Measure.{or_else}
-use Rattle.c_limits.specs.Levels.{first_on, nodes_of, in_type, in_words, in_word, in_members, in_declarators, in_declarator, in_dimensions, in_enumerators, in_enumerator}
+use Rattle.c_limits.specs.CodeMeasure.{or_else}
+use Rattle.c_limits.specs.CodeLevels.{first_on, nodes_of, in_type, in_words, in_word, in_members, in_declarators, in_declarator, in_dimensions, in_enumerators, in_enumerator}
 
 abbrev pub offset : ℕ × ℕ → ℕ
 offset n = n.1

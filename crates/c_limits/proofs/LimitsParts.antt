@@ -8,11 +8,11 @@ use Rattle.c_grammar.specs.declared.symbol.Production.TheVariants as ends
 use Rattle.c_grammar.specs.Tree as tree
 use Rattle.c_grammar.specs.Tree.{TypeName, Declarator, Call, Simple, Init, Local, Param, Top}
 use Rattle.c_grammar.specs.Spells as spells
-use Rattle.c_grammar.specs.Build.{Value, Tok, OfExp, OfType, OfWord, OfWords, OfMembers, OfDeclarators, OfDeclarator, OfDimensions, OfStars, OfEnumerators, OfEnumerator, OfExps, OfCall, OfRhs, OfSimple, OfInit, OfInits, OfLocal, OfLabel, OfLabels, OfStart, OfTest, OfStep, OfStmt, OfItems, OfGroups, OfBracket, OfParamName, OfParam, OfParams, OfParameters, OfTop, OfTops, OfExternal, OfUnit, constant, act}
+use Rattle.c_grammar.specs.CodeBuild.{Value, Tok, OfExp, OfType, OfWord, OfWords, OfMembers, OfDeclarators, OfDeclarator, OfDimensions, OfStars, OfEnumerators, OfEnumerator, OfExps, OfCall, OfRhs, OfSimple, OfInit, OfInits, OfLocal, OfLabel, OfLabels, OfStart, OfTest, OfStep, OfStmt, OfItems, OfGroups, OfBracket, OfParamName, OfParam, OfParams, OfParameters, OfTop, OfTops, OfExternal, OfUnit, constant, act}
 use Rattle.c_limits.specs.FirstToken.{first_of, first_of_call, first_of_declarator, first_of_simple, first_of_stars, first_of_word, first_of_words}
 use Rattle.c_limits.specs.Limits as limits
 use Rattle.c_limits.specs.Limits.{Measure, nothing}
-use Rattle.c_limits.specs.Measure.{Part, token, reduced}
+use Rattle.c_limits.specs.CodeMeasure.{Part, token, reduced}
 
 abbrev pub plain : Measure → Part
 plain m = record { first = None; measure = m }

@@ -7,7 +7,7 @@ use Rattle.c_grammar.specs.Tree.{Exp, Call, Rhs, Simple, Init, Local, Label, Sta
 use Rattle.c_limits.specs.FirstToken.{first_of_declarator, first_of_simple}
 use Rattle.c_limits.specs.Limits as limits
 use Rattle.c_limits.specs.Limits.{Measure, nothing, beside, all, outermost}
-use Rattle.c_limits.specs.Levels.{first_on, in_inits, in_local, in_start, statements_of, in_items, in_groups}
+use Rattle.c_limits.specs.CodeLevels.{first_on, in_inits, in_local, in_start, statements_of, in_items, in_groups}
 use Rattle.c_limits.proofs.LimitsLevels.{Rows, Counts, append_nil, first_on_other, rows_none, rows_node, rows_beside, exp_counts, words_counts, declarator_counts}
 
 -- the measure of a part of a body: its statements

@@ -4,13 +4,13 @@ use Rattle.std.proofs.lemmas.List.{map_push, reverse-append}
 use Rattle.std.specs.Option.{option_map}
 use Rattle.c_lex.specs.Lexeme.{Lexeme}
 use Rattle.c_grammar.specs.declared.symbol.Production.{Production}
-use Rattle.c_grammar.specs.declared.script.Step.{Step}
-use Rattle.c_grammar.specs.declared.script.Step.TheVariants.{Shift, Reduce}
+use Rattle.c_grammar.specs.declared.scripts.Step.{Step}
+use Rattle.c_grammar.specs.declared.scripts.Step.TheVariants.{Shift, Reduce}
 use Rattle.c_limits.specs.declared.limits.Limit.TheVariants as limit
 use Rattle.c_limits.specs.declared.limits.part.Part as code
 use Rattle.c_limits.specs.Limits.{Fault, Measure, node, past, earlier}
-use Rattle.c_limits.specs.Roles.{arity, role_of}
-use Rattle.c_limits.specs.Measure.{Part, part_of, cut, cut_part, joined, gathered, made, pushed, empty, token, reduced, advanced}
+use Rattle.c_limits.specs.CodeRoles.{arity, role_of}
+use Rattle.c_limits.specs.CodeMeasure.{Part, part_of, cut, cut_part, joined, gathered, made, pushed, empty, token, reduced, advanced}
 use Rattle.c_limits.proofs.LimitsLists.{get_take}
 use Rattle.c_limits.proofs.LimitsCut.{is_cut_gathered}
 

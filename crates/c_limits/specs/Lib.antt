@@ -1,6 +1,6 @@
 pub mod FirstToken
 pub mod Limits
-pub mod Levels
+pub mod CodeLevels
 pub mod LimitsExamples
-pub mod Roles
-pub mod Measure
+pub mod CodeRoles
+pub mod CodeMeasure

@@ -246,8 +246,8 @@ abbrev mutual
 
 abbrev pub bracket : Bracket → Measure
 bracket tree.NoBracket = nothing
-bracket tree.OpenBracket = nothing
-bracket (tree.SizedBracket e) = outermost (all (exp e ∷ []))
+bracket (tree.OpenBracket a) = nothing
+bracket (tree.SizedBracket a e) = outermost (all (exp e ∷ []))
 
 abbrev pub param : Param → Measure
 param (tree.Parameter ws stars n b) = outermost (all (words ws ∷ bracket b ∷ []))

@@ -3,10 +3,10 @@
 ghost use Rattle.std.specs.Prelude.{◌≡◌, ◌∷◌, [], IfOk, List, Some, map, reverse};
 ghost use Rattle.c_lex.specs.Lexeme.{lexemes_of};
 ghost use Rattle.c_grammar.specs.Tree.{External};
-ghost use Rattle.c_grammar.specs.Build.{OfUnit};
-ghost use Rattle.c_grammar.specs.Script.{replay};
+ghost use Rattle.c_grammar.specs.CodeBuild.{OfUnit};
+ghost use Rattle.c_grammar.specs.CodeScript.{replay};
 ghost use Rattle.c_limits.specs.Limits as limits;
-ghost use Rattle.c_limits.specs.Measure as machine;
+ghost use Rattle.c_limits.specs.CodeMeasure as machine;
 
 pub mod laws;
 mod measure;
@@ -16,7 +16,7 @@ mod role;
 
 use self::measure::Fault;
 use self::part::{Part, reduce};
-use c_grammar::script::Step;
+use c_grammar::Step;
 use c_lex::Token;
 use std::alloc::{AllocError, Global};
 
@@ -58,7 +58,10 @@ fn advance<'a>(
     tokens: &'a [Token],
     step: Step,
 ) -> Result<&'a [Token], AllocError>
-    ensures { IfOk result (λ rest. (lexemes_of rest.now, reverse (map machine.part_of parts.new.items)) ≡ machine.advanced machine.cut step (lexemes_of tokens.now, reverse (map machine.part_of parts.old.items))) }
+    ensures { IfOk result
+        (λ rest. (lexemes_of rest.now, reverse (map machine.part_of parts.new.items))
+        ≡ machine.advanced machine.cut step
+        (lexemes_of tokens.now, reverse (map machine.part_of parts.old.items))) }
 {
     match step {
         Step::Shift => {
@@ -77,7 +80,9 @@ fn advance<'a>(
 
 /// The parts that stand behind the steps of a script.
 fn measured(alloc: Global, steps: &[Step], tokens: &[Token]) -> Result<Vec<Part>, AllocError>
-    ensures { IfOk result (λ parts. reverse (map machine.part_of parts.items) ≡ machine.measured machine.cut steps.now (lexemes_of tokens.now)) }
+    ensures { IfOk result
+        (λ parts. reverse (map machine.part_of parts.items) ≡ machine.measured machine.cut steps.now
+        (lexemes_of tokens.now)) }
 {
     let mut parts = Vec::new(alloc);
     let mut rest = tokens;
@@ -105,7 +110,8 @@ pub fn first_limit(
     steps: &[Step],
     tokens: &[Token],
 ) -> Result<Option<(Limit, usize)>, AllocError>
-    ensures { (exts : List External) → replay steps.now (lexemes_of tokens.now) [] ≡ Some (OfUnit exts ∷ []) → IfOk result (λ found. found ≡ limits.first_limit exts) }
+    ensures { (exts : List External) → replay steps.now (lexemes_of tokens.now) []
+        ≡ Some (OfUnit exts ∷ []) → IfOk result (λ found. found ≡ limits.first_limit exts) }
 {
     Ok(limit_of(measured(alloc, steps, tokens)?))
 }

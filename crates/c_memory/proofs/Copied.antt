@@ -5,7 +5,7 @@ use Rattle.std.proofs.Math.Path.{fun_ext}
 use Rattle.std.proofs.lemmas.Nat.{mod_below}
 use Rattle.std.proofs.lemmas.Map.Entries.{lookup_clone}
 use Rattle.std.specs.HashMap.{IsClone, get}
-use Rattle.c_memory.specs.Pages.{Pages, page_size, page_byte, byte_at}
+use Rattle.c_memory.specs.CodePages.{Pages, page_size, page_byte, byte_at}
 
 pub same_bytes : (C : ℕ → ℕ → Type 0) (D : List ℕ → List ℕ → Type 0) → ((x y : ℕ) → C x y → y ≡ x) → ((xs ys : List ℕ) → D xs ys → (i : ℕ) → i < 256 → slice_index ys i ≡ slice_index xs i) →
     (old new : Pages) → IsClone C D old new → byte_at new ≡ byte_at old

@@ -5,8 +5,8 @@ use Rattle.std.proofs.lemmas.Grind.{common_steps}
 use Rattle.std.specs.Ordering.{nat_cmp}
 use Rattle.std.specs.BTreeMap.{BTreeMap, get, is_at}
 use Rattle.c_memory.specs.Memory.{Tag}
-use Rattle.c_memory.specs.Nearest.{IsLastAt, IsFirstAfter}
-use Rattle.c_memory.specs.TagIndex.{IsIndex, IsLastTag, IsNextTag}
+use Rattle.c_memory.specs.CodeNearest.{IsLastAt, IsFirstAfter}
+use Rattle.c_memory.specs.CodeTagIndex.{IsIndex, IsLastTag, IsNextTag}
 
 none_some : {A : Type 0} {a : A} → ◌≡◌ {A = Option A} None (Some a) → ⊥
 none_some h = cc

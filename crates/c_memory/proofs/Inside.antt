@@ -9,7 +9,7 @@ use Rattle.c_values.proofs.Geometry.{leads_within}
 use Rattle.c_values.proofs.Laid.{IsLaid, IsGood, structs_of, shape_good, shape_type}
 use Rattle.c_values.proofs.Height.{height, highest}
 use Rattle.c_memory.specs.Tags.{is_root_type, root_path, prefixed}
-use Rattle.c_memory.specs.Inner.{inner_path, is_root_here, part_step, LiesIn, LiesInNone}
+use Rattle.c_memory.specs.CodeInner.{inner_path, is_root_here, part_step, LiesIn, LiesInNone}
 use Rattle.c_memory.proofs.Objects.{object_complete}
 use Rattle.c_memory.proofs.Roots.{found_leads}
 

@@ -8,28 +8,13 @@ use Rattle.c_values.specs.Layout.{Layout, Shape, Incomplete, Scalar, Record, Row
 use Rattle.c_values.specs.Path.{Field, step_spot}
 use Rattle.c_values.specs.CodeValue.{value_of}
 use Rattle.c_memory.specs.Memory.{load, loaded_members, loaded_elements}
-use Rattle.c_memory.specs.CodeParts.{values_in}
+use Rattle.c_values.specs.CodeParts.{values_in, joined}
+use Rattle.c_values.proofs.Joined.{joined-no_values, joined-push, values_in-push}
 use Rattle.c_memory.proofs.Rows.{fields_of, drop_fields, members_next, members_done}
 use Rattle.c_memory.proofs.Wrapped.{load_wrapped}
 use Rattle.c_memory.proofs.Objects.{object_complete}
 use Rattle.c_values.proofs.Laid.{IsLaid, structs_of, shape_good, shape_type}
 use Rattle.std.proofs.lemmas.Bool.{false≢true}
-
-abbrev pub joined : Values → Values → Values
-joined no_values ws = ws
-joined (more v vs) ws = more v (joined vs ws)
-
-joined-no_values : (vs : Values) → joined vs no_values ≡ vs
-joined-no_values no_values = refl
-joined-no_values (more v vs) = ap (λ ws. more v ws) (joined-no_values vs)
-
-joined-push : (xs : List V.Value) (v : V.Value) (ws : Values) → joined (values_in (xs ++ v ∷ [])) ws ≡ joined (values_in xs) (more (value_of v) ws)
-joined-push [] v ws = refl
-joined-push (x ∷ xs) v ws = ap (λ us. more (value_of x) us) (joined-push xs v ws)
-
-values_in-push : (xs : List V.Value) (v : V.Value) → values_in (xs ++ v ∷ []) ≡ joined (values_in xs) (more (value_of v) no_values)
-values_in-push [] v = refl
-values_in-push (x ∷ xs) v = ap (λ us. more (value_of x) us) (values_in-push xs v)
 
 loaded_elements-more : (f : ℕ → Value) (step a i : ℕ) → loaded_elements f step a (i + 1) ≡ joined (loaded_elements f step a i) (more (f (a + i * step)) no_values)
 loaded_elements-more f step a zero = let e : a ≡ a + 0 * step = omega arith in ap (λ b. more (f b) no_values) e

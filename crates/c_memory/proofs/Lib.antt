@@ -18,7 +18,6 @@ pub mod Elements
 pub mod Walks
 pub mod Scalars
 pub mod Spaces
-pub mod Layered
 pub mod Paged
 pub mod Rows
 pub mod Inside
@@ -26,7 +25,6 @@ pub mod Indexed
 pub mod Neighbours
 pub mod Sound
 pub mod Pieces
-pub mod Listed
 pub mod Joined
 pub mod Put
 pub mod Read

@@ -11,7 +11,7 @@ use Rattle.c_values.specs.Layout.{Layout, IsLayout, shape_of, size_of}
 use Rattle.c_values.specs.Path.{Step}
 use Rattle.c_memory.specs.Memory.{Tag}
 use Rattle.c_memory.specs.Tags.{IsTag, AreApart, ApartFrom, AreTags, root_path, path_from, is_covered}
-use Rattle.c_memory.specs.TagIndex.{IsLastTag, AllEndBy, OneEndsAfter, AllBeginAfter, OneBeginsWithin}
+use Rattle.c_memory.specs.CodeTagIndex.{IsLastTag, AllEndBy, OneEndsAfter, AllBeginAfter, OneBeginsWithin}
 use Rattle.c_memory.specs.TagFault.{are_apart, is_apart}
 use Rattle.c_values.proofs.Formed.{size_some}
 use Rattle.c_memory.proofs.Covered.{root_of}

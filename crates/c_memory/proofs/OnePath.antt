@@ -11,7 +11,7 @@ use Rattle.c_values.proofs.Leads.{IsNth, first, next, Leads, ends, by_member, by
 use Rattle.c_values.proofs.Geometry.{nth_within, leads_within}
 use Rattle.c_values.proofs.Laid.{IsLaid}
 use Rattle.c_values.proofs.Parts.{nth_laid, leads_laid, laid_shape}
-use Rattle.c_values.proofs.SameType.{type_is, same_type-refl}
+use Rattle.c_values.specs.CodeSameType.{type_is, same_type-refl}
 use Rattle.c_values.proofs.Height.{height, highest, nth_lower, leads_lower}
 use Rattle.c_memory.specs.Tags.{is_root_type, prefixed, root_path, member_path}
 

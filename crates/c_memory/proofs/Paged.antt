@@ -2,7 +2,7 @@
 use Rattle.std.proofs.Common.{◌≡◌, ℕ, zero, suc, ◌/◌, ◌%◌, nat_eq, cond, Bool, true, false, Option, Some, None, is_some, replicate, slice_index, refl, sym, ap, ◌∙◌, eqb-true}
 use Rattle.std.proofs.Math.Path.{fun_ext}
 use Rattle.std.specs.HashMap.{get}
-use Rattle.c_memory.specs.Pages.{Pages, page_size, page_byte, byte_at}
+use Rattle.c_memory.specs.CodePages.{Pages, page_size, page_byte, byte_at}
 
 zero_in : (n i : ℕ) → slice_index (replicate n 0) i ≡ 0
 zero_in zero i = refl

@@ -13,8 +13,8 @@ use Rattle.c_values.specs.CodeValue.{value_of}
 use Rattle.c_values.proofs.Laid.{IsLaid, structs_of, shape_good, shape_type}
 use Rattle.c_values.proofs.Steps.{to_member, to_element}
 use Rattle.c_memory.specs.Memory.{with_bytes, store, stored_members, stored_elements}
-use Rattle.c_memory.specs.Pages.{Pages, HasPages, KeepsPages, page_size}
-use Rattle.c_memory.specs.CodeParts.{values_in, has_parts}
+use Rattle.c_memory.specs.CodePages.{Pages, HasPages, KeepsPages, page_size}
+use Rattle.c_values.specs.CodeParts.{values_in, has_parts}
 use Rattle.c_memory.proofs.Objects.{object_complete}
 use Rattle.c_memory.proofs.Rows.{fields_of, drop_fields, members_next, members_done}
 use Rattle.c_memory.proofs.Wrapped.{store_wrapped}

@@ -6,10 +6,10 @@ use Rattle.c_values.specs.Value.{Value}
 use Rattle.c_values.specs.Layout.{Layout, shape_of, space, is_scalar, is_object, IsLayout, type_of}
 use Rattle.c_values.specs.Path.{Spot}
 use Rattle.c_memory.specs.Memory.{Tag, load, load_spot, store, store_spot}
-use Rattle.c_memory.specs.Place.{Place, place_of, place_from}
+use Rattle.c_memory.specs.CodePlace.{Place, place_of, place_from}
 use Rattle.c_values.proofs.Laid.{shape_type}
 use Rattle.c_memory.specs.Tags.{is_covered}
-use Rattle.c_memory.specs.TagIndex.{Covers}
+use Rattle.c_memory.specs.CodeTagIndex.{Covers}
 use Rattle.c_memory.proofs.Objects.{object_complete}
 use Rattle.c_memory.proofs.Neighbours.{covered_at}
 

@@ -8,7 +8,7 @@ use Rattle.c_values.specs.Path.{Step, Field, Index}
 use Rattle.c_values.proofs.Leads.{IsNth, first, next, Leads, ends, by_member, by_element}
 use Rattle.c_values.proofs.Laid.{IsLaid, AreLaid, structs_of, shape_good}
 use Rattle.c_values.proofs.Parts.{leads_laid, laid_shape}
-use Rattle.c_values.proofs.SameType.{type_is}
+use Rattle.c_values.specs.CodeSameType.{type_is}
 use Rattle.c_memory.specs.Tags.{is_root_type, IsMember, here, later, IsPart, scalar, struct, of_member, of_element, prefixed, root_path, member_path}
 
 none_some : {A : Type 0} {a : A} → ◌≡◌ {A = Option A} None (Some a) → ⊥

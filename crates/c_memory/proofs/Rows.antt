@@ -10,7 +10,7 @@ use Rattle.c_values.specs.Path.{Step, Field, Index, Spot, member_spot, step_spot
 use Rattle.c_values.proofs.Formed.{IsFormed, AreFormed, size_some, members_end}
 use Rattle.c_values.proofs.Laid.{shape_good, shape_type}
 use Rattle.c_memory.specs.Tags.{root_path, member_path, prefixed}
-use Rattle.c_memory.specs.Inner.{inner_path, LiesIn, LiesInNone}
+use Rattle.c_memory.specs.CodeInner.{inner_path, LiesIn, LiesInNone}
 use Rattle.c_memory.proofs.Objects.{object_complete}
 use Rattle.c_memory.proofs.Walks.{member_object, element_object}
 

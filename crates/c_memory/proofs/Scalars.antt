@@ -4,7 +4,7 @@ use Rattle.std.proofs.Math.Path.{fun_ext}
 use Rattle.std.proofs.lemmas.Bool.{cases_lt}
 use Rattle.std.specs.Int.{w64, from_le_bytes, to_le_bytes}
 use Rattle.c_memory.specs.Memory.{little_endian, with_byte, with_bytes}
-use Rattle.c_memory.specs.Pages.{IsRun}
+use Rattle.c_memory.specs.CodePages.{IsRun}
 use Rattle.c_memory.proofs.Frame.{bytes_frame}
 use Rattle.c_memory.proofs.RoundTrip.{first_byte}
 

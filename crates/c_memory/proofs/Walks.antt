@@ -8,7 +8,7 @@ use Rattle.c_values.specs.Path.{Step, Field, Index, Spot, spot, step_spot, and_t
 use Rattle.c_values.proofs.Laid.{shape_type}
 use Rattle.c_values.proofs.Steps.{to_member}
 use Rattle.c_memory.specs.Memory.{address_at}
-use Rattle.c_memory.specs.Place.{Place, place_from}
+use Rattle.c_memory.specs.CodePlace.{Place, place_from}
 use Rattle.c_memory.proofs.Elements.{address_further}
 use Rattle.c_memory.proofs.Objects.{object_complete}
 

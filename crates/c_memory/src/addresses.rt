@@ -16,8 +16,9 @@ pub(crate) fn moved(target: Target, address: u64, bytes: u64) -> u64
 }
 
 /// The address of an element, by plain arithmetic.
-pub(crate) fn element_address(target: Target, address: u64, index: Number, size: u32) -> u64
-    ensures { result ≡ address_at (2 ^ address_width (target_of target)) address (index *ℤ pos size) }
+pub fn element_address(target: Target, address: u64, index: Number, size: u32) -> u64
+    ensures { result ≡ address_at (2 ^ address_width (target_of target)) address
+        (index *ℤ pos size) }
 {
     let index = word(64, index).bits();
     moved(target, address, index.wrapping_mul(u64::from(size)))

@@ -33,12 +33,15 @@ impl ByteHeap {
         tags: &[(u64, CType)],
     ) -> Result<ByteHeap, HeapFault>
         requires bytes { AreRuns 0 (space l.now) (map run_of bytes.now) }
-        requires tags { (k : ℕ) (t : Tag) → slice_get (map tag_of tags.now) k ≡ Some t → IsRoot l.now t }
+        requires tags { (k : ℕ) (t : Tag) → slice_get (map tag_of tags.now) k ≡ Some t →
+            IsRoot l.now t }
         ensures heap { IfOk result (λ h.
-            memory_of h ≡ record { bytes = run_byte (map run_of bytes.now); tags = map tag_of tags.now }) }
+            memory_of h
+            ≡ record { bytes = run_byte (map run_of bytes.now); tags = map tag_of tags.now }) }
         ensures well_tagged { IfOk result (λ h. IsWellTagged l.now (memory_of h)) }
         ensures sound { IfOk result (λ _. first_fault l.now [] 0 (map tag_of tags.now) ≡ None) }
-        ensures cause { IfErr result (λ e. (e ≡ Memory) ⊎ (first_fault l.now [] 0 (map tag_of tags.now) ≡ Some e)) }
+        ensures cause { IfErr result
+            (λ e. (e ≡ Memory) ⊎ (first_fault l.now [] 0 (map tag_of tags.now) ≡ Some e)) }
     {
         let tags = table_of(alloc, l, tags)?;
         let pages = pages_of(alloc, bytes)?;
@@ -79,7 +82,8 @@ impl ByteHeap {
     /// How many pages are kept. Every address whose byte isn't 0 lies in one of them.
     pub fn pages(&self) -> usize
         ensures number { result ≡ hash_map_len self.now.pages }
-        ensures kept { (a : ℕ) → (memory_of self.now).bytes a ≢ 0 → IsSome (get nat_eq self.now.pages (a / 256)) }
+        ensures kept { (a : ℕ) → (memory_of self.now).bytes a ≢ 0 →
+            IsSome (get nat_eq self.now.pages (a / 256)) }
     {
         self.pages.len()
     }

@@ -25,7 +25,8 @@ pub trait Heap {
         requires address { address < space l.now }
         requires place { IsSomeAnd (spot (shape_of l.now (type_of t.now)) (map step_of path.now))
             (λ q. is_scalar (scalar_type q.shape) ≡ true) }
-        ensures { Bits result ≡ read_heap l.now (content self.now) (type_of t.now) address (map step_of path.now) };
+        ensures { Bits result ≡ read_heap l.now (content self.now) (type_of t.now) address
+            (map step_of path.now) };
 
     /// The value at a place.
     fn read_value(
@@ -41,7 +42,8 @@ pub trait Heap {
         requires address { address < space l.now }
         requires place { IsSome (spot (shape_of l.now (type_of t.now)) (map step_of path.now)) }
         ensures { IfOk result
-            (λ v. value_of v ≡ read_heap l.now (content self.now) (type_of t.now) address (map step_of path.now)) };
+            (λ v. value_of v ≡ read_heap l.now (content self.now) (type_of t.now) address
+            (map step_of path.now)) };
 
     /// Writes a value at a place of its type. An `Err` changes nothing.
     fn write_value(
@@ -59,7 +61,8 @@ pub trait Heap {
         requires place { IsSomeAnd (spot (shape_of l.now (type_of t.now)) (map step_of path.now))
             (λ q. HasShape q.shape (value_of value.now)) }
         ensures written { OnOk result (content self.new
-            ≡ write_heap l.now (content self.old) (type_of t.now) address (map step_of path.now) (value_of value.now)) }
+            ≡ write_heap l.now (content self.old) (type_of t.now) address (map step_of path.now)
+            (value_of value.now)) }
         ensures unchanged { OnErr result (content self.new ≡ content self.old) };
 
     /// Whether a root is covered.

@@ -6,7 +6,7 @@ ghost use Rattle.c_values.specs.Layout.{IsLayout, shape_of, space, is_object};
 ghost use Rattle.c_values.specs.CodeTypes.{type_of};
 ghost use Rattle.c_values.specs.CodeValue.{value_of};
 ghost use Rattle.c_memory.specs.Memory.{AreBytes, load};
-ghost use Rattle.c_memory.specs.Pages.{byte_at};
+ghost use Rattle.c_memory.specs.CodePages.{byte_at};
 
 use crate::addresses::moved;
 use crate::pages::Pages;
@@ -28,7 +28,8 @@ pub(crate) fn load(
     requires address { address < space l.now }
     requires bytes { AreBytes (byte_at pages.now) }
     ensures { IfOk result
-        (λ v. value_of v ≡ load (space l.now) (byte_at pages.now) (shape_of l.now (type_of t.now)) address) }
+        (λ v. value_of v ≡ load (space l.now) (byte_at pages.now)
+        (shape_of l.now (type_of t.now)) address) }
 {
     match t {
         CType::Int(_) | CType::Ptr(_) => Ok(Value::Word(load_word(pages, l, t, address))),
@@ -49,7 +50,8 @@ fn load_struct(
     requires object { is_object l.now (Struct name.now) ≡ true }
     requires bytes { AreBytes (byte_at pages.now) }
     ensures { IfOk result
-        (λ v. value_of v ≡ load (space l.now) (byte_at pages.now) (shape_of l.now (Struct name.now)) address) }
+        (λ v. value_of v ≡ load (space l.now) (byte_at pages.now)
+        (shape_of l.now (Struct name.now)) address) }
 {
     let mut values = Vec::new(alloc);
     let mut k = 0;
@@ -73,7 +75,8 @@ fn load_array(
     requires object { is_object l.now (Array (type_of element.now) length) ≡ true }
     requires bytes { AreBytes (byte_at pages.now) }
     ensures { IfOk result (λ v. value_of v
-        ≡ load (space l.now) (byte_at pages.now) (shape_of l.now (Array (type_of element.now) length)) address) }
+        ≡ load (space l.now) (byte_at pages.now)
+        (shape_of l.now (Array (type_of element.now) length)) address) }
 {
     let size = u64::from(size_of(l, element));
     let mut values = Vec::new(alloc);

@@ -66,6 +66,7 @@ pub fn store_leaves_bytes()
 pub fn addresses_are_modulo_the_space()
     ensures loads { (space : ℕ) (s : Shape) (a b : ℕ) (bytes : ℕ → ℕ) → a % space ≡ b % space →
         load space bytes s a ≡ load space bytes s b }
-    ensures stores { (space : ℕ) (s : Shape) (a b : ℕ) (v : Value) (bytes : ℕ → ℕ) → a % space ≡ b % space →
+    ensures stores { (space : ℕ) (s : Shape) (a b : ℕ) (v : Value) (bytes : ℕ → ℕ) →
+        a % space ≡ b % space →
         store space s a v bytes ≡ store space s b v bytes }
 {}

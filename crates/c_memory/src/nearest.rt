@@ -3,7 +3,7 @@
 ghost use Rattle.std.specs.Prelude.{◌≡◌, ◌<◌, ◌≤◌, ℕ, None, IfNone, IfSome};
 ghost use Rattle.std.specs.Ordering.{nat_cmp};
 ghost use Rattle.std.specs.BTreeMap.{get};
-ghost use Rattle.c_memory.specs.Nearest.{IsLastAt, IsFirstAfter};
+ghost use Rattle.c_memory.specs.CodeNearest.{IsLastAt, IsFirstAfter};
 
 use std::collections::BTreeMap;
 use std::ops::Bound;

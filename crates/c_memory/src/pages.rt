@@ -5,7 +5,7 @@ ghost use Rattle.std.specs.HashMap.{get};
 ghost use Rattle.c_values.specs.Types.{address_width};
 ghost use Rattle.c_values.specs.CodeTypes.{target_of};
 ghost use Rattle.c_memory.specs.Memory.{little_endian, with_byte, with_bytes};
-ghost use Rattle.c_memory.specs.Pages.{byte_at, IsRun, HasPages, KeepsPages};
+ghost use Rattle.c_memory.specs.CodePages.{byte_at, IsRun, HasPages, KeepsPages};
 
 use crate::addresses::moved;
 use c_values::Target;
@@ -32,7 +32,8 @@ pub(crate) fn byte_at(pages: &Pages, address: u64) -> u8
 pub(crate) fn bits_at(pages: &Pages, target: Target, address: u64, size: u64) -> u64
     requires address { address < 2 ^ address_width (target_of target) }
     requires size { size ≤ 8 }
-    ensures { result ≡ little_endian (2 ^ address_width (target_of target)) (byte_at pages.now) address size }
+    ensures { result ≡ little_endian (2 ^ address_width (target_of target))
+        (byte_at pages.now) address size }
 {
     u64::from_le_bytes(bytes_at(pages, target, address, size))
 }
@@ -86,7 +87,8 @@ pub(crate) fn take_pages(
 ) -> Result<(), AllocError>
     requires address { address < 2 ^ address_width (target_of target) }
     requires size { size ≤ 65536 }
-    ensures pages { OnOk result (HasPages (2 ^ address_width (target_of target)) pages.new address size) }
+    ensures pages { OnOk result
+        (HasPages (2 ^ address_width (target_of target)) pages.new address size) }
     ensures bytes { byte_at pages.new ≡ byte_at pages.old }
     ensures kept { KeepsPages pages.old pages.new }
 {
@@ -144,7 +146,8 @@ fn put_in_page(pages: &mut Pages, target: Target, address: u64, size: u64, bits:
 pub(crate) fn put_slice(pages: &mut Pages, address: u64, bytes: &[u8])
     requires page { address % 256 + length bytes.now ≤ 256 }
     requires pages { 0 < length bytes.now → IsSome (get nat_eq pages.old (address / 256)) }
-    ensures here { (i : ℕ) → i < length bytes.now → byte_at pages.new (address + i) ≡ slice_index bytes.now i }
+    ensures here { (i : ℕ) → i < length bytes.now → byte_at pages.new (address + i)
+        ≡ slice_index bytes.now i }
     ensures elsewhere { (x : ℕ) → (x < address) ⊎ (address + length bytes.now ≤ x) →
         byte_at pages.new x ≡ byte_at pages.old x }
     ensures pages { KeepsPages pages.old pages.new }

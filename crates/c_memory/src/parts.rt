@@ -5,9 +5,8 @@ ghost use Rattle.c_values.specs.Types.{Array, Struct};
 ghost use Rattle.c_values.specs.Layout.{IsLayout, shape_of, is_object};
 ghost use Rattle.c_values.specs.CodeTypes.{type_of};
 ghost use Rattle.c_memory.specs.Tags.{root_path};
-ghost use Rattle.c_memory.specs.Inner.{is_root_here, LiesIn, LiesInNone};
+ghost use Rattle.c_memory.specs.CodeInner.{is_root_here, LiesIn, LiesInNone};
 
-use crate::types::same_type;
 use c_values::{CType, Layout, size_of};
 
 /// A member or an element, by its number, and how far from its beginning an offset lies.
@@ -22,7 +21,8 @@ pub struct Part<'a> {
 /// part of a member or of an element.
 pub(crate) fn has_part(l: &Layout, whole: &CType, t: &CType, offset: u64) -> bool
     requires { is_object l.now (type_of whole.now) ≡ true }
-    ensures found { result ≡ is_some (root_path (shape_of l.now (type_of whole.now)) (type_of t.now) offset) }
+    ensures found { result ≡ is_some
+        (root_path (shape_of l.now (type_of whole.now)) (type_of t.now) offset) }
     ensures layout { IsLayout l.now }
 {
     if offset >= u64::from(size_of(l, whole)) {
@@ -50,14 +50,15 @@ pub fn is_root_here(whole: &CType, t: &CType, offset: u64) -> bool
         CType::Int(_) | CType::Ptr(_) | CType::Struct(_) => true,
         CType::Void | CType::Array(_, _) => false,
     };
-    is_root && same_type(whole, t) && offset == 0
+    is_root && whole == t && offset == 0
 }
 
 /// The member or the element in which an offset into an object lies.
 pub fn part_at<'a>(l: &'a Layout, whole: &'a CType, offset: u64) -> Option<Part<'a>>
     requires { is_object l.now (type_of whole.now) ≡ true }
     ensures none { IfNone result (LiesInNone l.now (type_of whole.now) offset) }
-    ensures some { IfSome result (λ p. LiesIn l.now (type_of whole.now) offset p.index (type_of p.ty.now) p.offset) }
+    ensures some { IfSome result
+        (λ p. LiesIn l.now (type_of whole.now) offset p.index (type_of p.ty.now) p.offset) }
 {
     match whole {
         CType::Struct(name) => member_at(l, name.as_str(), offset),
@@ -70,7 +71,8 @@ fn element_at<'a>(l: &'a Layout, element: &'a CType, length: u32, offset: u64) -
     requires { is_object l.now (Array (type_of element.now) length) ≡ true }
     ensures none { IfNone result (LiesInNone l.now (Array (type_of element.now) length) offset) }
     ensures some { IfSome result
-        (λ p. LiesIn l.now (Array (type_of element.now) length) offset p.index (type_of p.ty.now) p.offset) }
+        (λ p. LiesIn l.now (Array (type_of element.now) length) offset p.index
+        (type_of p.ty.now) p.offset) }
 {
     let size = u64::from(size_of(l, element));
     let index = offset / size;
@@ -87,7 +89,8 @@ fn element_at<'a>(l: &'a Layout, element: &'a CType, length: u32, offset: u64) -
 fn member_at<'a>(l: &'a Layout, name: &str, offset: u64) -> Option<Part<'a>>
     requires { is_object l.now (Struct name.now) ≡ true }
     ensures none { IfNone result (LiesInNone l.now (Struct name.now) offset) }
-    ensures some { IfSome result (λ p. LiesIn l.now (Struct name.now) offset p.index (type_of p.ty.now) p.offset) }
+    ensures some { IfSome result
+        (λ p. LiesIn l.now (Struct name.now) offset p.index (type_of p.ty.now) p.offset) }
 {
     let mut k = 0;
     'members: while let Some((at, ty)) = l.member(name, k) {

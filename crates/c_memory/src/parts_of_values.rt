@@ -4,7 +4,7 @@ ghost use Rattle.std.specs.Prelude.{◌≡◌, false, slice_get, IfSome, IfNone}
 ghost use Rattle.std.specs.Option.{option_copied};
 ghost use Rattle.c_values.specs.Value.{Parts};
 ghost use Rattle.c_values.specs.CodeValue.{value_of};
-ghost use Rattle.c_memory.specs.CodeParts.{values_in, has_parts};
+ghost use Rattle.c_values.specs.CodeParts.{values_in, has_parts};
 
 use c_values::Value;
 

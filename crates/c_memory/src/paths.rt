@@ -6,7 +6,7 @@ ghost use Rattle.c_values.specs.Layout.{IsLayout, shape_of, is_object, space};
 ghost use Rattle.c_values.specs.Path.{Field, Index, spot, step_spot};
 ghost use Rattle.c_values.specs.CodeTypes.{target_of, type_of};
 ghost use Rattle.c_memory.specs.CodeStep.{step_of};
-ghost use Rattle.c_memory.specs.Place.{place_of, place_from};
+ghost use Rattle.c_memory.specs.CodePlace.{place_of, place_from};
 
 use crate::addresses::{element_address, moved};
 use crate::steps::Step;
@@ -14,23 +14,19 @@ use c_values::{CType, Layout, Number, Target, size_of};
 
 /// An address, and the type of what lies there.
 #[derive(Clone, Copy)]
-pub(crate) struct Place<'a> {
-    pub(crate) address: u64,
-    pub(crate) ty: &'a CType,
+pub struct Place<'a> {
+    pub address: u64,
+    pub ty: &'a CType,
 }
 
 /// Where a path into a type leads from an address, by plain address arithmetic. There is none exactly where the type has
 /// no such path.
-pub(crate) fn place_at<'a>(
-    l: &'a Layout,
-    t: &'a CType,
-    address: u64,
-    path: &[Step],
-) -> Option<Place<'a>>
+pub fn place_at<'a>(l: &'a Layout, t: &'a CType, address: u64, path: &[Step]) -> Option<Place<'a>>
     requires object { is_object l.now (type_of t.now) ≡ true }
     requires address { address < space l.now }
     ensures place { option_map (λ p. place_of l.now p.address (type_of p.ty.now)) result
-        ≡ place_from (space l.now) address (spot (shape_of l.now (type_of t.now)) (map step_of path.now)) }
+        ≡ place_from (space l.now) address
+        (spot (shape_of l.now (type_of t.now)) (map step_of path.now)) }
     ensures object { IfSome result (λ p. is_object l.now (type_of p.ty.now) ≡ true) }
     ensures address { IfSome result (λ p. p.address < space l.now) }
     ensures layout { IsLayout l.now }
@@ -49,7 +45,8 @@ fn place_in<'a>(l: &'a Layout, target: Target, whole: Place<'a>, step: Step) -> 
     requires target { target_of target ≡ l.now.target }
     requires object { is_object l.now (type_of whole.ty.now) ≡ true }
     ensures place { option_map (λ p. place_of l.now p.address (type_of p.ty.now)) result
-        ≡ place_from (space l.now) whole.entry.address (step_spot (shape_of l.now (type_of whole.entry.ty.now)) (step_of step)) }
+        ≡ place_from (space l.now) whole.entry.address
+        (step_spot (shape_of l.now (type_of whole.entry.ty.now)) (step_of step)) }
     ensures object { IfSome result (λ p. is_object l.now (type_of p.ty.now) ≡ true) }
     ensures address { IfSome result (λ p. p.address < space l.now) }
 {
@@ -65,7 +62,8 @@ fn member_of<'a>(l: &'a Layout, target: Target, whole: Place<'a>, k: u32) -> Opt
     requires target { target_of target ≡ l.now.target }
     requires object { is_object l.now (type_of whole.ty.now) ≡ true }
     ensures place { option_map (λ p. place_of l.now p.address (type_of p.ty.now)) result
-        ≡ place_from (space l.now) whole.entry.address (step_spot (shape_of l.now (type_of whole.entry.ty.now)) (Field k)) }
+        ≡ place_from (space l.now) whole.entry.address
+        (step_spot (shape_of l.now (type_of whole.entry.ty.now)) (Field k)) }
     ensures object { IfSome result (λ p. is_object l.now (type_of p.ty.now) ≡ true) }
     ensures address { IfSome result (λ p. p.address < space l.now) }
 {
@@ -90,7 +88,8 @@ fn element_of<'a>(
     requires target { target_of target ≡ l.now.target }
     requires object { is_object l.now (type_of whole.ty.now) ≡ true }
     ensures place { option_map (λ p. place_of l.now p.address (type_of p.ty.now)) result
-        ≡ place_from (space l.now) whole.entry.address (step_spot (shape_of l.now (type_of whole.entry.ty.now)) (Index index)) }
+        ≡ place_from (space l.now) whole.entry.address
+        (step_spot (shape_of l.now (type_of whole.entry.ty.now)) (Index index)) }
     ensures object { IfSome result (λ p. is_object l.now (type_of p.ty.now) ≡ true) }
     ensures address { IfSome result (λ p. p.address < space l.now) }
 {

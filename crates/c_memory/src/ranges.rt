@@ -2,7 +2,7 @@
 
 ghost use Rattle.std.specs.Prelude.{◌≡◌, ◌<◌, ◌≤◌, ◌+◌, ◌^◌, ◌⊎◌, ℕ, length, map, slice_index, IfOk, OnOk};
 ghost use Rattle.c_memory.specs.Memory.{AreBytes};
-ghost use Rattle.c_memory.specs.Pages.{byte_at};
+ghost use Rattle.c_memory.specs.CodePages.{byte_at};
 ghost use Rattle.c_memory.specs.Ranges.{run_of, AreRuns, run_byte};
 
 use crate::pages::{PAGE, Pages, put_slice, take_page};

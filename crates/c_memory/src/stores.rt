@@ -7,8 +7,8 @@ ghost use Rattle.c_values.specs.Layout.{IsLayout, shape_of, size_of, space, is_o
 ghost use Rattle.c_values.specs.CodeTypes.{type_of};
 ghost use Rattle.c_values.specs.CodeValue.{value_of};
 ghost use Rattle.c_memory.specs.Memory.{store};
-ghost use Rattle.c_memory.specs.Pages.{byte_at, HasPages, KeepsPages};
-ghost use Rattle.c_memory.specs.CodeParts.{values_in};
+ghost use Rattle.c_memory.specs.CodePages.{byte_at, HasPages, KeepsPages};
+ghost use Rattle.c_values.specs.CodeParts.{values_in};
 
 use crate::addresses::moved;
 use crate::pages::{Pages, put_bits};
@@ -23,7 +23,8 @@ pub(crate) fn store(pages: &mut Pages, l: &Layout, t: &CType, address: u64, valu
     requires address { address < space l.now }
     requires pages { HasPages (space l.now) pages.old address (size_of l.now (type_of t.now)) }
     ensures bytes { byte_at pages.new
-        ≡ store (space l.now) (shape_of l.now (type_of t.now)) address (value_of value.now) (byte_at pages.old) }
+        ≡ store (space l.now) (shape_of l.now (type_of t.now)) address (value_of value.now)
+        (byte_at pages.old) }
     ensures pages { KeepsPages pages.old pages.new }
 {
     match t {
@@ -41,7 +42,8 @@ fn store_whole(pages: &mut Pages, l: &Layout, t: &CType, address: u64, value: &V
     requires whole { is_scalar (type_of t.now) ≡ false }
     requires pages { HasPages (space l.now) pages.old address (size_of l.now (type_of t.now)) }
     ensures bytes { byte_at pages.new
-        ≡ store (space l.now) (shape_of l.now (type_of t.now)) address (value_of value.now) (byte_at pages.old) }
+        ≡ store (space l.now) (shape_of l.now (type_of t.now)) address (value_of value.now)
+        (byte_at pages.old) }
     ensures pages { KeepsPages pages.old pages.new }
 {
     let Some(parts) = parts_of(value) else {
@@ -59,8 +61,10 @@ fn store_whole(pages: &mut Pages, l: &Layout, t: &CType, address: u64, value: &V
 #[cycle(store)]
 fn store_struct(pages: &mut Pages, l: &Layout, name: &String, address: u64, parts: &[Value])
     requires object { is_object l.now (Struct (string_bytes name.now)) ≡ true }
-    requires pages { HasPages (space l.now) pages.old address (size_of l.now (Struct (string_bytes name.now))) }
-    ensures bytes { byte_at pages.new ≡ store (space l.now) (shape_of l.now (Struct (string_bytes name.now))) address
+    requires pages { HasPages (space l.now) pages.old address
+        (size_of l.now (Struct (string_bytes name.now))) }
+    ensures bytes { byte_at pages.new
+        ≡ store (space l.now) (shape_of l.now (Struct (string_bytes name.now))) address
         (Parts (values_in parts.now)) (byte_at pages.old) }
     ensures pages { KeepsPages pages.old pages.new }
 {
@@ -85,8 +89,10 @@ fn store_array(
     parts: &[Value],
 )
     requires object { is_object l.now (Array (type_of element.now) length) ≡ true }
-    requires pages { HasPages (space l.now) pages.old address (size_of l.now (Array (type_of element.now) length)) }
-    ensures bytes { byte_at pages.new ≡ store (space l.now) (shape_of l.now (Array (type_of element.now) length)) address
+    requires pages { HasPages (space l.now) pages.old address
+        (size_of l.now (Array (type_of element.now) length)) }
+    ensures bytes { byte_at pages.new
+        ≡ store (space l.now) (shape_of l.now (Array (type_of element.now) length)) address
         (Parts (values_in parts.now)) (byte_at pages.old) }
     ensures pages { KeepsPages pages.old pages.new }
 {
@@ -107,7 +113,8 @@ fn store_word(pages: &mut Pages, l: &Layout, t: &CType, address: u64, value: &Va
     requires address { address < space l.now }
     requires pages { HasPages (space l.now) pages.old address (size_of l.now (type_of t.now)) }
     ensures bytes { byte_at pages.new
-        ≡ store (space l.now) (shape_of l.now (type_of t.now)) address (value_of value.now) (byte_at pages.old) }
+        ≡ store (space l.now) (shape_of l.now (type_of t.now)) address (value_of value.now)
+        (byte_at pages.old) }
     ensures pages { KeepsPages pages.old pages.new }
 {
     let size = u64::from(size_of(l, t));

@@ -12,8 +12,7 @@ ghost use Rattle.c_memory.specs.declared.faults.HeapFault.TheVariants.{Memory};
 
 use crate::faults::HeapFault;
 use crate::tag_table::TagTable;
-use crate::types::copy_of;
-use c_values::{CType, Layout, Target, align_of, size_of};
+use c_values::{CType, Layout, Target, align_of, copy_of, size_of};
 use std::alloc::Global;
 
 /// The table of tags, unless one of them is at fault: the first, and what is wrong with it.
@@ -26,7 +25,8 @@ pub(crate) fn table_of(
     ensures tags { IfOk result (λ table. table ≡ map tag_of tags.now) }
     ensures well_tagged { IfOk result (λ table. AreTags l.now table) }
     ensures sound { IfOk result (λ _. first_fault l.now [] 0 (map tag_of tags.now) ≡ None) }
-    ensures cause { IfErr result (λ e. (e ≡ Memory) ⊎ (first_fault l.now [] 0 (map tag_of tags.now) ≡ Some e)) }
+    ensures cause { IfErr result
+        (λ e. (e ≡ Memory) ⊎ (first_fault l.now [] 0 (map tag_of tags.now) ≡ Some e)) }
 {
     let mut table = TagTable::new(alloc);
     for (k, (address, ty)) in tags.iter().enumerate() {
@@ -46,12 +46,16 @@ fn with_tag(
 ) -> Result<TagTable, HeapFault>
     requires tags { AreTags l.now table }
     requires root { IsRoot l.now (record { address = address; type = type_of ty.now }) }
-    ensures tags { IfOk result (λ t. t ≡ table ++ record { address = address; type = type_of ty.now } ∷ []) }
+    ensures tags { IfOk result
+        (λ t. t ≡ table ++ record { address = address; type = type_of ty.now } ∷ []) }
     ensures well_tagged { IfOk result (λ t. AreTags l.now t) }
     ensures sound { IfOk result
-        (λ _. tag_fault l.now table k (record { address = address; type = type_of ty.now }) ≡ None) }
+        (λ _. tag_fault l.now table k (record { address = address; type = type_of ty.now })
+        ≡ None) }
     ensures cause { IfErr result
-        (λ e. (e ≡ Memory) ⊎ (tag_fault l.now table k (record { address = address; type = type_of ty.now }) ≡ Some e)) }
+        (λ e. (e ≡ Memory)
+        ⊎ (tag_fault l.now table k (record { address = address; type = type_of ty.now })
+        ≡ Some e)) }
 {
     match tag_fault(&table, l, k, address, ty) {
         Some(fault) => Err(fault),
@@ -63,7 +67,8 @@ fn with_tag(
 fn tag_fault(table: &TagTable, l: &Layout, k: usize, address: u64, ty: &CType) -> Option<HeapFault>
     requires tags { AreTags l.now table.now }
     requires object { is_object l.now (type_of ty.now) ≡ true }
-    ensures fault { result ≡ tag_fault l.now table.now k (record { address = address; type = type_of ty.now }) }
+    ensures fault { result ≡ tag_fault l.now table.now k
+        (record { address = address; type = type_of ty.now }) }
     ensures layout { IsLayout l.now }
 {
     let size = size_of(l, ty);

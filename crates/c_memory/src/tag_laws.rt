@@ -26,7 +26,8 @@ pub fn search_finds_each_part()
 /// A path that leads to a part is the one that the search finds, so each part has one path.
 pub fn part_has_one_path()
     ensures { (l : Layout) (u t : CType) (d : ℕ) (path : List Step) → IsLayout l →
-        is_complete (shape_of l u) ≡ true → is_root_type t ≡ true → in_range (shape_of l u) path ≡ true →
+        is_complete (shape_of l u) ≡ true → is_root_type t ≡ true → in_range (shape_of l u) path
+        ≡ true →
         spot (shape_of l u) path ≡ Some (record { offset = pos d; shape = shape_of l t }) →
         root_path (shape_of l u) t d ≡ Some path }
 {}
@@ -41,7 +42,8 @@ pub fn covered_root_is_a_part()
 
 /// Each part of a tag's object is a covered root.
 pub fn part_is_covered()
-    ensures { (l : Layout) (tags : List Tag) (u : Tag) (t : CType) (d : ℕ) → IsLayout l → AreTags l tags →
+    ensures { (l : Layout) (tags : List Tag) (u : Tag) (t : CType) (d : ℕ) → IsLayout l →
+        AreTags l tags →
         Contains tags u → IsPart (shape_of l u.type) d t →
         is_covered l tags t (u.address + d) ≡ true }
 {}

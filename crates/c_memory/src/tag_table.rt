@@ -6,13 +6,12 @@ ghost use Rattle.c_values.specs.CodeTypes.{type_of};
 ghost use Rattle.c_memory.specs.Memory.{Tag};
 ghost use Rattle.c_memory.specs.Tags.{AreTags, path_from, is_covered};
 ghost use Rattle.c_memory.specs.CodeTag.{tag_of};
-ghost use Rattle.c_memory.specs.TagIndex.{IsLastTag, IsNextTag, Covers, AllEndBy, OneEndsAfter, AllBeginAfter, OneBeginsWithin};
+ghost use Rattle.c_memory.specs.CodeTagIndex.{IsLastTag, IsNextTag, Covers, AllEndBy, OneEndsAfter, AllBeginAfter, OneBeginsWithin};
 ghost use Rattle.c_memory.specs.TagFault.{is_apart};
 
 use crate::nearest::{first_after, last_at};
 use crate::parts::has_part;
-use crate::types::copy_of;
-use c_values::{CType, Layout, size_of};
+use c_values::{CType, Layout, copy_of, size_of};
 use std::alloc::{AllocError, Global};
 use std::collections::BTreeMap;
 use std::marker::Model;
@@ -28,7 +27,7 @@ impl Model for TagTable {
     ghost use Rattle.std.specs.Prelude.{List, map};
     ghost use Rattle.c_memory.specs.Memory.{Tag};
     ghost use Rattle.c_memory.specs.CodeTag.{tag_of};
-    ghost use Rattle.c_memory.specs.TagIndex.{tags_code, IsIndex};
+    ghost use Rattle.c_memory.specs.CodeTagIndex.{tags_code, IsIndex};
 
     ghost Value = { List Tag };
 
@@ -60,7 +59,8 @@ impl TagTable {
     /// The same tags, and one more at an address that none has.
     pub fn with(self, address: u64, ty: CType) -> Result<TagTable, AllocError>
         requires { (k : ℕ) (t : Tag) → slice_get self k ≡ Some t → t.address ≢ address }
-        ensures { IfOk result (λ table. table ≡ self ++ record { address = address; type = type_of ty } ∷ []) }
+        ensures { IfOk result
+            (λ table. table ≡ self ++ record { address = address; type = type_of ty } ∷ []) }
     {
         let TagTable {
             mut tags,
@@ -85,7 +85,8 @@ impl TagTable {
 
     /// The position of the last tag at or below an address.
     pub(crate) fn last_at(&self, address: u64) -> Option<usize>
-        ensures none { IfNone result ((k : ℕ) (t : Tag) → slice_get self.now k ≡ Some t → address < t.address) }
+        ensures none { IfNone result ((k : ℕ) (t : Tag) → slice_get self.now k ≡ Some t →
+            address < t.address) }
         ensures some { IfSome result (IsLastTag self.now address) }
     {
         last_at(&self.places, address)
@@ -93,7 +94,8 @@ impl TagTable {
 
     /// The position of the first tag after an address.
     pub(crate) fn first_after(&self, address: u64) -> Option<usize>
-        ensures none { IfNone result ((k : ℕ) (t : Tag) → slice_get self.now k ≡ Some t → t.address ≤ address) }
+        ensures none { IfNone result ((k : ℕ) (t : Tag) → slice_get self.now k ≡ Some t →
+            t.address ≤ address) }
         ensures some { IfSome result (IsNextTag self.now address) }
     {
         first_after(&self.places, address)
@@ -120,7 +122,8 @@ impl TagTable {
     pub(crate) fn is_apart(&self, l: &Layout, t: &CType, address: u64) -> bool
         requires tags { AreTags l.now self.now }
         requires object { is_object l.now (type_of t.now) ≡ true }
-        ensures { result ≡ is_apart l.now (record { address = address; type = type_of t.now }) self.now }
+        ensures { result ≡ is_apart l.now
+            (record { address = address; type = type_of t.now }) self.now }
     {
         let size = size_of(l, t);
         self.all_end_by(l, address) && self.all_begin_after(address, size)
@@ -129,7 +132,8 @@ impl TagTable {
     // Whether each object at or below an address ends by it.
     fn all_end_by(&self, l: &Layout, address: u64) -> bool
         requires { AreTags l.now self.now }
-        ensures { MatchBool result (AllEndBy l.now self.now address) (OneEndsAfter l.now self.now address) }
+        ensures { MatchBool result (AllEndBy l.now self.now address)
+            (OneEndsAfter l.now self.now address) }
     {
         match self.last_at(address) {
             Some(k) => {
@@ -142,7 +146,8 @@ impl TagTable {
 
     // Whether each object after an address begins at or after the end of so many bytes.
     fn all_begin_after(&self, address: u64, bytes: u32) -> bool
-        ensures { MatchBool result (AllBeginAfter self.now address bytes) (OneBeginsWithin self.now address bytes) }
+        ensures { MatchBool result (AllBeginAfter self.now address bytes)
+            (OneBeginsWithin self.now address bytes) }
     {
         match self.first_after(address) {
             Some(k) => {

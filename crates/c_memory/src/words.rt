@@ -5,7 +5,7 @@ ghost use Rattle.c_values.specs.Value.{Bits};
 ghost use Rattle.c_values.specs.Layout.{shape_of, space, is_object, is_scalar};
 ghost use Rattle.c_values.specs.CodeTypes.{type_of};
 ghost use Rattle.c_memory.specs.Memory.{AreBytes, load};
-ghost use Rattle.c_memory.specs.Pages.{byte_at};
+ghost use Rattle.c_memory.specs.CodePages.{byte_at};
 
 use crate::pages::{Pages, bits_at};
 use c_values::{CType, Layout, Word, size_of};
@@ -16,7 +16,8 @@ pub(crate) fn load_word(pages: &Pages, l: &Layout, t: &CType, address: u64) -> W
     requires scalar { is_scalar (type_of t.now) ≡ true }
     requires address { address < space l.now }
     requires bytes { AreBytes (byte_at pages.now) }
-    ensures { Bits result ≡ load (space l.now) (byte_at pages.now) (shape_of l.now (type_of t.now)) address }
+    ensures { Bits result ≡ load (space l.now) (byte_at pages.now)
+        (shape_of l.now (type_of t.now)) address }
 {
     let size = size_of(l, t) as u8;
     Word::new(

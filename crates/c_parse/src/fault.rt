@@ -4,7 +4,7 @@ ghost use Rattle.c_parse.specs.declared.fault.ParseFault.TheVariants.{Memory};
 ghost use Rattle.c_parse.specs.Answer.{of_script};
 
 use c_grammar::ScriptFault;
-use c_limits::limits::Limit;
+use c_limits::Limit;
 use std::alloc::{AllocError, AllocFailed};
 use thiserror::Error;
 

@@ -1,5 +1,5 @@
 -- One struct more behind those of a layout.
-use Rattle.std.proofs.Common.{◌≡◌, ℕ, zero, suc, ◌+◌, ◌≤◌, Bool, true, false, not, cond, ◌&&◌, ◌||◌, leb, List, [], ◌∷◌, ◌++◌, length, map, refl, sym, ap, ◌∙◌, subst, arith}
+use Rattle.std.proofs.Common.{◌≡◌, ℕ, zero, suc, ◌≤◌, Bool, true, false, not, cond, ◌&&◌, ◌||◌, leb, List, [], ◌∷◌, ◌++◌, length, map, refl, sym, ap, ◌∙◌, subst, arith}
 use Rattle.std.proofs.lemmas.Bool.{and_parts, cond-true, true≢false, false≢true}
 use Rattle.std.proofs.lemmas.List.{map-append}
 use Rattle.std.specs.Str.{bytes_eq}
@@ -12,7 +12,7 @@ use Rattle.c_values.specs.Growth.{with_struct, struct_names, can_follow}
 use Rattle.c_values.specs.declared.layouts.StructDef as D
 use Rattle.c_values.specs.declared.places.Places as P
 use Rattle.c_values.specs.CodeLayout.{struct_def_of}
-use Rattle.c_values.specs.StructTable.{Table, Describes, DescribesShape, Finds, IsNamed, IsTabled, IsPlacement}
+use Rattle.c_values.specs.CodeStructTable.{Table, Describes, DescribesShape, Finds, IsNamed, IsTabled, IsPlacement}
 use Rattle.c_values.proofs.Laid.{same_name-refl}
 use Rattle.c_values.proofs.Tabulating.{describes_more, finds_more, small_struct}
 

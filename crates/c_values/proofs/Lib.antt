@@ -4,7 +4,13 @@ pub mod Geometry
 pub mod Placed
 pub mod Laid
 pub mod Parts
-pub mod SameType
+pub mod Layered
+pub mod Either
+pub mod Listed
+pub mod Joined
+pub mod Unequal
+pub mod Compared
+pub mod Follow
 pub mod Height
 pub mod Shaped
 pub mod Replaced
@@ -21,5 +27,6 @@ pub mod Members
 pub mod Growing
 pub mod Naming
 pub mod Into
+pub mod Lone
 pub mod Zeroed
 pub mod Following

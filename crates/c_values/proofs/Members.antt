@@ -14,7 +14,7 @@ use Rattle.c_values.specs.Layout.{Layout, Shape, Incomplete, Scalar, Record, Row
 use Rattle.c_values.specs.Path.{Field, step_spot, member_spot}
 use Rattle.c_values.specs.CodeTypes.{type_of}
 use Rattle.c_values.specs.CodeLayout.{member_of, struct_def_of}
-use Rattle.c_values.specs.StructTable.{Table, DescribesShape, IsNamed, IsTabled, offsets}
+use Rattle.c_values.specs.CodeStructTable.{Table, DescribesShape, IsNamed, IsTabled, offsets}
 use Rattle.c_values.proofs.Defined.{layout_defined}
 use Rattle.c_values.proofs.Tabulating.{seen_here, seen_within}
 

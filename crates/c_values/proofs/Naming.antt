@@ -11,7 +11,7 @@ use Rattle.c_values.specs.Growth.{struct_named}
 use Rattle.c_values.specs.declared.layouts.StructDef as D
 use Rattle.c_values.specs.declared.places.Places as P
 use Rattle.c_values.specs.CodeLayout.{struct_def_of}
-use Rattle.c_values.specs.StructTable.{Table, DescribesShape, IsTabled}
+use Rattle.c_values.specs.CodeStructTable.{Table, DescribesShape, IsTabled}
 use Rattle.c_values.proofs.Laid.{same_name-refl, name_is}
 use Rattle.c_values.proofs.Defined.{layout_defined}
 use Rattle.c_values.proofs.Members.{named}

@@ -12,7 +12,7 @@ use Rattle.c_values.specs.declared.types.CType as C
 use Rattle.c_values.specs.CodeLayout.{member_of}
 use Rattle.c_values.specs.declared.places.Places as P
 use Rattle.c_values.specs.declared.places.Extent as E
-use Rattle.c_values.specs.StructTable.{Table, Measures, Describes, DescribesShape, offsets}
+use Rattle.c_values.specs.CodeStructTable.{Table, Measures, Describes, DescribesShape, offsets}
 use Rattle.c_values.proofs.Formed.{some_bytes, formed_alignment}
 use Rattle.c_values.proofs.Placed.{aligned_after}
 use Rattle.c_values.proofs.Laid.{integer_formed}

@@ -7,7 +7,7 @@ use Rattle.c_values.specs.Types.{CType, Struct, Array}
 use Rattle.c_values.specs.Name.{Name}
 use Rattle.c_values.specs.Layout.{Layout, IsLayout, Shape, Incomplete, Scalar, Record, Row, type_of, shape_of, size_of, is_complete, is_object, largest_size}
 use Rattle.c_values.specs.Path.{Step, Field, Index, Spot, spot, step_spot, step_in_range, in_range, spot_offset, further, offset_of}
-use Rattle.c_values.specs.PartOf.{IsPart}
+use Rattle.c_values.specs.CodePartOf.{IsPart}
 use Rattle.c_values.proofs.Laid.{shape_type}
 use Rattle.c_values.proofs.Parts.{part_of, formed_complete}
 

@@ -14,7 +14,7 @@ use Rattle.c_values.specs.Layout.{Shape, Incomplete, size, StructDef, struct_sha
 use Rattle.c_values.specs.declared.layouts.StructDef as D
 use Rattle.c_values.specs.declared.places.Places as P
 use Rattle.c_values.specs.CodeLayout.{struct_def_of, IsFirstLarge}
-use Rattle.c_values.specs.StructTable.{Table, Describes, DescribesShape, Finds, IsNamed, IsTabled}
+use Rattle.c_values.specs.CodeStructTable.{Table, Describes, DescribesShape, Finds, IsNamed, IsTabled}
 
 abbrev none : Name → Shape
 none x = Incomplete

@@ -1,60 +1,21 @@
 -- Zeros that are made one after the other, and one around the other.
-use Rattle.std.proofs.Common.{◌≡◌, ℕ, zero, suc, ◌+◌, ◌≤◌, max, Bool, true, false, cond, eqb, List, [], ◌∷◌, ◌++◌, refl, sym, ap, ap₂, ◌∙◌, arith, le_refl, eqb-true}
-use Rattle.std.specs.Prelude.{Some, None, Vec, slice_get}
-use Rattle.std.specs.declared.alloc.Global.{Global}
+use Rattle.std.proofs.Common.{◌≡◌, ℕ, zero, suc, ◌+◌, max, Bool, true, false, cond, List, [], ◌∷◌, ◌++◌, refl, sym, ap, ap₂, ◌∙◌, arith}
+use Rattle.std.specs.Prelude.{Some, None, slice_get}
 use Rattle.c_values.specs.Name.{Name, same_name, with_name}
-use Rattle.c_values.specs.Types.{Target, CType, Integer, Void, Ptr, Struct, Array}
+use Rattle.c_values.specs.Types.{Target, CType, Struct}
 use Rattle.c_values.specs.Layout.{Layout, IsLayout, Shape, Incomplete, size, alignment, aligned, placed, Member, StructDef, struct_shape, shape_from, shapes_after, shape_of}
 use Rattle.c_values.specs.Growth.{struct_named}
 use Rattle.c_values.specs.declared.values.Value as V
-use Rattle.c_values.specs.declared.values.Value.{Row_of-Value, end_of-Value, more_of-Value, items-the_row-Value, items_hidden-the_row-Value-0}
 use Rattle.c_values.specs.Value.{Value, Values, Parts, no_values, more}
-use Rattle.c_values.specs.CodeValue.{value_of, values_of}
+use Rattle.c_values.specs.CodeValue.{value_of}
+use Rattle.c_values.specs.CodeParts.{values_in, joined}
+use Rattle.c_values.specs.CodeLone.{inside, around}
+use Rattle.c_values.proofs.Lone.{whole_around}
+use Rattle.c_values.proofs.Joined.{joined-no_values, joined-push}
 use Rattle.c_values.specs.Path.{zeros, copies, member_zeros}
 use Rattle.c_values.proofs.Height.{height, highest}
 use Rattle.c_values.proofs.Laid.{structs_of, name_is}
 use Rattle.c_values.proofs.Defined.{layout_defined}
-
--- the values of a list
-abbrev pub values_in : List V.Value → Values
-values_in [] = no_values
-values_in (v ∷ vs) = more (value_of v) (values_in vs)
-
-row_values : {m : _} (k : Row_of-Value m) → values_of k ≡ values_in (items-the_row-Value m k)
-row_values end_of-Value = refl
-row_values (more_of-Value v vs) = ap (λ ws. more (value_of v) ws) (row_values vs)
-
-row_parts : {m : _} (k : Row_of-Value m) (xs : List V.Value) → items-the_row-Value m k ≡ xs → Parts (values_of k) ≡ Parts (values_in xs)
-row_parts k xs e = ap (λ vs. Parts vs) (row_values k ∙ ap values_in e)
-
-abbrev row_of : V.Value → (m : _) × Row_of-Value m
-row_of (V.Parts' shape vs) = (_, vs)
-row_of (V.Word w) = (_, end_of-Value)
-row_of (V.Number n) = (_, end_of-Value)
-row_of (V.Truth b) = (_, end_of-Value)
-
--- the parts of a value
-pub parts_value : (v : Vec V.Value Global) → value_of (V.Parts v) ≡ Parts (values_in v.items)
-parts_value v =
-    let row = row_of (V.Parts v) in
-    let same = items_hidden-the_row-Value-0 v in
-    row_parts row.1 v.items same
-
--- the parts of a value that are a list's
-pub parts_listed : (v : Vec V.Value Global) (xs : List V.Value) → v.items ≡ xs → value_of (V.Parts v) ≡ Parts (values_in xs)
-parts_listed v xs e = parts_value v ∙ ap (λ ys. Parts (values_in ys)) e
-
-abbrev pub joined : Values → Values → Values
-joined no_values ws = ws
-joined (more v vs) ws = more v (joined vs ws)
-
-joined-no_values : (vs : Values) → joined vs no_values ≡ vs
-joined-no_values no_values = refl
-joined-no_values (more v vs) = ap (λ ws. more v ws) (joined-no_values vs)
-
-joined-push : (xs : List V.Value) (v : V.Value) (ws : Values) → joined (values_in (xs ++ v ∷ [])) ws ≡ joined (values_in xs) (more (value_of v) ws)
-joined-push [] v ws = refl
-joined-push (x ∷ xs) v ws = ap (λ us. more (value_of x) us) (joined-push xs v ws)
 
 copies_more : (v : Value) (i : ℕ) → copies (i + 1) v ≡ joined (copies i v) (more v no_values)
 copies_more v zero = refl
@@ -142,107 +103,6 @@ struct_zeros l x d h e = ap zeros (sym (struct_of l x d h e))
 pub struct_height : (l : Layout) (x : Name) (d : StructDef) → IsLayout l → Some d ≡ struct_named l.structs x → height (shape_of l (Struct x)) ≡ suc (heights (shape_of l) d.members)
 struct_height l x d h e = ap height (struct_of l x d h e) ∙ ap suc (heights_placed (shape_of l) 0 d.members)
 
--- the value of one part
-abbrev pub lone : Value → Value
-lone v = Parts (more v no_values)
-
--- what the outermost arrays of one element are around
-abbrev pub inside : CType → CType
-inside (Array t n) = cond (eqb n 1) (inside t) (Array t n)
-inside (Integer i) = Integer i
-inside Void = Void
-inside (Ptr t) = Ptr t
-inside (Struct x) = Struct x
-
--- a value in as many lone parts as there are outermost arrays of one element
-abbrev pub around : CType → Value → Value
-around (Array t n) v = cond (eqb n 1) (around t (lone v)) v
-around (Integer i) v = v
-around Void v = v
-around (Ptr t) v = v
-around (Struct x) v = v
-
-around_lone : (t : CType) (v : Value) → around t (lone v) ≡ lone (around t v)
-around_lone (Array t n) v = by_cases (eqb n 1) (around_lone t (lone v))
-  where
-    by_cases : (b : Bool) → around t (lone (lone v)) ≡ lone (around t (lone v)) → cond b (around t (lone (lone v))) (lone v) ≡ lone (cond b (around t (lone v)) v)
-    by_cases true below = below
-    by_cases false below = refl
-around_lone (Integer i) v = refl
-around_lone Void v = refl
-around_lone (Ptr t) v = refl
-around_lone (Struct x) v = refl
-
--- how many outermost arrays of one element there are
-abbrev pub layers : CType → ℕ
-layers (Array t n) = cond (eqb n 1) (suc (layers t)) 0
-layers (Integer i) = 0
-layers Void = 0
-layers (Ptr t) = 0
-layers (Struct x) = 0
-
-pub fewer_layers : (t u : CType) → t ≡ Array u 1 → suc (layers u) ≡ layers t
-fewer_layers t u e = sym (ap layers e)
-
-pub inside_element : (t u : CType) → t ≡ Array u 1 → inside u ≡ inside t
-inside_element t u e = sym (ap inside e)
-
-other_inside : (t : CType) (n : ℕ) (b : Bool) → eqb n 1 ≡ b → ((u : CType) → Array t n ≡ Array u 1 → ⊥) → cond b (inside t) (Array t n) ≡ Array t n
-other_inside t n true e other = absurd (other t (ap (λ k. Array t k) (eqb-true n 1 e)))
-other_inside t n false e other = refl
-
-pub inside_other : (t : CType) → ((u : CType) → t ≡ Array u 1 → ⊥) → inside t ≡ t
-inside_other (Array t n) other = other_inside t n (eqb n 1) refl other
-inside_other (Integer i) other = refl
-inside_other Void other = refl
-inside_other (Ptr t) other = refl
-inside_other (Struct x) other = refl
-
-pub around_element : (t u : CType) (v : Value) → t ≡ Array u 1 → around u (lone v) ≡ around t v
-around_element t u v e = sym (ap (λ t'. around t' v) e)
-
-other_around : (t : CType) (n : ℕ) (v : Value) (b : Bool) → eqb n 1 ≡ b → ((u : CType) → Array t n ≡ Array u 1 → ⊥) → cond b (around t (lone v)) v ≡ v
-other_around t n v true e other = absurd (other t (ap (λ k. Array t k) (eqb-true n 1 e)))
-other_around t n v false e other = refl
-
-pub around_other : (t : CType) (v : Value) → ((u : CType) → t ≡ Array u 1 → ⊥) → around t v ≡ v
-around_other (Array t n) v other = other_around t n v (eqb n 1) refl other
-around_other (Integer i) v other = refl
-around_other Void v other = refl
-around_other (Ptr t) v other = refl
-around_other (Struct x) v other = refl
-
 -- the zeros of a type are those of what is inside, in as many parts
-zeros_around : (l : Layout) (t : CType) → around t (zeros (shape_of l (inside t))) ≡ zeros (shape_of l t)
-zeros_around l (Array t n) = by_cases (eqb n 1) refl (zeros_around l t)
-  where
-    by_cases : (b : Bool) → eqb n 1 ≡ b → around t (zeros (shape_of l (inside t))) ≡ zeros (shape_of l t) →
-        cond b (around t (lone (zeros (shape_of l (cond b (inside t) (Array t n)))))) (zeros (shape_of l (cond b (inside t) (Array t n)))) ≡ zeros (shape_of l (Array t n))
-    by_cases true e below =
-        around_lone t (zeros (shape_of l (inside t))) ∙ ap lone below ∙ ap (λ k. Parts (copies k (zeros (shape_of l t)))) (sym (eqb-true n 1 e))
-    by_cases false e below = refl
-zeros_around l (Integer i) = refl
-zeros_around l Void = refl
-zeros_around l (Ptr t) = refl
-zeros_around l (Struct x) = refl
-
-pub all_around : (l : Layout) (t u : CType) (v : Value) → inside u ≡ inside t → ((w : CType) → u ≡ Array w 1 → ⊥) → v ≡ zeros (shape_of l u) → around t v ≡ zeros (shape_of l t)
-all_around l t u v same other is =
-    ap (λ w. around t w) (is ∙ ap (λ w. zeros (shape_of l w)) (sym (inside_other u other) ∙ same)) ∙ zeros_around l t
-
-inside_lower : (l : Layout) (t : CType) → height (shape_of l (inside t)) ≤ height (shape_of l t)
-inside_lower l (Array t n) = by_cases (eqb n 1) (inside_lower l t)
-  where
-    by_cases : (b : Bool) → height (shape_of l (inside t)) ≤ height (shape_of l t) → height (shape_of l (cond b (inside t) (Array t n))) ≤ height (shape_of l (Array t n))
-    by_cases true below = omega (arith, below)
-    by_cases false below = le_refl _
-inside_lower l (Integer i) = le_refl _
-inside_lower l Void = le_refl _
-inside_lower l (Ptr t) = le_refl _
-inside_lower l (Struct x) = le_refl _
-
-pub lower : (l : Layout) (t u : CType) → inside u ≡ inside t → ((w : CType) → u ≡ Array w 1 → ⊥) → height (shape_of l u) ≤ height (shape_of l t)
-lower l t u same other =
-    let h = inside_lower l t in
-    let e : height (shape_of l u) ≡ height (shape_of l (inside t)) = ap (λ w. height (shape_of l w)) (sym (inside_other u other) ∙ same) in
-    omega (arith, h, e)
+pub zeros_around : (l : Layout) (t : CType) → around t (zeros (shape_of l (inside t))) ≡ zeros (shape_of l t)
+zeros_around l t = whole_around (λ s. zeros s) (λ e. refl) l t

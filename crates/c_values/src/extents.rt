@@ -6,7 +6,7 @@ ghost use Rattle.std.specs.Option.{option_copied};
 ghost use Rattle.c_values.specs.Name.{Name};
 ghost use Rattle.c_values.specs.Layout.{Shape, shape_from};
 ghost use Rattle.c_values.specs.CodeTypes.{target_of, type_of};
-ghost use Rattle.c_values.specs.StructTable.{Describes, Measures, DescribesShape, is_array};
+ghost use Rattle.c_values.specs.CodeStructTable.{Describes, Measures, DescribesShape, is_array};
 ghost use Rattle.c_values.specs.Width.{IsWidth};
 
 use crate::places::{Extent, LARGEST, Places, Table};
@@ -35,7 +35,8 @@ pub(crate) fn extent(target: Target, table: &Table, t: &CType) -> Extent
 
 // What memory an object takes that is no array.
 fn element_extent(target: Target, table: &Table, t: &CType) -> Extent
-    ensures { (structs : Name → Shape) → Describes table.now structs → is_array (type_of t.now) ≡ false →
+    ensures { (structs : Name → Shape) → Describes table.now structs → is_array (type_of t.now)
+        ≡ false →
         Measures result (shape_from (target_of target) structs (type_of t.now)) }
 {
     match t {

@@ -1,6 +1,6 @@
 //! Layouts: structs in the order of their definition, and where their members lie.
 
-ghost use Rattle.std.specs.Prelude.{◌≡◌, ℕ, true, [], map, IfOk, OnOk, Err};
+ghost use Rattle.std.specs.Prelude.{◌≡◌, ℕ, true, [], length, map, IfOk, OnOk, OnErr, Err};
 ghost use Rattle.c_values.specs.Layout.{IsLayout, is_object, size_of, align_of};
 ghost use Rattle.c_values.specs.CodeTypes.{type_of};
 ghost use Rattle.c_values.specs.declared.layouts.LayoutFault.TheVariants.{Memory};
@@ -60,7 +60,7 @@ pub struct Layout {
 impl Model for Layout {
     ghost use Rattle.std.specs.Prelude.{map};
     ghost use Rattle.c_values.specs.Layout.{Layout};
-    ghost use Rattle.c_values.specs.LayoutCode.{layout_code};
+    ghost use Rattle.c_values.specs.CodeStored.{layout_code};
 
     ghost Value = { Layout };
 
@@ -68,7 +68,7 @@ impl Model for Layout {
 
     ghost use Rattle.c_values.specs.CodeTypes.{target_of};
     ghost use Rattle.c_values.specs.CodeLayout.{struct_def_of};
-    ghost use Rattle.c_values.specs.StructTable.{IsTabled};
+    ghost use Rattle.c_values.specs.CodeStructTable.{IsTabled};
 
     ghost view = { λ l. record { target = target_of l.target; structs = map struct_def_of l.structs.items } };
 
@@ -84,7 +84,7 @@ impl Layout {
     ghost use Rattle.c_values.specs.Path.{step_spot, Field};
     ghost use Rattle.c_values.specs.CodeTypes.{target_of, type_of};
     ghost use Rattle.c_values.specs.CodeLayout.{struct_def_of, member_of, IsFirstLarge};
-    ghost use Rattle.c_values.specs.StructTable.{Measures};
+    ghost use Rattle.c_values.specs.CodeStructTable.{Measures};
     ghost use Rattle.c_values.specs.declared.layouts.LayoutFault.TheVariants.{Large};
 
     /// The layout of structs. Their names are distinct, each has a member, and each member is of a complete object type,
@@ -93,11 +93,16 @@ impl Layout {
     /// - `Large` where a struct has more than 65,536 bytes: the place of the first such.
     /// - `Memory` where there is no room for the table. Its size is linear in the members.
     pub fn build(target: Target, structs: Vec<StructDef>) -> Result<Layout, LayoutFault>
-        requires { are_built (target_of target) (λ x. Incomplete) [] (map struct_def_of structs.items) ≡ true }
+        requires { are_built (target_of target)
+            (λ x. Incomplete) [] (map struct_def_of structs.items) ≡ true }
         ensures built { IfOk result
-            (λ l. l ≡ record { target = target_of target; structs = map struct_def_of structs.items }) }
+            (λ l. l ≡ record {
+              target = target_of target;
+              structs = map struct_def_of structs.items;
+            }) }
         ensures small { OnOk result
-            (are_small (target_of target) (λ x. Incomplete) (map struct_def_of structs.items) ≡ true) }
+            (are_small (target_of target) (λ x. Incomplete) (map struct_def_of structs.items)
+            ≡ true) }
         ensures large { (k : ℕ) → result ≡ Err (Large k) →
             IsFirstLarge (target_of target) (map struct_def_of structs.items) k }
     {
@@ -126,7 +131,8 @@ impl Layout {
 
     /// The struct of a name, where it has a body.
     pub fn definition(&self, name: &str) -> Option<&StructDef>
-        ensures { option_map struct_def_of (option_copied result) ≡ struct_named self.now.structs name.now }
+        ensures { option_map struct_def_of (option_copied result)
+            ≡ struct_named self.now.structs name.now }
     {
         match self.table.get(name) {
             None => None,
@@ -171,9 +177,13 @@ impl Layout {
         requires { can_follow self.old (struct_def_of definition) ≡ true }
         ensures grown { OnOk result (self.new ≡ with_struct self.old (struct_def_of definition)) }
         ensures small { OnOk result
-            (is_object (with_struct self.old (struct_def_of definition)) (Struct (string_bytes definition.name)) ≡ true) }
+            (is_object (with_struct self.old (struct_def_of definition))
+            (Struct (string_bytes definition.name)) ≡ true) }
         ensures large { (k : ℕ) → result ≡ Err (Large k) →
-            is_object (with_struct self.old (struct_def_of definition)) (Struct (string_bytes definition.name)) ≡ false }
+            is_object (with_struct self.old (struct_def_of definition))
+            (Struct (string_bytes definition.name)) ≡ false }
+        ensures place { (k : ℕ) → result ≡ Err (Large k) → k ≡ length self.old.structs }
+        ensures unchanged { OnErr result (self.new ≡ self.old) }
     {
         let position = self.structs.len();
         match places(alloc, self.target, &self.table, &definition, position)? {
@@ -192,7 +202,8 @@ impl Layout {
 
     /// The offset and the type of a struct's member, from 0. There is none where the struct has no body, or no such member.
     pub fn member(&self, name: &str, k: u32) -> Option<(u32, &CType)>
-        ensures none { IfNone result (step_spot (shape_of self.now (Struct name.now)) (Field k) ≡ None) }
+        ensures none { IfNone result (step_spot (shape_of self.now (Struct name.now)) (Field k)
+            ≡ None) }
         ensures some { IfSome result (λ m. step_spot (shape_of self.now (Struct name.now)) (Field k)
             ≡ Some (record { offset = pos m.0; shape = shape_of self.now (type_of m.1.now) })) }
         ensures layout { IsLayout self.now }

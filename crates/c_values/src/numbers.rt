@@ -18,7 +18,7 @@ impl Model for Number {
 
     ghost Value = { ℤ };
 
-    ghost use Rattle.c_values.specs.SignAndMagnitude.{inside_of, inside_of-number};
+    ghost use Rattle.c_values.specs.CodeSignAndMagnitude.{inside_of, inside_of-number};
 
     ghost view = { λ n. if n.negative then neg_ℤ (pos n.magnitude) else pos n.magnitude };
 

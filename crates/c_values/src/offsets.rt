@@ -5,7 +5,7 @@ ghost use Rattle.std.specs.Option.{option_map};
 ghost use Rattle.c_values.specs.Layout.{IsLayout, is_object, size_of, shape_of};
 ghost use Rattle.c_values.specs.StepInto.{step_into};
 ghost use Rattle.c_values.specs.Path.{Step, offset_of};
-ghost use Rattle.c_values.specs.PartOf.{IsPart};
+ghost use Rattle.c_values.specs.CodePartOf.{IsPart};
 ghost use Rattle.c_values.specs.CodeTypes.{type_of};
 ghost use Rattle.c_values.specs.CodeValue.{step_of};
 
@@ -33,7 +33,8 @@ pub fn offset_of(l: &Layout, t: &CType, path: &[PathStep]) -> Option<u32>
 /// The part of an object that one step leads to: its offset in bytes, and its type.
 pub fn step_into<'a>(l: &'a Layout, t: &'a CType, step: PathStep) -> Option<(u32, &'a CType)>
     requires { is_object l.now (type_of t.now) ≡ true }
-    ensures { option_map (λ r. record { offset = pos r.0; shape = shape_of l.now (type_of r.1.now) }) result
+    ensures { option_map
+        (λ r. record { offset = pos r.0; shape = shape_of l.now (type_of r.1.now) }) result
         ≡ step_into (shape_of l.now (type_of t.now)) (step_of step) }
 {
     let size = size_of(l, t);

@@ -5,7 +5,7 @@ ghost use Rattle.c_values.specs.Name.{Name};
 ghost use Rattle.c_values.specs.Layout.{Shape, shape_from, struct_shape, aligned, all_members_complete};
 ghost use Rattle.c_values.specs.CodeTypes.{target_of};
 ghost use Rattle.c_values.specs.CodeLayout.{struct_def_of};
-ghost use Rattle.c_values.specs.StructTable.{Describes, IsPlacement};
+ghost use Rattle.c_values.specs.CodeStructTable.{Describes, IsPlacement};
 
 use crate::extents::extent;
 use crate::layouts::StructDef;
@@ -22,8 +22,11 @@ pub(crate) fn places(
     position: usize,
 ) -> Result<Option<Places>, AllocError>
     ensures { IfOk result (λ found. (structs : Name → Shape) → Describes table.now structs →
-        all_members_complete (shape_from (target_of target) structs) (struct_def_of definition.now).members ≡ true →
-        IsPlacement found (struct_shape (shape_from (target_of target) structs) (struct_def_of definition.now)) position) }
+        all_members_complete (shape_from (target_of target) structs)
+        (struct_def_of definition.now).members ≡ true →
+        IsPlacement found
+        (struct_shape (shape_from (target_of target) structs)
+        (struct_def_of definition.now)) position) }
 {
     let mut end: u32 = 0;
     let mut alignment: u32 = 1;

@@ -4,7 +4,7 @@ ghost use Rattle.std.specs.Prelude.{◌≡◌, ℕ, true, [], map, IfOk, Err};
 ghost use Rattle.c_values.specs.Layout.{Incomplete, are_built, are_small};
 ghost use Rattle.c_values.specs.CodeTypes.{target_of};
 ghost use Rattle.c_values.specs.CodeLayout.{struct_def_of, IsFirstLarge};
-ghost use Rattle.c_values.specs.StructTable.{IsTabled};
+ghost use Rattle.c_values.specs.CodeStructTable.{IsTabled};
 ghost use Rattle.c_values.specs.declared.layouts.LayoutFault.TheVariants.{Large};
 
 use crate::layouts::{LayoutFault, StructDef};
@@ -20,7 +20,8 @@ pub(crate) fn tabulate(
     target: Target,
     structs: &[StructDef],
 ) -> Result<Table, LayoutFault>
-    requires { are_built (target_of target) (λ x. Incomplete) [] (map struct_def_of structs.now) ≡ true }
+    requires { are_built (target_of target) (λ x. Incomplete) [] (map struct_def_of structs.now)
+        ≡ true }
     ensures tabled { IfOk result (IsTabled (target_of target) structs.now) }
     ensures large { (k : ℕ) → result ≡ Err (Large k) →
         IsFirstLarge (target_of target) (map struct_def_of structs.now) k }

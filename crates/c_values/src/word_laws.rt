@@ -16,24 +16,29 @@ pub fn values_fit()
 /// The word of a number that fits has that number as its value.
 pub fn word_has_its_number()
     ensures unsigned { (width : ℕ) (n : ℤ) → 1 ≤ width →
-        is_between (least false width) n (greatest false width) ≡ true → unsigned (word width n) ≡ n }
+        is_between (least false width) n (greatest false width) ≡ true → unsigned (word width n)
+        ≡ n }
     ensures signed { (width : ℕ) (n : ℤ) → 1 ≤ width →
         is_between (least true width) n (greatest true width) ≡ true → signed (word width n) ≡ n }
 {}
 
 /// A word is the word of each of its values.
 pub fn word_of_its_values()
-    ensures unsigned { (width : ℕ) (a : Word) → 1 ≤ width → IsWord width a → word width (unsigned a) ≡ a }
-    ensures signed { (width : ℕ) (a : Word) → 1 ≤ width → IsWord width a → word width (signed a) ≡ a }
+    ensures unsigned { (width : ℕ) (a : Word) → 1 ≤ width → IsWord width a → word width (unsigned a)
+        ≡ a }
+    ensures signed { (width : ℕ) (a : Word) → 1 ≤ width → IsWord width a → word width (signed a)
+        ≡ a }
 {}
 
 /// Each operation gives a word of the width.
 pub fn results_are_words()
     ensures word { (width : ℕ) (n : ℤ) → IsWord width (word width n) }
-    ensures operation { (width : ℕ) (op : WordOp) (a b : Word) → IsWord width a → IsWord width (word_op op a b) }
+    ensures operation { (width : ℕ) (op : WordOp) (a b : Word) → IsWord width a →
+        IsWord width (word_op op a b) }
     ensures shift { (width : ℕ) (op : ShiftOp) (a : Word) (n : ℤ) → IsWord width a →
         IsWord width (word_shift op a n) }
-    ensures unary { (width : ℕ) (op : UnaryOp) (a : Word) → IsWord width a → IsWord width (word_unary op a) }
+    ensures unary { (width : ℕ) (op : UnaryOp) (a : Word) → IsWord width a →
+        IsWord width (word_unary op a) }
     ensures cast { (width : ℕ) (sign : Bool) (a : Word) → IsWord width (cast sign width a) }
 {}
 
@@ -82,7 +87,8 @@ pub fn quotient_is_exact()
     ensures unsigned { (width : ℕ) (a b : Word) → 1 ≤ width → IsWord width a → IsWord width b →
         unsigned (word_op Wudiv a b) ≡ quotient (unsigned a) (unsigned b) }
     ensures signed { (width : ℕ) (a b : Word) → 1 ≤ width → IsWord width a → IsWord width b →
-        is_between (least true width) (quotient (signed a) (signed b)) (greatest true width) ≡ true →
+        is_between (least true width) (quotient (signed a) (signed b)) (greatest true width)
+        ≡ true →
         signed (word_op Wsdiv a b) ≡ quotient (signed a) (signed b) }
 {}
 
@@ -97,7 +103,8 @@ pub fn remainder_is_exact()
 /// The order tests are the orders of the values.
 pub fn tests_are_orders()
     ensures unsigned_less { (a b : Word) → word_test Wult a b ≡ int_lt (unsigned a) (unsigned b) }
-    ensures unsigned_at_most { (a b : Word) → word_test Wule a b ≡ int_le (unsigned a) (unsigned b) }
+    ensures unsigned_at_most { (a b : Word) →
+        word_test Wule a b ≡ int_le (unsigned a) (unsigned b) }
     ensures signed_less { (a b : Word) → word_test Wslt a b ≡ int_lt (signed a) (signed b) }
     ensures signed_at_most { (a b : Word) → word_test Wsle a b ≡ int_le (signed a) (signed b) }
 {}
@@ -108,6 +115,7 @@ pub fn cast_keeps_the_value()
         unsigned (cast false width a) ≡ unsigned a }
     ensures signed { (from width : ℕ) (a : Word) → 1 ≤ from → from ≤ width → IsWord from a →
         signed (cast true width a) ≡ signed a }
-    ensures unsigned_as_signed { (from width : ℕ) (a : Word) → 1 ≤ from → from < width → IsWord from a →
+    ensures unsigned_as_signed { (from width : ℕ) (a : Word) → 1 ≤ from → from < width →
+        IsWord from a →
         signed (cast false width a) ≡ unsigned a }
 {}

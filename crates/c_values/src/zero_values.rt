@@ -1,18 +1,18 @@
 //! Values that are all zeros.
 
-ghost use Rattle.std.specs.Prelude.{◌≡◌, ◌≢◌, map, pos, IfOk, IfNone, IfSome};
+ghost use Rattle.std.specs.Prelude.{◌≡◌, map, pos, IfOk};
 ghost use Rattle.c_values.specs.CodeLayout.{member_of};
 ghost use Rattle.c_values.specs.CodeTypes.{target_of, type_of};
 ghost use Rattle.c_values.specs.CodeValue.{value_of};
 ghost use Rattle.c_values.specs.Layout.{IsLayout, placed, shape_of};
 ghost use Rattle.c_values.specs.Path as paths;
 ghost use Rattle.c_values.specs.Types.{Array, Struct};
-ghost use Rattle.c_values.specs.Types as types;
-ghost use Rattle.c_values.specs.Value.{Bits, Parts, nothing, no_values, more};
+ghost use Rattle.c_values.specs.Value.{Bits, Parts, nothing};
 ghost use Rattle.c_values.specs.Width.{IsWidth};
 ghost use Rattle.c_values.specs.Word as words;
 
 use crate::layouts::Layout;
+use crate::lone_arrays::{around, inside};
 use crate::numbers::Number;
 use crate::types::{CType, Target, address_width, width_of};
 use crate::values::Value;
@@ -39,37 +39,8 @@ fn zeros_of_type(
     requires target { target_of target ≡ layout.now.target }
     ensures { IfOk result (λ v. value_of v ≡ paths.zeros (shape_of layout.now (type_of ty.now))) }
 {
-    let mut inner = ty;
-    'inwards: while let Some(element) = lone_element(inner) {
-        inner = element;
-    }
-    let mut value = zeros_by_kind(alloc, layout, target, inner)?;
-    let mut outer = ty;
-    'outwards: while let Some(element) = lone_element(outer) {
-        value = lone_part(alloc, value)?;
-        outer = element;
-    }
-    Ok(value)
-}
-
-// The element of an array of one.
-fn lone_element(ty: &CType) -> Option<&CType>
-    ensures some { IfSome result (λ element. type_of ty.now ≡ Array (type_of element.now) 1) }
-    ensures none { IfNone result ((element : types.CType) → type_of ty.now ≢ Array element 1) }
-{
-    match ty {
-        CType::Array(element, 1) => Some(&**element),
-        _ => None,
-    }
-}
-
-// The value of one part.
-fn lone_part(alloc: Global, part: Value) -> Result<Value, AllocError>
-    ensures { IfOk result (λ v. value_of v ≡ Parts (more (value_of part) no_values)) }
-{
-    let mut parts = Vec::new(alloc);
-    parts.push(part)?;
-    Ok(Value::Parts(parts))
+    let value = zeros_by_kind(alloc, layout, target, inside(ty))?;
+    around(alloc, ty, value)
 }
 
 #[cycle(zeros)]
@@ -133,7 +104,9 @@ fn zeros_of_members(
     requires layout { IsLayout layout.now }
     requires target { target_of target ≡ layout.now.target }
     ensures { IfOk result
-        (λ v. value_of v ≡ Parts (paths.member_zeros (placed (shape_of layout.now) 0 (map member_of members.now)))) }
+        (λ v. value_of v
+        ≡ Parts (paths.member_zeros
+        (placed (shape_of layout.now) 0 (map member_of members.now)))) }
 {
     let mut values = Vec::new(alloc);
     let mut rest = members;
@@ -154,7 +127,8 @@ fn zeros_of_array(
 ) -> Result<Value, AllocError>
     requires layout { IsLayout layout.now }
     requires target { target_of target ≡ layout.now.target }
-    ensures { IfOk result (λ v. value_of v ≡ paths.zeros (shape_of layout.now (Array (type_of element.now) length))) }
+    ensures { IfOk result
+        (λ v. value_of v ≡ paths.zeros (shape_of layout.now (Array (type_of element.now) length))) }
 {
     let mut values = Vec::new(alloc);
     'elements: for _i in 0..length {

@@ -2,7 +2,7 @@
 use Rattle.std.proofs.Common.{◌≡◌, ℕ, zero, suc, Option, Some, None, Bool, true, false, List, [], ◌∷◌, ◌⊎◌, inl, inr, refl, sym, subst}
 use Rattle.correspondence.specs.Outcome.{Limit, Turns, Depth, Done, Failed, Stopped, Ends, done, any, fault, stop, Then, goes_on, fails, stops, choose, continued, loop}
 use Rattle.correspondence.specs.Bound.{Functions, called, below}
-use Rattle.correspondence.specs.Corresponds.{Corresponds, After, Either, Leaving, Paired}
+use Rattle.correspondence.specs.Corresponds.{Corresponds, After, Either, Leaving, Paired, SameFunctions}
 
 -- one side alone: each end of the one has its twin
 pub record Within {A B F G : Type 0} (answers : A → B → Type 0) (faults : F → G → Type 0) (p : Ends A F) (q : Ends B G) : Type 0 where
@@ -178,10 +178,10 @@ any_corresponds answers faults P Q h k = record {
 
 -- calls of functions that correspond
 module _ {Call Call' A B F G : Type 0} (calls : Call → Call' → Type 0) (answers : A → B → Type 0) (faults : F → G → Type 0) where
-  abbrev pub SameFunctions : Functions Call A F → Functions Call' B G → Type 0
-  SameFunctions f g = (depth : Option ℕ) (c : Call) (c' : Call') → calls c c' → Corresponds answers faults (f depth c) (g depth c')
+  abbrev Same : Functions Call A F → Functions Call' B G → Type 0
+  Same = SameFunctions calls answers faults
 
-  pub called_corresponds : (fs : List (Functions Call A F)) (gs : List (Functions Call' B G)) → Paired SameFunctions fs gs → (depth : Option ℕ) (c : Call) (c' : Call') → calls c c' → Corresponds answers faults (called fs depth c) (called gs depth c')
+  pub called_corresponds : (fs : List (Functions Call A F)) (gs : List (Functions Call' B G)) → Paired Same fs gs → (depth : Option ℕ) (c : Call) (c' : Call') → calls c c' → Corresponds answers faults (called fs depth c) (called gs depth c')
   called_corresponds [] [] p depth c c' h = stop_corresponds answers faults Turns
   called_corresponds (f ∷ fs) (g ∷ gs) p None c c' h = p.0 None c c' h
   called_corresponds (f ∷ fs) (g ∷ gs) p (Some zero) c c' h = stop_corresponds answers faults Depth
@@ -191,7 +191,7 @@ module _ {Call Call' A B F G : Type 0} (calls : Call → Call' → Type 0) (answ
 
   -- Functions whose bodies correspond over corresponding functions correspond at every bound.
   pub below_corresponds : (bodies : List (Functions Call A F) → Functions Call A F) (bodies' : List (Functions Call' B G) → Functions Call' B G) →
-      ((fs : List (Functions Call A F)) (gs : List (Functions Call' B G)) → Paired SameFunctions fs gs → SameFunctions (bodies fs) (bodies' gs)) → (n : ℕ) → Paired SameFunctions (below bodies n) (below bodies' n)
+      ((fs : List (Functions Call A F)) (gs : List (Functions Call' B G)) → Paired Same fs gs → Same (bodies fs) (bodies' gs)) → (n : ℕ) → Paired Same (below bodies n) (below bodies' n)
   below_corresponds bodies bodies' h zero = tt
   below_corresponds bodies bodies' h (suc n) =
-      let p : Paired SameFunctions (below bodies n) (below bodies' n) = below_corresponds bodies bodies' h n in (h _ _ p, p)
+      let p : Paired Same (below bodies n) (below bodies' n) = below_corresponds bodies bodies' h n in (h _ _ p, p)

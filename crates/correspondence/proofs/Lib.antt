@@ -3,3 +3,5 @@ pub mod Always
 pub mod OneEnd
 pub mod Continues
 pub mod Watches
+pub mod Included
+pub mod Steps

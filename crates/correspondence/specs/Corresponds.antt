@@ -1,7 +1,8 @@
 -- Two runs correspond exactly: each end of the one has its twin among the ends of the other, and they stop alike.
-use Rattle.std.specs.Prelude.{List, [], ◌∷◌, ◌⊎◌}
+use Rattle.std.specs.Prelude.{ℕ, List, [], ◌∷◌, Option, ◌⊎◌}
 use Rattle.std.proofs.Common.{inl, inr}
 use Rattle.correspondence.specs.Outcome.{Limit, Done, Failed, Stopped, Ends}
+use Rattle.correspondence.specs.Bound.{Functions}
 
 pub record Corresponds {A B F G : Type 0} (answers : A → B → Type 0) (faults : F → G → Type 0) (p : Ends A F) (q : Ends B G) : Type 0 where
   pub done : (a : A) → p (Done a) → (b : B) × answers a b × q (Done b)
@@ -35,3 +36,7 @@ Paired same [] [] = Unit {0}
 Paired same (f ∷ fs) (g ∷ gs) = same f g × Paired same fs gs
 Paired same [] (g ∷ gs) = ⊥
 Paired same (f ∷ fs) [] = ⊥
+
+-- two functions correspond at every limit of nested calls and at calls that do
+abbrev pub SameFunctions : {Call Call' A B F G : Type 0} → (Call → Call' → Type 0) → (A → B → Type 0) → (F → G → Type 0) → Functions Call A F → Functions Call' B G → Type 0
+SameFunctions {Call} {Call'} calls answers faults f g = (depth : Option ℕ) (c : Call) (c' : Call') → calls c c' → Corresponds answers faults (f depth c) (g depth c')

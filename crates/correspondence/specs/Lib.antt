@@ -2,3 +2,5 @@ pub mod Outcome
 pub mod Bound
 pub mod Corresponds
 pub mod OneEnd
+pub mod Always
+pub mod Included

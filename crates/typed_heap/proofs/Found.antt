@@ -13,15 +13,15 @@ use Rattle.c_values.proofs.Leads.{leads_spot}
 use Rattle.c_values.proofs.Parts.{formed_complete}
 use Rattle.c_memory.specs.Memory.{Tag}
 use Rattle.c_memory.specs.Tags.{IsTag, AreApart, ApartFrom, AreTags, path_from, is_covered}
-use Rattle.c_memory.specs.TagIndex.{Covers}
+use Rattle.c_memory.specs.CodeTagIndex.{Covers}
 use Rattle.c_memory.specs.TypedHeap.{TypedHeap, tags_of, zeros_spot, cell_part, read_cells, with_cell_part, write_cells}
 use Rattle.c_memory.specs.Heap.{CellsFit}
 use Rattle.c_memory.proofs.Objects.{object_complete}
 use Rattle.c_memory.proofs.Covered.{root_of}
 use Rattle.c_memory.proofs.Neighbours.{tag_at}
 use Rattle.typed_heap.specs.CodeCells.{cells_from}
-use Rattle.typed_heap.specs.Follow.{CanFollow}
-use Rattle.typed_heap.proofs.Follow.{sel_append, follow_append, path_ends}
+use Rattle.c_values.specs.CodeFollow.{CanFollow}
+use Rattle.c_values.proofs.Follow.{sel_append, follow_append, path_ends}
 
 some_same : {A : Type 0} {a b : A} → ◌≡◌ {A = Option A} (Some a) (Some b) → a ≡ b
 some_same h = cc

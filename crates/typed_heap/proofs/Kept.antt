@@ -17,7 +17,7 @@ use Rattle.c_memory.specs.Heap.{Heap, OnBytes, OnTypes, CellsFit, IsHeap, read_h
 use Rattle.c_memory.proofs.Loaded.{load_shaped, store_bytes}
 use Rattle.c_memory.proofs.Cells.{tags_written}
 use Rattle.c_memory.proofs.Covered.{root_of}
-use Rattle.typed_heap.proofs.Follow.{place_below}
+use Rattle.c_values.proofs.Follow.{place_below}
 use Rattle.typed_heap.proofs.Found.{place_ends, root_ends}
 
 some_same : {A : Type 0} {a b : A} → ◌≡◌ {A = Option A} (Some a) (Some b) → a ≡ b

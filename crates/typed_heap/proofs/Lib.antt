@@ -1,6 +1,4 @@
 pub mod Cells
-pub mod Follow
-pub mod Copied
 pub mod Typed
 pub mod Steps
 pub mod Found

@@ -5,8 +5,8 @@ use Rattle.std.specs.Option.{option_map}
 use Rattle.c_values.specs.Value.{Value, nothing}
 use Rattle.c_values.specs.Path.{Step, sel}
 use Rattle.c_memory.specs.Tags.{prefixed}
-use Rattle.typed_heap.specs.Follow.{CanFollow}
-use Rattle.typed_heap.proofs.Follow.{sel_cons, follow_first, follow_rest}
+use Rattle.c_values.specs.CodeFollow.{CanFollow}
+use Rattle.c_values.proofs.Follow.{sel_cons, follow_first, follow_rest}
 
 abbrev pub sel_found : Value → Option (List Step) → Value
 sel_found v None = nothing

@@ -8,7 +8,7 @@ use Rattle.c_values.specs.Value.{Value, Bits, Number, Truth, Parts, word_in}
 use Rattle.c_values.specs.Layout.{Layout, IsLayout, Shape, Incomplete, Scalar, Record, Row, type_of, shape_of, is_object, is_scalar}
 use Rattle.c_values.specs.Path.{Step, Spot, spot, step_spot, and_then_spot, further, zeros, HasShape}
 use Rattle.c_values.proofs.Laid.{shape_type}
-use Rattle.c_memory.specs.CodeParts.{has_parts}
+use Rattle.c_values.specs.CodeParts.{has_parts}
 use Rattle.c_memory.specs.TypedHeap.{zeros_spot}
 use Rattle.c_memory.proofs.Objects.{object_complete}
 

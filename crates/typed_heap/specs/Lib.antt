@@ -1,3 +1,2 @@
 pub mod CodeCells
-pub mod Follow
-pub mod Ways
+pub mod CodeWays

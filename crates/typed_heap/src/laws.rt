@@ -24,14 +24,17 @@ pub fn uncovered_write_changes_nothing()
 
 /// A read gives a value of the place's shape, at any index.
 pub fn read_has_its_shape()
-    ensures { (l : Layout) (h : Heap) (t : CType) (a : ℕ) (path : List Step) (q : Spot) → IsLayout l → IsHeap l h →
+    ensures { (l : Layout) (h : Heap) (t : CType) (a : ℕ) (path : List Step) (q : Spot) →
+        IsLayout l → IsHeap l h →
         is_complete (shape_of l t) ≡ true → spot (shape_of l t) path ≡ Some q →
         HasShape q.shape (read_heap l h t a path) }
 {}
 
 /// A write of a value of the place's shape leaves a heap that can be, at any index.
 pub fn write_keeps_heap_at_any_index()
-    ensures { (l : Layout) (h : Heap) (t : CType) (a : ℕ) (path : List Step) (q : Spot) (v : Value) → IsLayout l →
-        IsHeap l h → is_complete (shape_of l t) ≡ true → spot (shape_of l t) path ≡ Some q → HasShape q.shape v →
+    ensures { (l : Layout) (h : Heap) (t : CType) (a : ℕ) (path : List Step) (q : Spot)
+        (v : Value) → IsLayout l →
+        IsHeap l h → is_complete (shape_of l t) ≡ true → spot (shape_of l t) path ≡ Some q →
+        HasShape q.shape v →
         IsHeap l (write_heap l h t a path v) }
 {}

@@ -1,7 +1,6 @@
 //! Typed heaps: for each tag the value that lies there, in place of bytes.
 #![tactic(auto)]
 
-mod copying;
 mod heap;
 pub mod laws;
 mod places;

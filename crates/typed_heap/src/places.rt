@@ -1,13 +1,12 @@
 //! Typed heaps, read and written at places.
 
-use crate::copying::copy_of;
 use crate::heap::TypedHeap;
 use crate::selecting::word_in;
 use crate::tagged_values::{put, value_at};
 use crate::types_at::type_at;
 use crate::zero_words::zero_word;
 use c_memory::{Heap, Step};
-use c_values::{CType, Layout, Value, Word, zeros};
+use c_values::{CType, Layout, Value, Word, copy_value, zeros};
 use std::alloc::{AllocError, Global};
 
 impl Heap for TypedHeap {
@@ -38,7 +37,7 @@ impl Heap for TypedHeap {
         path: &[Step],
     ) -> Result<Value, AllocError> {
         match value_at(self, l, t, address, path) {
-            Some(value) => copy_of(alloc, value),
+            Some(value) => copy_value(alloc, value),
             None => zeros(alloc, l, type_at(l, t, path).unwrap()),
         }
     }
@@ -59,7 +58,8 @@ impl Heap for TypedHeap {
         requires place { IsSomeAnd (spot (shape_of l.now (type_of t.now)) (map step_of path.now))
             (λ q. HasShape q.shape (value_of value.now)) }
         ensures written { OnOk result (typed_content self.new
-            ≡ write_heap l.now (typed_content self.old) (type_of t.now) address (map step_of path.now) (value_of value.now)) }
+            ≡ write_heap l.now (typed_content self.old) (type_of t.now) address
+            (map step_of path.now) (value_of value.now)) }
         ensures unchanged { OnErr result (typed_content self.new ≡ typed_content self.old) }
         ensures scalar { IsSomeAnd (spot (shape_of l.now (type_of t.now)) (map step_of path.now))
             (λ q. is_scalar (scalar_type q.shape) ≡ true) → IsOk result }
@@ -67,7 +67,7 @@ impl Heap for TypedHeap {
         let Some(k) = self.tags.find(l, t, address) else {
             return Ok(());
         };
-        let value = copy_of(alloc, value)?;
+        let value = copy_value(alloc, value)?;
         put(self, l, t, address, path, k, value);
         Ok(())
     }

@@ -10,10 +10,10 @@ ghost use Rattle.c_memory.specs.Memory.{Tag};
 ghost use Rattle.c_memory.specs.CodeStep.{step_of};
 ghost use Rattle.c_memory.specs.Heap.{IsHeap};
 ghost use Rattle.c_memory.specs.Tags.{AreTags, path_from, is_covered};
-ghost use Rattle.c_memory.specs.TagIndex.{Covers};
+ghost use Rattle.c_memory.specs.CodeTagIndex.{Covers};
 ghost use Rattle.c_memory.specs.TypedHeap.{read_cells, write_cells};
 ghost use Rattle.typed_heap.specs.CodeCells.{cells_of, typed_content};
-ghost use Rattle.typed_heap.specs.Ways.{steps_of, IsWay};
+ghost use Rattle.typed_heap.specs.CodeWays.{steps_of, IsWay};
 
 use crate::heap::TypedHeap;
 use crate::selecting::{replace, select};
@@ -35,7 +35,8 @@ pub(crate) fn value_at<'a>(
     ensures none { IfNone result (is_covered l.now h.now.tags (type_of t.now) address ≡ false) }
     ensures some { IfSome result (λ v. value_of v.now
         ≡ read_cells l.now (cells_of h.now) (type_of t.now) address (map step_of path.now)) }
-    ensures shape { IfSome result (λ v. IfSome (spot (shape_of l.now (type_of t.now)) (map step_of path.now))
+    ensures shape { IfSome result
+        (λ v. IfSome (spot (shape_of l.now (type_of t.now)) (map step_of path.now))
         (λ q. HasShape q.shape (value_of v.now))) }
 {
     let k = h.tags.find(l, t, address)?;
@@ -56,7 +57,8 @@ pub(crate) fn put(
     requires heap { IsHeap l.now (typed_content h.old) }
     requires covers { Covers l.now h.old.tags (type_of t.now) address k }
     ensures { cells_of h.new
-        ≡ write_cells l.now (cells_of h.old) (type_of t.now) address (map step_of path.now) (value_of value) }
+        ≡ write_cells l.now (cells_of h.old) (type_of t.now) address (map step_of path.now)
+        (value_of value) }
 {
     let way = way_to(&h.tags, l, t, address, path, k);
     replace(l, &mut h.values[k], way, value);
@@ -74,7 +76,8 @@ fn way_to<'a>(
     requires tags { AreTags l.now tags.now }
     requires covers { Covers l.now tags.now (type_of t.now) address k }
     ensures steps { (u : Tag) → slice_get tags.now k ≡ Some u → steps_of l.now result
-        ≡ option_map (λ root. root ++ map step_of path.now) (path_from l.now u (type_of t.now) address) }
+        ≡ option_map
+        (λ root. root ++ map step_of path.now) (path_from l.now u (type_of t.now) address) }
     ensures object { IsWay l.now result }
     ensures layout { IsLayout l.now }
 {

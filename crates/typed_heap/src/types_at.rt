@@ -31,7 +31,8 @@ fn part_type<'a>(l: &'a Layout, whole: &'a CType, step: Step) -> Option<&'a CTyp
     requires layout { IsLayout l.now }
     requires object { is_object l.now (type_of whole.now) ≡ true }
     ensures shape { option_map (λ u. shape_of l.now (type_of u.now)) result
-        ≡ option_map (λ q. q.shape) (step_spot (shape_of l.now (type_of whole.now)) (step_of step)) }
+        ≡ option_map
+        (λ q. q.shape) (step_spot (shape_of l.now (type_of whole.now)) (step_of step)) }
     ensures object { IfSome result (λ u. is_object l.now (type_of u.now) ≡ true) }
 {
     match step {

@@ -4,10 +4,10 @@ ghost use Rattle.std.specs.Prelude.{◌≡◌, [], ◌++◌, true, false, map, N
 ghost use Rattle.std.specs.Option.{option_map};
 ghost use Rattle.c_values.specs.Layout.{Layout, IsLayout, shape_of, is_object};
 ghost use Rattle.c_values.specs.CodeTypes.{type_of};
-ghost use Rattle.c_memory.specs.Inner.{is_root_here, part_step};
+ghost use Rattle.c_memory.specs.CodeInner.{is_root_here, part_step};
 ghost use Rattle.c_memory.specs.CodeStep.{step_of};
 ghost use Rattle.c_memory.specs.Tags.{root_path, prefixed};
-ghost use Rattle.typed_heap.specs.Ways.{steps_of, IsWay};
+ghost use Rattle.typed_heap.specs.CodeWays.{steps_of, IsWay};
 
 use c_memory::{Step, is_root_here, part_at};
 use c_values::{CType, Layout, Number};
@@ -56,7 +56,8 @@ pub(crate) fn first_step<'a>(l: &'a Layout, way: Way<'a>) -> Option<(Step, Way<'
 fn first_along<'a>(path: &'a [Step]) -> Option<(Step, Way<'a>)>
     ensures none { IfNone result (map step_of path.now ≡ []) }
     ensures some { IfSome result
-        (λ r. (l : Layout) → Some (map step_of path.now) ≡ prefixed (step_of r.0) (steps_of l r.1)) }
+        (λ r. (l : Layout) → Some (map step_of path.now)
+        ≡ prefixed (step_of r.0) (steps_of l r.1)) }
     ensures object { IfSome result (λ r. (l : Layout) → IsWay l r.1) }
 {
     let (first, rest) = path.split_first()?;
@@ -74,7 +75,8 @@ fn first_to_root<'a>(
     requires layout { IsLayout l.now }
     requires object { is_object l.now (type_of whole.now) ≡ true }
     requires inner { is_root_here (type_of whole.now) (type_of root.now) offset ≡ false }
-    ensures none { IfNone result (root_path (shape_of l.now (type_of whole.now)) (type_of root.now) offset ≡ None) }
+    ensures none { IfNone result
+        (root_path (shape_of l.now (type_of whole.now)) (type_of root.now) offset ≡ None) }
     ensures some { IfSome result (λ r. option_map (λ steps. steps ++ map step_of path.now)
         (root_path (shape_of l.now (type_of whole.now)) (type_of root.now) offset)
         ≡ prefixed (step_of r.0) (steps_of l.now r.1)) }

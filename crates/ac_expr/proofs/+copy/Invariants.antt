@@ -1,32 +1,25 @@
--- The parts put aside, before what is left, are the path, and the operands put aside, before what is left, are the `or`.
-use Rattle.std.proofs.Common.{◌≡◌, ◌≤◌, vec_len}
+-- The fronts put aside, around what is left, are the whole.
+use Rattle.std.proofs.Common.{◌≡◌, ◌≤◌}
 use Rattle.ac_expr.specs.declared.expression.Exp.{size-Exp}
 use Rattle.ac_expr.specs.declared.paths.Path.{size-Path}
-use Rattle.ac_expr.specs.Code.{exp_of, path_of}
-use Rattle.ac_expr.specs.CodePath.{with_parts}
-use Rattle.ac_expr.proofs.Either.{any_of}
+use Rattle.ac_expr.specs.CodeExpression.{exp_of, path_of}
+use Rattle.ac_expr.specs.CodeShapeView.{with_fronts, with_steps}
 use Rattle.ac_expr.proofs.+copy.Given as goal
 
-abbrev pub invariant-paths::Path::copy-down : goal.invariant-paths::Path::copy-down
-invariant-paths::Path::copy-down l = record {
-  same : with_parts l.parts.items (path_of l.rest) ≡ path_of l.fn.self;
-  smaller : size-Path l.rest ≤ size-Path l.fn.self;
+abbrev pub invariant-expression::Exp::boxed_copy-along : goal.invariant-expression::Exp::boxed_copy-along
+invariant-expression::Exp::boxed_copy-along l = record {
+  same : with_fronts l.fronts.items (exp_of l.rest) ≡ exp_of l.self;
+  smaller : size-Exp l.rest ≤ size-Exp l.self;
 }
 
-abbrev pub invariant-paths::Path::copy-up : goal.invariant-paths::Path::copy-up
-invariant-paths::Path::copy-up l = with_parts l.parts.items (path_of l.copy) ≡ path_of l.fn.self
+abbrev pub decreases-expression::Exp::boxed_copy-along : goal.decreases-expression::Exp::boxed_copy-along
+decreases-expression::Exp::boxed_copy-along l = size-Exp l.rest
 
-abbrev pub decreases-paths::Path::copy-up : goal.decreases-paths::Path::copy-up
-decreases-paths::Path::copy-up l = vec_len l.parts
-
-abbrev pub invariant-copies::last_operand-operands : goal.invariant-copies::last_operand-operands
-invariant-copies::last_operand-operands l = record {
-  same : any_of l.firsts.items (exp_of l.rest) ≡ exp_of l.fn.e;
-  smaller : size-Exp l.rest ≤ size-Exp l.fn.e;
+abbrev pub invariant-paths::Path::copy-along : goal.invariant-paths::Path::copy-along
+invariant-paths::Path::copy-along l = record {
+  same : with_steps l.fronts.items (path_of l.rest) ≡ path_of l.self;
+  smaller : size-Path l.rest ≤ size-Path l.self;
 }
 
-abbrev pub invariant-copies::last_operand-back : goal.invariant-copies::last_operand-back
-invariant-copies::last_operand-back l = any_of l.firsts.items (exp_of l.copy) ≡ exp_of l.fn.e
-
-abbrev pub decreases-copies::last_operand-back : goal.decreases-copies::last_operand-back
-decreases-copies::last_operand-back l = vec_len l.firsts
+abbrev pub decreases-paths::Path::copy-along : goal.decreases-paths::Path::copy-along
+decreases-paths::Path::copy-along l = size-Path l.rest

@@ -1,6 +1,6 @@
 //! Declarators and locals are built from their parts.
 
-ghost use Rattle.c_build.specs.StacksOf.{stacks_of, Reduces};
+ghost use Rattle.c_build.specs.CodeStacksOf.{stacks_of, Reduces};
 
 use crate::build::stack::{BuildFault, Stack};
 use crate::build::stacks::Stacks;
@@ -12,7 +12,8 @@ use std::alloc::Global;
 impl Stacks<'_> {
     /// The last declarator of a member.
     pub(crate) fn last_declarator(&mut self, alloc: Global) -> Result<(), BuildFault>
-        ensures { Reduces Production.LastDeclarator (stacks_of self.old) result (stacks_of self.new) }
+        ensures { Reduces Production.LastDeclarator (stacks_of self.old) result
+            (stacks_of self.new) }
     {
         self.tokens.pop()?;
         let declarator = self.types.declarators.pop()?;
@@ -23,7 +24,8 @@ impl Stacks<'_> {
 
     /// A declarator before others.
     pub(crate) fn more_declarators(&mut self, alloc: Global) -> Result<(), BuildFault>
-        ensures { Reduces Production.MoreDeclarators (stacks_of self.old) result (stacks_of self.new) }
+        ensures { Reduces Production.MoreDeclarators (stacks_of self.old) result
+            (stacks_of self.new) }
     {
         self.tokens.pop()?;
         let rest = self.types.declarator_lists.pop()?;
@@ -87,7 +89,8 @@ impl Stacks<'_> {
 
     /// An array length before others.
     pub(crate) fn more_dimensions(&mut self, alloc: Global) -> Result<(), BuildFault>
-        ensures { Reduces Production.MoreDimensions (stacks_of self.old) result (stacks_of self.new) }
+        ensures { Reduces Production.MoreDimensions (stacks_of self.old) result
+            (stacks_of self.new) }
     {
         self.tokens.pop()?;
         self.tokens.pop()?;

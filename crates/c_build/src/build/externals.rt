@@ -1,7 +1,7 @@
 //! What stands outside functions is built from its parts.
 
 ghost use Rattle.std.specs.Prelude.{false, true};
-ghost use Rattle.c_build.specs.StacksOf.{stacks_of, Reduces};
+ghost use Rattle.c_build.specs.CodeStacksOf.{stacks_of, Reduces};
 
 use crate::build::stack::{BuildFault, Stack};
 use crate::build::stacks::Stacks;
@@ -32,7 +32,8 @@ impl Stacks<'_> {
 
     /// A declaration that begins with `typedef`.
     pub(crate) fn type_definition(&mut self) -> Result<(), BuildFault>
-        ensures { Reduces (Production.Declaration true) (stacks_of self.old) result (stacks_of self.new) }
+        ensures { Reduces (Production.Declaration true) (stacks_of self.old) result
+            (stacks_of self.new) }
     {
         let at = self.tokens.pop()?.start;
         let tops = self.externals.top_lists.pop()?;
@@ -46,7 +47,8 @@ impl Stacks<'_> {
 
     /// Another declaration.
     pub(crate) fn declaration(&mut self) -> Result<(), BuildFault>
-        ensures { Reduces (Production.Declaration false) (stacks_of self.old) result (stacks_of self.new) }
+        ensures { Reduces (Production.Declaration false) (stacks_of self.old) result
+            (stacks_of self.new) }
     {
         let tops = self.externals.top_lists.pop()?;
         let words = self.types.word_lists.pop()?;
@@ -126,7 +128,8 @@ impl Stacks<'_> {
 
     /// A function or a declaration before others.
     pub(crate) fn more_externals(&mut self) -> Result<(), BuildFault>
-        ensures { Reduces Production.MoreExternals (stacks_of self.old) result (stacks_of self.new) }
+        ensures { Reduces Production.MoreExternals (stacks_of self.old) result
+            (stacks_of self.new) }
     {
         let mut rest = self.externals.texts.pop()?;
         let external = self.externals.externals.pop()?;

@@ -1,6 +1,6 @@
 //! Expressions and calls are built from their parts.
 
-ghost use Rattle.c_build.specs.StacksOf.{stacks_of, Reduces};
+ghost use Rattle.c_build.specs.CodeStacksOf.{stacks_of, Reduces};
 
 use crate::build::stack::{BuildFault, Stack};
 use crate::build::stacks::Stacks;
@@ -78,7 +78,8 @@ impl Stacks<'_> {
 
     /// `e->x`
     pub(crate) fn pointer_member(&mut self, alloc: Global) -> Result<(), BuildFault>
-        ensures { Reduces Production.PointerMember (stacks_of self.old) result (stacks_of self.new) }
+        ensures { Reduces Production.PointerMember (stacks_of self.old) result
+            (stacks_of self.new) }
     {
         let token = self.tokens.pop()?;
         self.tokens.pop()?;
@@ -91,7 +92,8 @@ impl Stacks<'_> {
 
     /// An operator before its operand.
     pub(crate) fn unary(&mut self, alloc: Global, operator: UnaryOperator) -> Result<(), BuildFault>
-        ensures { Reduces (Production.Unary operator) (stacks_of self.old) result (stacks_of self.new) }
+        ensures { Reduces (Production.Unary operator) (stacks_of self.old) result
+            (stacks_of self.new) }
     {
         let at = self.tokens.pop()?.start;
         let operand = self.operands.expressions.pop()?;
@@ -147,7 +149,8 @@ impl Stacks<'_> {
         alloc: Global,
         operator: BinaryOperator,
     ) -> Result<(), BuildFault>
-        ensures { Reduces (Production.Binary operator) (stacks_of self.old) result (stacks_of self.new) }
+        ensures { Reduces (Production.Binary operator) (stacks_of self.old) result
+            (stacks_of self.new) }
     {
         self.tokens.pop()?;
         let right = self.operands.expressions.pop()?;
@@ -226,7 +229,8 @@ impl Stacks<'_> {
 
     /// An argument before others.
     pub(crate) fn more_arguments(&mut self) -> Result<(), BuildFault>
-        ensures { Reduces Production.MoreArguments (stacks_of self.old) result (stacks_of self.new) }
+        ensures { Reduces Production.MoreArguments (stacks_of self.old) result
+            (stacks_of self.new) }
     {
         self.tokens.pop()?;
         let mut arguments = self.operands.arguments.pop()?;

@@ -1,10 +1,10 @@
 //! Parameters are built from their parts.
 
-ghost use Rattle.c_build.specs.StacksOf.{stacks_of, Reduces};
+ghost use Rattle.c_build.specs.CodeStacksOf.{stacks_of, Reduces};
 ghost use Rattle.std.specs.Prelude.{◌≡◌, map};
-ghost use Rattle.c_grammar.specs.View.{param_of, words_of};
+ghost use Rattle.c_grammar.specs.CodeTree.{param_of, words_of};
 ghost use Rattle.c_grammar.specs.Spells.{parameters};
-ghost use Rattle.c_build.specs.Reduce.{is_void, is_void_word};
+ghost use Rattle.c_build.specs.CodeReduce.{is_void, is_void_word};
 
 use crate::build::stack::{BuildFault, Stack};
 use crate::build::stacks::Stacks;
@@ -58,7 +58,8 @@ impl Stacks<'_> {
 
     /// Parameters of a declarator.
     pub(crate) fn some_parameters(&mut self, alloc: Global) -> Result<(), BuildFault>
-        ensures { Reduces Production.SomeParameters (stacks_of self.old) result (stacks_of self.new) }
+        ensures { Reduces Production.SomeParameters (stacks_of self.old) result
+            (stacks_of self.new) }
     {
         self.tokens.pop()?;
         let parameters = self.externals.param_lists.pop()?;
@@ -69,7 +70,8 @@ impl Stacks<'_> {
 
     /// No parameters in the parentheses.
     pub(crate) fn empty_parameters(&mut self, alloc: Global) -> Result<(), BuildFault>
-        ensures { Reduces Production.EmptyParameters (stacks_of self.old) result (stacks_of self.new) }
+        ensures { Reduces Production.EmptyParameters (stacks_of self.old) result
+            (stacks_of self.new) }
     {
         self.tokens.pop()?;
         self.externals.param_lists.push(Stack::new(alloc))
@@ -77,7 +79,8 @@ impl Stacks<'_> {
 
     /// The last parameter.
     pub(crate) fn last_parameter(&mut self, alloc: Global) -> Result<(), BuildFault>
-        ensures { Reduces Production.LastParameter (stacks_of self.old) result (stacks_of self.new) }
+        ensures { Reduces Production.LastParameter (stacks_of self.old) result
+            (stacks_of self.new) }
     {
         self.tokens.pop()?;
         let parameter = self.externals.params.pop()?;
@@ -88,7 +91,8 @@ impl Stacks<'_> {
 
     /// A parameter before others.
     pub(crate) fn more_parameters(&mut self) -> Result<(), BuildFault>
-        ensures { Reduces Production.MoreParameters (stacks_of self.old) result (stacks_of self.new) }
+        ensures { Reduces Production.MoreParameters (stacks_of self.old) result
+            (stacks_of self.new) }
     {
         self.tokens.pop()?;
         let mut parameters = self.externals.param_lists.pop()?;
@@ -115,7 +119,8 @@ impl Stacks<'_> {
 
     /// The name of a parameter.
     pub(crate) fn parameter_name(&mut self, alloc: Global) -> Result<(), BuildFault>
-        ensures { Reduces Production.ParameterName (stacks_of self.old) result (stacks_of self.new) }
+        ensures { Reduces Production.ParameterName (stacks_of self.old) result
+            (stacks_of self.new) }
     {
         let token = self.tokens.pop()?;
         self.externals
@@ -125,7 +130,8 @@ impl Stacks<'_> {
 
     /// A parameter without a name.
     pub(crate) fn no_parameter_name(&mut self) -> Result<(), BuildFault>
-        ensures { Reduces Production.NoParameterName (stacks_of self.old) result (stacks_of self.new) }
+        ensures { Reduces Production.NoParameterName (stacks_of self.old) result
+            (stacks_of self.new) }
     {
         self.externals.names.push(None)
     }
@@ -142,8 +148,8 @@ impl Stacks<'_> {
         ensures { Reduces Production.OpenBracket (stacks_of self.old) result (stacks_of self.new) }
     {
         self.tokens.pop()?;
-        self.tokens.pop()?;
-        self.externals.brackets.push(Bracket::Open)
+        let at = self.tokens.pop()?.start;
+        self.externals.brackets.push(Bracket::Open(at))
     }
 
     /// `[e]`
@@ -151,10 +157,10 @@ impl Stacks<'_> {
         ensures { Reduces Production.SizedBracket (stacks_of self.old) result (stacks_of self.new) }
     {
         self.tokens.pop()?;
-        self.tokens.pop()?;
+        let at = self.tokens.pop()?.start;
         let length = self.operands.expressions.pop()?;
         self.externals
             .brackets
-            .push(Bracket::Length(Box::into_inner(length)))
+            .push(Bracket::Length(at, Box::into_inner(length)))
     }
 }

@@ -1,6 +1,6 @@
 //! The end of a production.
 
-ghost use Rattle.c_build.specs.StacksOf.{stacks_of, Reduces};
+ghost use Rattle.c_build.specs.CodeStacksOf.{stacks_of, Reduces};
 
 use crate::build::stack::BuildFault;
 use crate::build::stacks::Stacks;

@@ -1,6 +1,6 @@
 //! Simple statements and the heads of `for` are built from their parts.
 
-ghost use Rattle.c_build.specs.StacksOf.{stacks_of, Reduces};
+ghost use Rattle.c_build.specs.CodeStacksOf.{stacks_of, Reduces};
 
 use crate::build::stack::BuildFault;
 use crate::build::stacks::Stacks;
@@ -22,7 +22,8 @@ impl Stacks<'_> {
 
     /// `e += x` and its kin.
     pub(crate) fn update(&mut self, operator: BinaryOperator) -> Result<(), BuildFault>
-        ensures { Reduces (Production.Update operator) (stacks_of self.old) result (stacks_of self.new) }
+        ensures { Reduces (Production.Update operator) (stacks_of self.old) result
+            (stacks_of self.new) }
     {
         self.tokens.pop()?;
         let value = self.operands.expressions.pop()?;
@@ -36,7 +37,8 @@ impl Stacks<'_> {
 
     /// `e++` and `e--`
     pub(crate) fn after(&mut self, operator: StepOperator) -> Result<(), BuildFault>
-        ensures { Reduces (Production.After operator) (stacks_of self.old) result (stacks_of self.new) }
+        ensures { Reduces (Production.After operator) (stacks_of self.old) result
+            (stacks_of self.new) }
     {
         self.tokens.pop()?;
         let place = self.operands.expressions.pop()?;
@@ -47,7 +49,8 @@ impl Stacks<'_> {
 
     /// `++e` and `--e`
     pub(crate) fn before(&mut self, operator: StepOperator) -> Result<(), BuildFault>
-        ensures { Reduces (Production.Before operator) (stacks_of self.old) result (stacks_of self.new) }
+        ensures { Reduces (Production.Before operator) (stacks_of self.old) result
+            (stacks_of self.new) }
     {
         let at = self.tokens.pop()?.start;
         let place = self.operands.expressions.pop()?;

@@ -55,7 +55,8 @@ impl<T> Stack<T> {
 
     /// Takes the top.
     pub(crate) fn pop(&mut self) -> Result<T, BuildFault>
-        ensures { MatchResult result (λ top. self.old ≡ top ∷ self.new) (λ e. (e ≡ Missing) × (self.old ≡ [])) }
+        ensures { MatchResult result (λ top. self.old ≡ top ∷ self.new)
+            (λ e. (e ≡ Missing) × (self.old ≡ [])) }
     {
         match self.items.pop() {
             Some(top) => Ok(top),

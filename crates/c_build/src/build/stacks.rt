@@ -1,8 +1,8 @@
 //! The trees that are being built: a stack for each kind of them.
 
 ghost use Rattle.std.specs.Prelude.{◌≡◌};
-ghost use Rattle.c_build.specs.Stacks.{empty, no_externals, no_operands, no_statements, no_types};
-ghost use Rattle.c_build.specs.StacksOf.{externals_of, operands_of, stacks_of, statements_of, types_of};
+ghost use Rattle.c_build.specs.CodeStacks.{empty, no_externals, no_operands, no_statements, no_types};
+ghost use Rattle.c_build.specs.CodeStacksOf.{externals_of, operands_of, stacks_of, statements_of, types_of};
 
 use crate::build::stack::Stack;
 use c_grammar::tree::{

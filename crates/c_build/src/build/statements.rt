@@ -1,6 +1,6 @@
 //! Statements are built from their parts.
 
-ghost use Rattle.c_build.specs.StacksOf.{stacks_of, Reduces};
+ghost use Rattle.c_build.specs.CodeStacksOf.{stacks_of, Reduces};
 
 use crate::build::stack::{BuildFault, Stack};
 use crate::build::stacks::Stacks;
@@ -199,7 +199,8 @@ impl Stacks<'_> {
 
     /// A statement in a block.
     pub(crate) fn statement_item(&mut self, alloc: Global) -> Result<(), BuildFault>
-        ensures { Reduces Production.StatementItem (stacks_of self.old) result (stacks_of self.new) }
+        ensures { Reduces Production.StatementItem (stacks_of self.old) result
+            (stacks_of self.new) }
     {
         let rest = self.statements.item_lists.pop()?;
         let statement = self.statements.statements.pop()?;

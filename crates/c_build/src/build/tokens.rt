@@ -2,8 +2,8 @@
 
 ghost use Rattle.std.specs.Prelude.{◌≡◌, MatchResult, string_bytes};
 ghost use Rattle.c_lex.specs.Lexeme.{kind_of};
-ghost use Rattle.c_grammar.specs.View.{exp_of};
-ghost use Rattle.c_grammar.specs.Build.{constant, keyword_in, name_in};
+ghost use Rattle.c_grammar.specs.CodeTree.{exp_of};
+ghost use Rattle.c_grammar.specs.CodeBuild.{constant, keyword_in, name_in};
 ghost use Rattle.c_build.specs.declared.build.stack.BuildFault.TheVariants.{Memory};
 
 use crate::build::stack::BuildFault;
@@ -13,7 +13,8 @@ use std::alloc::Global;
 
 /// The name that a token is.
 pub(crate) fn name_of(alloc: Global, token: &Token) -> Result<String, BuildFault>
-    ensures { MatchResult result (λ name. string_bytes name ≡ name_in (kind_of token.now.kind)) (λ e. e ≡ Memory) }
+    ensures { MatchResult result (λ name. string_bytes name ≡ name_in (kind_of token.now.kind))
+        (λ e. e ≡ Memory) }
 {
     match &token.kind {
         TokenKind::Name(name) => Ok(String::from_str(alloc, name.as_str())?),
@@ -33,7 +34,8 @@ pub(crate) fn keyword_of(token: &Token) -> Keyword
 
 /// The constant that a token is.
 pub(crate) fn constant(alloc: Global, token: &Token) -> Result<CExp, BuildFault>
-    ensures { MatchResult result (λ e. exp_of e ≡ constant token.now.start (kind_of token.now.kind)) (λ e. e ≡ Memory) }
+    ensures { MatchResult result (λ e. exp_of e ≡ constant token.now.start (kind_of token.now.kind))
+        (λ e. e ≡ Memory) }
 {
     let at = token.start;
     match &token.kind {

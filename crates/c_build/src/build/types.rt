@@ -1,6 +1,6 @@
 //! Types, structs and enums are built from their parts.
 
-ghost use Rattle.c_build.specs.StacksOf.{stacks_of, Reduces};
+ghost use Rattle.c_build.specs.CodeStacksOf.{stacks_of, Reduces};
 
 use crate::build::stack::BuildFault;
 use crate::build::stacks::Stacks;
@@ -164,7 +164,8 @@ impl Stacks<'_> {
 
     /// The last enumerator.
     pub(crate) fn last_enumerator(&mut self, alloc: Global) -> Result<(), BuildFault>
-        ensures { Reduces Production.LastEnumerator (stacks_of self.old) result (stacks_of self.new) }
+        ensures { Reduces Production.LastEnumerator (stacks_of self.old) result
+            (stacks_of self.new) }
     {
         self.tokens.pop()?;
         let enumerator = self.types.enumerators.pop()?;
@@ -175,7 +176,8 @@ impl Stacks<'_> {
 
     /// The last enumerator, with a comma.
     pub(crate) fn last_enumerator_comma(&mut self, alloc: Global) -> Result<(), BuildFault>
-        ensures { Reduces Production.LastEnumeratorComma (stacks_of self.old) result (stacks_of self.new) }
+        ensures { Reduces Production.LastEnumeratorComma (stacks_of self.old) result
+            (stacks_of self.new) }
     {
         self.tokens.pop()?;
         self.tokens.pop()?;
@@ -187,7 +189,8 @@ impl Stacks<'_> {
 
     /// An enumerator before others.
     pub(crate) fn more_enumerators(&mut self, alloc: Global) -> Result<(), BuildFault>
-        ensures { Reduces Production.MoreEnumerators (stacks_of self.old) result (stacks_of self.new) }
+        ensures { Reduces Production.MoreEnumerators (stacks_of self.old) result
+            (stacks_of self.new) }
     {
         self.tokens.pop()?;
         let rest = self.types.enumerator_lists.pop()?;

@@ -2,8 +2,8 @@
 
 ghost use Rattle.std.specs.Prelude.{◌≡◌, ◌∷◌, ◌++◌, [], IfOk, reverse};
 ghost use Rattle.c_lex.specs.Lexeme.{kind_of};
-ghost use Rattle.c_grammar.specs.Follows.{Follows};
-ghost use Rattle.c_grammar.specs.Choice as choice;
+ghost use Rattle.c_grammar.specs.CodeFollows.{Follows};
+ghost use Rattle.c_grammar.specs.CodeChoice as choice;
 ghost use Rattle.c_grammar.specs.Operators as operators;
 
 use super::types::{starts_type, words};
@@ -20,7 +20,9 @@ fn unary(
     wanted: Wanted,
     operator: UnaryOperator,
 ) -> Result<Answer, AllocError>
-    ensures { IfOk result (λ answer. Follows (choice.unary_choice bodies wanted operator) answer (reverse stack.old.items) (reverse stack.new.items)) }
+    ensures { IfOk result
+        (λ answer. Follows (choice.unary_choice bodies wanted operator) answer
+        (reverse stack.old.items) (reverse stack.new.items)) }
 {
     if wanted.least() <= 12 {
         take(
@@ -44,7 +46,9 @@ pub(super) fn operand(
     typed: bool,
     kind: &TokenKind,
 ) -> Result<Answer, AllocError>
-    ensures { IfOk result (λ answer. Follows (choice.operand bodies wanted typed (kind_of kind.now)) answer (reverse stack.old.items) (reverse stack.new.items)) }
+    ensures { IfOk result
+        (λ answer. Follows (choice.operand bodies wanted typed (kind_of kind.now)) answer
+        (reverse stack.old.items) (reverse stack.new.items)) }
 {
     match kind {
         TokenKind::Name(_) => if typed {
@@ -102,7 +106,9 @@ pub(super) fn opened(
     typed: bool,
     kind: &TokenKind,
 ) -> Result<Answer, AllocError>
-    ensures { IfOk result (λ answer. Follows (choice.opened bodies wanted typed (kind_of kind.now)) answer (reverse stack.old.items) (reverse stack.new.items)) }
+    ensures { IfOk result
+        (λ answer. Follows (choice.opened bodies wanted typed (kind_of kind.now)) answer
+        (reverse stack.old.items) (reverse stack.new.items)) }
 {
     if starts_type(typed, kind) {
         open_type(stack, bodies, wanted, typed, kind)
@@ -119,7 +125,9 @@ fn open_type(
     typed: bool,
     kind: &TokenKind,
 ) -> Result<Answer, AllocError>
-    ensures { IfOk result (λ answer. Follows (choice.open_type bodies wanted typed (kind_of kind.now)) answer (reverse stack.old.items) (reverse stack.new.items)) }
+    ensures { IfOk result
+        (λ answer. Follows (choice.open_type bodies wanted typed (kind_of kind.now)) answer
+        (reverse stack.old.items) (reverse stack.new.items)) }
 {
     if !wanted.may_open_type() {
         return Ok(Answer::Refused);
@@ -139,7 +147,8 @@ fn open_type(
 
 /// What follows a type name in parentheses: the end of a `sizeof`, or the operand of a cast.
 fn open_rest(stack: &mut Vec<Symbol>, bodies: bool, wanted: Wanted) -> Result<(), AllocError>
-    ensures { IfOk result (λ _. reverse stack.new.items ≡ choice.open_rest bodies wanted ++ reverse stack.old.items) }
+    ensures { IfOk result
+        (λ _. reverse stack.new.items ≡ choice.open_rest bodies wanted ++ reverse stack.old.items) }
 {
     match wanted {
         Wanted::Sized => push_all(stack, &[Symbol::End(Production::SizeofType)]),
@@ -162,7 +171,9 @@ fn open_value(
     typed: bool,
     kind: &TokenKind,
 ) -> Result<Answer, AllocError>
-    ensures { IfOk result (λ answer. Follows (choice.open_value bodies wanted typed (kind_of kind.now)) answer (reverse stack.old.items) (reverse stack.new.items)) }
+    ensures { IfOk result
+        (λ answer. Follows (choice.open_value bodies wanted typed (kind_of kind.now)) answer
+        (reverse stack.old.items) (reverse stack.new.items)) }
 {
     push_all(
         stack,
@@ -184,7 +195,9 @@ fn tail_end(
     reached: u8,
     kind: &TokenKind,
 ) -> Result<Answer, AllocError>
-    ensures { IfOk result (λ answer. Follows (choice.tail_end bodies wanted reached (kind_of kind.now)) answer (reverse stack.old.items) (reverse stack.new.items)) }
+    ensures { IfOk result
+        (λ answer. Follows (choice.tail_end bodies wanted reached (kind_of kind.now)) answer
+        (reverse stack.old.items) (reverse stack.new.items)) }
 {
     match wanted {
         Wanted::Level(_) | Wanted::Sized => Ok(Answer::Passed),
@@ -214,7 +227,9 @@ fn place_end(
     reached: u8,
     kind: &TokenKind,
 ) -> Result<Answer, AllocError>
-    ensures { IfOk result (λ answer. Follows (choice.tail_end bodies Wanted.Place reached (kind_of kind.now)) answer (reverse stack.old.items) (reverse stack.new.items)) }
+    ensures { IfOk result
+        (λ answer. Follows (choice.tail_end bodies Wanted.Place reached (kind_of kind.now)) answer
+        (reverse stack.old.items) (reverse stack.new.items)) }
 {
     match kind {
         TokenKind::Punct(Punct::LeftParenthesis) => if reached == 15 {
@@ -317,7 +332,9 @@ fn update(
     reached: u8,
     operator: BinaryOperator,
 ) -> Result<Answer, AllocError>
-    ensures { IfOk result (λ answer. Follows (choice.update_choice bodies reached operator) answer (reverse stack.old.items) (reverse stack.new.items)) }
+    ensures { IfOk result
+        (λ answer. Follows (choice.update_choice bodies reached operator) answer
+        (reverse stack.old.items) (reverse stack.new.items)) }
 {
     if reached >= 12 {
         take(
@@ -340,7 +357,9 @@ pub(super) fn tail(
     reached: u8,
     kind: &TokenKind,
 ) -> Result<Answer, AllocError>
-    ensures { IfOk result (λ answer. Follows (choice.tail bodies wanted reached (kind_of kind.now)) answer (reverse stack.old.items) (reverse stack.new.items)) }
+    ensures { IfOk result
+        (λ answer. Follows (choice.tail bodies wanted reached (kind_of kind.now)) answer
+        (reverse stack.old.items) (reverse stack.new.items)) }
 {
     match kind {
         TokenKind::Punct(Punct::LeftBracket) if reached >= 13 => take(
@@ -535,7 +554,10 @@ fn binary(
     operator: BinaryOperator,
     kind: &TokenKind,
 ) -> Result<Answer, AllocError>
-    ensures { IfOk result (λ answer. Follows (choice.binary_choice bodies wanted reached operator (kind_of kind.now)) answer (reverse stack.old.items) (reverse stack.new.items)) }
+    ensures { IfOk result
+        (λ answer.
+        Follows (choice.binary_choice bodies wanted reached operator (kind_of kind.now)) answer
+        (reverse stack.old.items) (reverse stack.new.items)) }
 {
     let level = operator.level();
     if wanted.least() <= level && level <= reached {
@@ -559,7 +581,9 @@ pub(super) fn arguments(
     typed: bool,
     kind: &TokenKind,
 ) -> Result<Answer, AllocError>
-    ensures { IfOk result (λ answer. Follows (choice.arguments bodies typed (kind_of kind.now)) answer (reverse stack.old.items) (reverse stack.new.items)) }
+    ensures { IfOk result
+        (λ answer. Follows (choice.arguments bodies typed (kind_of kind.now)) answer
+        (reverse stack.old.items) (reverse stack.new.items)) }
 {
     match kind {
         TokenKind::Punct(Punct::RightParenthesis) => take(
@@ -576,7 +600,11 @@ fn first_argument(
     typed: bool,
     kind: &TokenKind,
 ) -> Result<Answer, AllocError>
-    ensures { IfOk result (λ answer. Follows (choice.and_then (choice.operand bodies (Wanted.Level 0) typed (kind_of kind.now)) (Symbol.ArgumentsMore bodies ∷ [])) answer (reverse stack.old.items) (reverse stack.new.items)) }
+    ensures { IfOk result
+        (λ answer.
+        Follows (choice.and_then (choice.operand bodies (Wanted.Level 0) typed (kind_of kind.now))
+        (Symbol.ArgumentsMore bodies ∷ [])) answer (reverse stack.old.items)
+        (reverse stack.new.items)) }
 {
     push_all(stack, &[Symbol::ArgumentsMore(bodies)])?;
     let answer = operand(stack, bodies, Wanted::Level(0), typed, kind)?;
@@ -589,7 +617,9 @@ pub(super) fn arguments_more(
     bodies: bool,
     kind: &TokenKind,
 ) -> Result<Answer, AllocError>
-    ensures { IfOk result (λ answer. Follows (choice.arguments_more bodies (kind_of kind.now)) answer (reverse stack.old.items) (reverse stack.new.items)) }
+    ensures { IfOk result
+        (λ answer. Follows (choice.arguments_more bodies (kind_of kind.now)) answer
+        (reverse stack.old.items) (reverse stack.new.items)) }
 {
     match kind {
         TokenKind::Punct(Punct::RightParenthesis) => take(

@@ -2,8 +2,8 @@
 
 ghost use Rattle.std.specs.Prelude.{◌≡◌, ◌∷◌, ◌++◌, [], IfOk, true, false, reverse};
 ghost use Rattle.c_lex.specs.Lexeme.{kind_of};
-ghost use Rattle.c_grammar.specs.Follows.{Follows};
-ghost use Rattle.c_grammar.specs.Choice as choice;
+ghost use Rattle.c_grammar.specs.CodeFollows.{Follows};
+ghost use Rattle.c_grammar.specs.CodeChoice as choice;
 ghost use Rattle.c_grammar.specs.Operators as operators;
 
 use super::expressions::operand;
@@ -19,7 +19,9 @@ pub(super) fn externals(
     typed: bool,
     kind: &TokenKind,
 ) -> Result<Answer, AllocError>
-    ensures { IfOk result (λ answer. Follows (choice.externals typed (kind_of kind.now)) answer (reverse stack.old.items) (reverse stack.new.items)) }
+    ensures { IfOk result
+        (λ answer. Follows (choice.externals typed (kind_of kind.now)) answer
+        (reverse stack.old.items) (reverse stack.new.items)) }
 {
     match kind {
         TokenKind::Keyword(Keyword::Typedef) => take(
@@ -38,7 +40,10 @@ pub(super) fn externals(
 
 /// An external that is no typedef, and further ones.
 fn external(stack: &mut Vec<Symbol>, typed: bool, kind: &TokenKind) -> Result<Answer, AllocError>
-    ensures { IfOk result (λ answer. Follows (choice.and_then (choice.words true Seen.Nothing typed (kind_of kind.now)) (Symbol.Tops false ∷ Symbol.Made false ∷ Symbol.Externals ∷ choice.end Production.MoreExternals ∷ [])) answer (reverse stack.old.items) (reverse stack.new.items)) }
+    ensures { IfOk result
+        (λ answer.
+        Follows (choice.and_then (choice.words true Seen.Nothing typed (kind_of kind.now))
+        (Symbol.Tops false ∷ Symbol.Made false ∷ Symbol.Externals ∷ choice.end Production.MoreExternals ∷ [])) answer (reverse stack.old.items) (reverse stack.new.items)) }
 {
     push_all(
         stack,
@@ -55,7 +60,8 @@ fn external(stack: &mut Vec<Symbol>, typed: bool, kind: &TokenKind) -> Result<An
 
 /// What follows the first declarator of an external.
 fn first_top(stack: &mut Vec<Symbol>, typedef: bool) -> Result<(), AllocError>
-    ensures { IfOk result (λ _. reverse stack.new.items ≡ choice.first_top typedef ++ reverse stack.old.items) }
+    ensures { IfOk result
+        (λ _. reverse stack.new.items ≡ choice.first_top typedef ++ reverse stack.old.items) }
 {
     if typedef {
         push_all(
@@ -80,7 +86,9 @@ pub(super) fn tops(
     typed: bool,
     kind: &TokenKind,
 ) -> Result<Answer, AllocError>
-    ensures { IfOk result (λ answer. Follows (choice.tops typedef typed (kind_of kind.now)) answer (reverse stack.old.items) (reverse stack.new.items)) }
+    ensures { IfOk result
+        (λ answer. Follows (choice.tops typedef typed (kind_of kind.now)) answer
+        (reverse stack.old.items) (reverse stack.new.items)) }
 {
     match kind {
         TokenKind::Punct(Punct::Semicolon) => take(
@@ -125,7 +133,9 @@ pub(super) fn top_parameters(
     stack: &mut Vec<Symbol>,
     kind: &TokenKind,
 ) -> Result<Answer, AllocError>
-    ensures { IfOk result (λ answer. Follows (choice.top_parameters (kind_of kind.now)) answer (reverse stack.old.items) (reverse stack.new.items)) }
+    ensures { IfOk result
+        (λ answer. Follows (choice.top_parameters (kind_of kind.now)) answer
+        (reverse stack.old.items) (reverse stack.new.items)) }
 {
     match kind {
         TokenKind::Punct(Punct::LeftParenthesis) => take(
@@ -138,7 +148,9 @@ pub(super) fn top_parameters(
 
 /// `=` and the value of a global, or nothing.
 pub(super) fn top_value(stack: &mut Vec<Symbol>, kind: &TokenKind) -> Result<Answer, AllocError>
-    ensures { IfOk result (λ answer. Follows (choice.top_value (kind_of kind.now)) answer (reverse stack.old.items) (reverse stack.new.items)) }
+    ensures { IfOk result
+        (λ answer. Follows (choice.top_value (kind_of kind.now)) answer (reverse stack.old.items)
+        (reverse stack.new.items)) }
 {
     match kind {
         TokenKind::Punct(Punct::Equal) => take(
@@ -154,7 +166,9 @@ pub(super) fn top_value(stack: &mut Vec<Symbol>, kind: &TokenKind) -> Result<Ans
 
 /// `,` and further declarators, or `;`.
 pub(super) fn top_more(stack: &mut Vec<Symbol>, kind: &TokenKind) -> Result<Answer, AllocError>
-    ensures { IfOk result (λ answer. Follows (choice.top_more (kind_of kind.now)) answer (reverse stack.old.items) (reverse stack.new.items)) }
+    ensures { IfOk result
+        (λ answer. Follows (choice.top_more (kind_of kind.now)) answer (reverse stack.old.items)
+        (reverse stack.new.items)) }
 {
     match kind {
         TokenKind::Punct(Punct::Comma) => take(
@@ -178,8 +192,13 @@ pub(super) fn top_more(stack: &mut Vec<Symbol>, kind: &TokenKind) -> Result<Answ
 
 /// What follows the first declarator, whose parameters are told: its value, further declarators, or `;`.
 fn first_value(stack: &mut Vec<Symbol>, kind: &TokenKind) -> Result<Answer, AllocError>
-    ensures none { IfOk result (λ answer. Follows (choice.first_value (Production.NoParameters ∷ []) (kind_of kind.now)) answer (reverse stack.old.items) (reverse stack.new.items)) }
-    ensures some { IfOk result (λ answer. Follows (choice.first_value [] (kind_of kind.now)) answer (reverse stack.old.items) (reverse stack.new.items)) }
+    ensures none { IfOk result
+        (λ answer.
+        Follows (choice.first_value (Production.NoParameters ∷ []) (kind_of kind.now)) answer
+        (reverse stack.old.items) (reverse stack.new.items)) }
+    ensures some { IfOk result
+        (λ answer. Follows (choice.first_value [] (kind_of kind.now)) answer
+        (reverse stack.old.items) (reverse stack.new.items)) }
 {
     match kind {
         TokenKind::Punct(Punct::Equal) => take(
@@ -223,7 +242,9 @@ pub(super) fn first_parameters(
     stack: &mut Vec<Symbol>,
     kind: &TokenKind,
 ) -> Result<Answer, AllocError>
-    ensures { IfOk result (λ answer. Follows (choice.first_parameters (kind_of kind.now)) answer (reverse stack.old.items) (reverse stack.new.items)) }
+    ensures { IfOk result
+        (λ answer. Follows (choice.first_parameters (kind_of kind.now)) answer
+        (reverse stack.old.items) (reverse stack.new.items)) }
 {
     match kind {
         TokenKind::Punct(Punct::LeftParenthesis) => take(
@@ -240,7 +261,9 @@ pub(super) fn first_parameters(
 
 /// What follows its parameters.
 pub(super) fn first_rest(stack: &mut Vec<Symbol>, kind: &TokenKind) -> Result<Answer, AllocError>
-    ensures { IfOk result (λ answer. Follows (choice.first_rest (kind_of kind.now)) answer (reverse stack.old.items) (reverse stack.new.items)) }
+    ensures { IfOk result
+        (λ answer. Follows (choice.first_rest (kind_of kind.now)) answer (reverse stack.old.items)
+        (reverse stack.new.items)) }
 {
     match kind {
         TokenKind::Punct(Punct::LeftBrace) => take(
@@ -261,7 +284,9 @@ pub(super) fn parameters(
     typed: bool,
     kind: &TokenKind,
 ) -> Result<Answer, AllocError>
-    ensures { IfOk result (λ answer. Follows (choice.parameters typed (kind_of kind.now)) answer (reverse stack.old.items) (reverse stack.new.items)) }
+    ensures { IfOk result
+        (λ answer. Follows (choice.parameters typed (kind_of kind.now)) answer
+        (reverse stack.old.items) (reverse stack.new.items)) }
 {
     match kind {
         TokenKind::Punct(Punct::RightParenthesis) => take(
@@ -278,7 +303,10 @@ fn first_parameter(
     typed: bool,
     kind: &TokenKind,
 ) -> Result<Answer, AllocError>
-    ensures { IfOk result (λ answer. Follows (choice.and_then (choice.words false Seen.Nothing typed (kind_of kind.now)) (choice.parameter_rest [])) answer (reverse stack.old.items) (reverse stack.new.items)) }
+    ensures { IfOk result
+        (λ answer.
+        Follows (choice.and_then (choice.words false Seen.Nothing typed (kind_of kind.now))
+        (choice.parameter_rest [])) answer (reverse stack.old.items) (reverse stack.new.items)) }
 {
     push_all(
         stack,
@@ -299,7 +327,9 @@ pub(super) fn parameters_more(
     stack: &mut Vec<Symbol>,
     kind: &TokenKind,
 ) -> Result<Answer, AllocError>
-    ensures { IfOk result (λ answer. Follows (choice.parameters_more (kind_of kind.now)) answer (reverse stack.old.items) (reverse stack.new.items)) }
+    ensures { IfOk result
+        (λ answer. Follows (choice.parameters_more (kind_of kind.now)) answer
+        (reverse stack.old.items) (reverse stack.new.items)) }
 {
     match kind {
         TokenKind::Punct(Punct::Comma) => take(
@@ -328,7 +358,9 @@ pub(super) fn parameter_name(
     typed: bool,
     kind: &TokenKind,
 ) -> Result<Answer, AllocError>
-    ensures { IfOk result (λ answer. Follows (choice.parameter_name typed (kind_of kind.now)) answer (reverse stack.old.items) (reverse stack.new.items)) }
+    ensures { IfOk result
+        (λ answer. Follows (choice.parameter_name typed (kind_of kind.now)) answer
+        (reverse stack.old.items) (reverse stack.new.items)) }
 {
     match kind {
         TokenKind::Name(_) => if typed {
@@ -345,7 +377,9 @@ pub(super) fn parameter_bracket(
     stack: &mut Vec<Symbol>,
     kind: &TokenKind,
 ) -> Result<Answer, AllocError>
-    ensures { IfOk result (λ answer. Follows (choice.parameter_bracket (kind_of kind.now)) answer (reverse stack.old.items) (reverse stack.new.items)) }
+    ensures { IfOk result
+        (λ answer. Follows (choice.parameter_bracket (kind_of kind.now)) answer
+        (reverse stack.old.items) (reverse stack.new.items)) }
 {
     match kind {
         TokenKind::Punct(Punct::LeftBracket) => take(stack, &[Symbol::BracketRest]),
@@ -359,7 +393,9 @@ pub(super) fn bracket_rest(
     typed: bool,
     kind: &TokenKind,
 ) -> Result<Answer, AllocError>
-    ensures { IfOk result (λ answer. Follows (choice.bracket_rest typed (kind_of kind.now)) answer (reverse stack.old.items) (reverse stack.new.items)) }
+    ensures { IfOk result
+        (λ answer. Follows (choice.bracket_rest typed (kind_of kind.now)) answer
+        (reverse stack.old.items) (reverse stack.new.items)) }
 {
     match kind {
         TokenKind::Punct(Punct::RightBracket) => take(
@@ -376,7 +412,11 @@ fn bracket_length(
     typed: bool,
     kind: &TokenKind,
 ) -> Result<Answer, AllocError>
-    ensures { IfOk result (λ answer. Follows (choice.and_then (choice.operand false (Wanted.Level 0) typed (kind_of kind.now)) (Symbol.RightBracket ∷ choice.end Production.SizedBracket ∷ [])) answer (reverse stack.old.items) (reverse stack.new.items)) }
+    ensures { IfOk result
+        (λ answer.
+        Follows (choice.and_then (choice.operand false (Wanted.Level 0) typed (kind_of kind.now))
+        (Symbol.RightBracket ∷ choice.end Production.SizedBracket ∷ [])) answer
+        (reverse stack.old.items) (reverse stack.new.items)) }
 {
     push_all(
         stack,

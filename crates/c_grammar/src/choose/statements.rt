@@ -2,8 +2,8 @@
 
 ghost use Rattle.std.specs.Prelude.{◌≡◌, ◌∷◌, ◌++◌, [], IfOk, true, false, reverse};
 ghost use Rattle.c_lex.specs.Lexeme.{kind_of};
-ghost use Rattle.c_grammar.specs.Follows.{Follows};
-ghost use Rattle.c_grammar.specs.Choice as choice;
+ghost use Rattle.c_grammar.specs.CodeFollows.{Follows};
+ghost use Rattle.c_grammar.specs.CodeChoice as choice;
 ghost use Rattle.c_grammar.specs.Operators as operators;
 
 use super::expressions::operand;
@@ -16,7 +16,9 @@ use std::alloc::AllocError;
 
 /// A simple statement.
 fn simple(stack: &mut Vec<Symbol>, typed: bool, kind: &TokenKind) -> Result<Answer, AllocError>
-    ensures { IfOk result (λ answer. Follows (choice.simple typed (kind_of kind.now)) answer (reverse stack.old.items) (reverse stack.new.items)) }
+    ensures { IfOk result
+        (λ answer. Follows (choice.simple typed (kind_of kind.now)) answer (reverse stack.old.items)
+        (reverse stack.new.items)) }
 {
     match kind {
         TokenKind::Punct(Punct::PlusPlus) => take(
@@ -43,7 +45,9 @@ pub(super) fn statement(
     typed: bool,
     kind: &TokenKind,
 ) -> Result<Answer, AllocError>
-    ensures { IfOk result (λ answer. Follows (choice.statement typed (kind_of kind.now)) answer (reverse stack.old.items) (reverse stack.new.items)) }
+    ensures { IfOk result
+        (λ answer. Follows (choice.statement typed (kind_of kind.now)) answer
+        (reverse stack.old.items) (reverse stack.new.items)) }
 {
     match kind {
         TokenKind::Punct(Punct::Semicolon) => take(stack, &[Symbol::End(Production::Empty)]),
@@ -129,7 +133,11 @@ fn simple_statement(
     typed: bool,
     kind: &TokenKind,
 ) -> Result<Answer, AllocError>
-    ensures { IfOk result (λ answer. Follows (choice.and_then (choice.simple typed (kind_of kind.now)) (Symbol.Semicolon ∷ choice.end Production.Simple ∷ [])) answer (reverse stack.old.items) (reverse stack.new.items)) }
+    ensures { IfOk result
+        (λ answer.
+        Follows (choice.and_then (choice.simple typed (kind_of kind.now))
+        (Symbol.Semicolon ∷ choice.end Production.Simple ∷ [])) answer (reverse stack.old.items)
+        (reverse stack.new.items)) }
 {
     push_all(stack, &[Symbol::Semicolon, Symbol::End(Production::Simple)])?;
     let answer = simple(stack, typed, kind)?;
@@ -142,7 +150,9 @@ pub(super) fn return_value(
     typed: bool,
     kind: &TokenKind,
 ) -> Result<Answer, AllocError>
-    ensures { IfOk result (λ answer. Follows (choice.return_value typed (kind_of kind.now)) answer (reverse stack.old.items) (reverse stack.new.items)) }
+    ensures { IfOk result
+        (λ answer. Follows (choice.return_value typed (kind_of kind.now)) answer
+        (reverse stack.old.items) (reverse stack.new.items)) }
 {
     match kind {
         TokenKind::Punct(Punct::Semicolon) => take(stack, &[Symbol::End(Production::Return)]),
@@ -156,7 +166,11 @@ fn some_return_value(
     typed: bool,
     kind: &TokenKind,
 ) -> Result<Answer, AllocError>
-    ensures { IfOk result (λ answer. Follows (choice.and_then (choice.operand false Wanted.Right typed (kind_of kind.now)) (Symbol.Semicolon ∷ choice.end Production.ReturnValue ∷ [])) answer (reverse stack.old.items) (reverse stack.new.items)) }
+    ensures { IfOk result
+        (λ answer.
+        Follows (choice.and_then (choice.operand false Wanted.Right typed (kind_of kind.now))
+        (Symbol.Semicolon ∷ choice.end Production.ReturnValue ∷ [])) answer
+        (reverse stack.old.items) (reverse stack.new.items)) }
 {
     push_all(
         stack,
@@ -168,7 +182,9 @@ fn some_return_value(
 
 /// `else` and a statement, or nothing.
 pub(super) fn else_part(stack: &mut Vec<Symbol>, kind: &TokenKind) -> Result<Answer, AllocError>
-    ensures { IfOk result (λ answer. Follows (choice.else_part (kind_of kind.now)) answer (reverse stack.old.items) (reverse stack.new.items)) }
+    ensures { IfOk result
+        (λ answer. Follows (choice.else_part (kind_of kind.now)) answer (reverse stack.old.items)
+        (reverse stack.new.items)) }
 {
     match kind {
         TokenKind::Keyword(Keyword::Else) => take(
@@ -185,7 +201,9 @@ pub(super) fn items(
     typed: bool,
     kind: &TokenKind,
 ) -> Result<Answer, AllocError>
-    ensures { IfOk result (λ answer. Follows (choice.items typed (kind_of kind.now)) answer (reverse stack.old.items) (reverse stack.new.items)) }
+    ensures { IfOk result
+        (λ answer. Follows (choice.items typed (kind_of kind.now)) answer (reverse stack.old.items)
+        (reverse stack.new.items)) }
 {
     if starts_type(typed, kind) {
         local_item(stack, typed, kind)
@@ -196,7 +214,11 @@ pub(super) fn items(
 
 /// A local, and further items.
 fn local_item(stack: &mut Vec<Symbol>, typed: bool, kind: &TokenKind) -> Result<Answer, AllocError>
-    ensures { IfOk result (λ answer. Follows (choice.and_then (choice.words false Seen.Nothing typed (kind_of kind.now)) (choice.local_rest (Symbol.Items ∷ choice.end Production.LocalItem ∷ []))) answer (reverse stack.old.items) (reverse stack.new.items)) }
+    ensures { IfOk result
+        (λ answer.
+        Follows (choice.and_then (choice.words false Seen.Nothing typed (kind_of kind.now))
+        (choice.local_rest (Symbol.Items ∷ choice.end Production.LocalItem ∷ []))) answer
+        (reverse stack.old.items) (reverse stack.new.items)) }
 {
     push_all(
         stack,
@@ -218,7 +240,9 @@ fn local_item(stack: &mut Vec<Symbol>, typed: bool, kind: &TokenKind) -> Result<
 
 /// A statement and further items, or the end of the items.
 fn items_end(stack: &mut Vec<Symbol>, typed: bool, kind: &TokenKind) -> Result<Answer, AllocError>
-    ensures { IfOk result (λ answer. Follows (choice.items_end typed (kind_of kind.now)) answer (reverse stack.old.items) (reverse stack.new.items)) }
+    ensures { IfOk result
+        (λ answer. Follows (choice.items_end typed (kind_of kind.now)) answer
+        (reverse stack.old.items) (reverse stack.new.items)) }
 {
     match kind {
         TokenKind::Punct(Punct::RightBrace)
@@ -234,7 +258,11 @@ fn statement_item(
     typed: bool,
     kind: &TokenKind,
 ) -> Result<Answer, AllocError>
-    ensures { IfOk result (λ answer. Follows (choice.and_then (choice.statement typed (kind_of kind.now)) (Symbol.Items ∷ choice.end Production.StatementItem ∷ [])) answer (reverse stack.old.items) (reverse stack.new.items)) }
+    ensures { IfOk result
+        (λ answer.
+        Follows (choice.and_then (choice.statement typed (kind_of kind.now))
+        (Symbol.Items ∷ choice.end Production.StatementItem ∷ [])) answer (reverse stack.old.items)
+        (reverse stack.new.items)) }
 {
     push_all(
         stack,
@@ -246,7 +274,9 @@ fn statement_item(
 
 /// `=` and the value of a local, or nothing.
 pub(super) fn init_value(stack: &mut Vec<Symbol>, kind: &TokenKind) -> Result<Answer, AllocError>
-    ensures { IfOk result (λ answer. Follows (choice.init_value (kind_of kind.now)) answer (reverse stack.old.items) (reverse stack.new.items)) }
+    ensures { IfOk result
+        (λ answer. Follows (choice.init_value (kind_of kind.now)) answer (reverse stack.old.items)
+        (reverse stack.new.items)) }
 {
     match kind {
         TokenKind::Punct(Punct::Equal) => take(
@@ -262,7 +292,9 @@ pub(super) fn init_value(stack: &mut Vec<Symbol>, kind: &TokenKind) -> Result<An
 
 /// `,` and further locals, or `;`.
 pub(super) fn init_more(stack: &mut Vec<Symbol>, kind: &TokenKind) -> Result<Answer, AllocError>
-    ensures { IfOk result (λ answer. Follows (choice.init_more (kind_of kind.now)) answer (reverse stack.old.items) (reverse stack.new.items)) }
+    ensures { IfOk result
+        (λ answer. Follows (choice.init_more (kind_of kind.now)) answer (reverse stack.old.items)
+        (reverse stack.new.items)) }
 {
     match kind {
         TokenKind::Punct(Punct::Comma) => take(
@@ -288,7 +320,9 @@ pub(super) fn for_start(
     typed: bool,
     kind: &TokenKind,
 ) -> Result<Answer, AllocError>
-    ensures { IfOk result (λ answer. Follows (choice.for_start typed (kind_of kind.now)) answer (reverse stack.old.items) (reverse stack.new.items)) }
+    ensures { IfOk result
+        (λ answer. Follows (choice.for_start typed (kind_of kind.now)) answer
+        (reverse stack.old.items) (reverse stack.new.items)) }
 {
     if starts_type(typed, kind) {
         start_local(stack, typed, kind)
@@ -299,7 +333,11 @@ pub(super) fn for_start(
 
 /// A local in the head of a `for`.
 fn start_local(stack: &mut Vec<Symbol>, typed: bool, kind: &TokenKind) -> Result<Answer, AllocError>
-    ensures { IfOk result (λ answer. Follows (choice.and_then (choice.words false Seen.Nothing typed (kind_of kind.now)) (choice.local_rest (choice.end Production.StartLocal ∷ []))) answer (reverse stack.old.items) (reverse stack.new.items)) }
+    ensures { IfOk result
+        (λ answer.
+        Follows (choice.and_then (choice.words false Seen.Nothing typed (kind_of kind.now))
+        (choice.local_rest (choice.end Production.StartLocal ∷ []))) answer
+        (reverse stack.old.items) (reverse stack.new.items)) }
 {
     push_all(
         stack,
@@ -324,7 +362,9 @@ fn for_start_rest(
     typed: bool,
     kind: &TokenKind,
 ) -> Result<Answer, AllocError>
-    ensures { IfOk result (λ answer. Follows (choice.for_start_rest typed (kind_of kind.now)) answer (reverse stack.old.items) (reverse stack.new.items)) }
+    ensures { IfOk result
+        (λ answer. Follows (choice.for_start_rest typed (kind_of kind.now)) answer
+        (reverse stack.old.items) (reverse stack.new.items)) }
 {
     match kind {
         TokenKind::Punct(Punct::Semicolon) => take(stack, &[Symbol::End(Production::NoStart)]),
@@ -338,7 +378,11 @@ fn start_simple(
     typed: bool,
     kind: &TokenKind,
 ) -> Result<Answer, AllocError>
-    ensures { IfOk result (λ answer. Follows (choice.and_then (choice.simple typed (kind_of kind.now)) (Symbol.Semicolon ∷ choice.end Production.StartSimple ∷ [])) answer (reverse stack.old.items) (reverse stack.new.items)) }
+    ensures { IfOk result
+        (λ answer.
+        Follows (choice.and_then (choice.simple typed (kind_of kind.now))
+        (Symbol.Semicolon ∷ choice.end Production.StartSimple ∷ [])) answer
+        (reverse stack.old.items) (reverse stack.new.items)) }
 {
     push_all(
         stack,
@@ -354,7 +398,9 @@ pub(super) fn for_test(
     typed: bool,
     kind: &TokenKind,
 ) -> Result<Answer, AllocError>
-    ensures { IfOk result (λ answer. Follows (choice.for_test typed (kind_of kind.now)) answer (reverse stack.old.items) (reverse stack.new.items)) }
+    ensures { IfOk result
+        (λ answer. Follows (choice.for_test typed (kind_of kind.now)) answer
+        (reverse stack.old.items) (reverse stack.new.items)) }
 {
     match kind {
         TokenKind::Punct(Punct::Semicolon) => take(stack, &[Symbol::End(Production::NoTest)]),
@@ -364,7 +410,11 @@ pub(super) fn for_test(
 
 /// A test and `;`.
 fn some_test(stack: &mut Vec<Symbol>, typed: bool, kind: &TokenKind) -> Result<Answer, AllocError>
-    ensures { IfOk result (λ answer. Follows (choice.and_then (choice.operand false (Wanted.Level 0) typed (kind_of kind.now)) (Symbol.Semicolon ∷ choice.end Production.Test ∷ [])) answer (reverse stack.old.items) (reverse stack.new.items)) }
+    ensures { IfOk result
+        (λ answer.
+        Follows (choice.and_then (choice.operand false (Wanted.Level 0) typed (kind_of kind.now))
+        (Symbol.Semicolon ∷ choice.end Production.Test ∷ [])) answer (reverse stack.old.items)
+        (reverse stack.new.items)) }
 {
     push_all(stack, &[Symbol::Semicolon, Symbol::End(Production::Test)])?;
     let answer = operand(stack, false, Wanted::Level(0), typed, kind)?;
@@ -377,7 +427,9 @@ pub(super) fn for_step(
     typed: bool,
     kind: &TokenKind,
 ) -> Result<Answer, AllocError>
-    ensures { IfOk result (λ answer. Follows (choice.for_step typed (kind_of kind.now)) answer (reverse stack.old.items) (reverse stack.new.items)) }
+    ensures { IfOk result
+        (λ answer. Follows (choice.for_step typed (kind_of kind.now)) answer
+        (reverse stack.old.items) (reverse stack.new.items)) }
 {
     match kind {
         TokenKind::Punct(Punct::RightParenthesis) => take(
@@ -390,7 +442,11 @@ pub(super) fn for_step(
 
 /// A simple statement and `)`.
 fn some_step(stack: &mut Vec<Symbol>, typed: bool, kind: &TokenKind) -> Result<Answer, AllocError>
-    ensures { IfOk result (λ answer. Follows (choice.and_then (choice.simple typed (kind_of kind.now)) (Symbol.RightParenthesis ∷ choice.end Production.Step ∷ [])) answer (reverse stack.old.items) (reverse stack.new.items)) }
+    ensures { IfOk result
+        (λ answer.
+        Follows (choice.and_then (choice.simple typed (kind_of kind.now))
+        (Symbol.RightParenthesis ∷ choice.end Production.Step ∷ [])) answer
+        (reverse stack.old.items) (reverse stack.new.items)) }
 {
     push_all(
         stack,
@@ -402,7 +458,9 @@ fn some_step(stack: &mut Vec<Symbol>, typed: bool, kind: &TokenKind) -> Result<A
 
 /// The groups of a switch.
 pub(super) fn groups(stack: &mut Vec<Symbol>, kind: &TokenKind) -> Result<Answer, AllocError>
-    ensures { IfOk result (λ answer. Follows (choice.groups (kind_of kind.now)) answer (reverse stack.old.items) (reverse stack.new.items)) }
+    ensures { IfOk result
+        (λ answer. Follows (choice.groups (kind_of kind.now)) answer (reverse stack.old.items)
+        (reverse stack.new.items)) }
 {
     match kind {
         TokenKind::Keyword(Keyword::Case) => take(
@@ -436,7 +494,9 @@ pub(super) fn groups(stack: &mut Vec<Symbol>, kind: &TokenKind) -> Result<Answer
 
 /// Further labels of a group.
 pub(super) fn labels(stack: &mut Vec<Symbol>, kind: &TokenKind) -> Result<Answer, AllocError>
-    ensures { IfOk result (λ answer. Follows (choice.labels (kind_of kind.now)) answer (reverse stack.old.items) (reverse stack.new.items)) }
+    ensures { IfOk result
+        (λ answer. Follows (choice.labels (kind_of kind.now)) answer (reverse stack.old.items)
+        (reverse stack.new.items)) }
 {
     match kind {
         TokenKind::Keyword(Keyword::Case) => take(

@@ -2,8 +2,8 @@
 
 ghost use Rattle.std.specs.Prelude.{◌≡◌, ◌∷◌, [], IfOk, false, reverse};
 ghost use Rattle.c_lex.specs.Lexeme.{kind_of};
-ghost use Rattle.c_grammar.specs.Follows.{Follows};
-ghost use Rattle.c_grammar.specs.Choice as choice;
+ghost use Rattle.c_grammar.specs.CodeFollows.{Follows};
+ghost use Rattle.c_grammar.specs.CodeChoice as choice;
 ghost use Rattle.c_grammar.specs.Operators as operators;
 
 use super::{Answer, push_all, take};
@@ -53,7 +53,10 @@ fn first_word(
     seen: Seen,
     first: Symbol,
 ) -> Result<Answer, AllocError>
-    ensures { IfOk result (λ answer. Follows (choice.first_word seen (choice.take (first ∷ choice.whole bodies))) answer (reverse stack.old.items) (reverse stack.new.items)) }
+    ensures { IfOk result
+        (λ answer.
+        Follows (choice.first_word seen (choice.take (first ∷ choice.whole bodies))) answer
+        (reverse stack.old.items) (reverse stack.new.items)) }
 {
     match seen {
         Seen::Nothing => take(
@@ -76,7 +79,9 @@ pub(super) fn words(
     typed: bool,
     kind: &TokenKind,
 ) -> Result<Answer, AllocError>
-    ensures { IfOk result (λ answer. Follows (choice.words bodies seen typed (kind_of kind.now)) answer (reverse stack.old.items) (reverse stack.new.items)) }
+    ensures { IfOk result
+        (λ answer. Follows (choice.words bodies seen typed (kind_of kind.now)) answer
+        (reverse stack.old.items) (reverse stack.new.items)) }
 {
     match kind {
         TokenKind::Keyword(keyword) => match seen.with(*keyword) {
@@ -107,7 +112,9 @@ fn tag_word(
     seen: Seen,
     keyword: Keyword,
 ) -> Result<Answer, AllocError>
-    ensures { IfOk result (λ answer. Follows (choice.tag_word bodies seen keyword) answer (reverse stack.old.items) (reverse stack.new.items)) }
+    ensures { IfOk result
+        (λ answer. Follows (choice.tag_word bodies seen keyword) answer (reverse stack.old.items)
+        (reverse stack.new.items)) }
 {
     match keyword {
         Keyword::Struct => first_word(stack, bodies, seen, Symbol::StructTag(bodies)),
@@ -123,7 +130,9 @@ pub(super) fn struct_tag(
     typed: bool,
     kind: &TokenKind,
 ) -> Result<Answer, AllocError>
-    ensures { IfOk result (λ answer. Follows (choice.struct_tag bodies typed (kind_of kind.now)) answer (reverse stack.old.items) (reverse stack.new.items)) }
+    ensures { IfOk result
+        (λ answer. Follows (choice.struct_tag bodies typed (kind_of kind.now)) answer
+        (reverse stack.old.items) (reverse stack.new.items)) }
 {
     match kind {
         TokenKind::Name(_) => if typed {
@@ -149,7 +158,9 @@ pub(super) fn struct_body(
     bodies: bool,
     kind: &TokenKind,
 ) -> Result<Answer, AllocError>
-    ensures { IfOk result (λ answer. Follows (choice.struct_body bodies (kind_of kind.now)) answer (reverse stack.old.items) (reverse stack.new.items)) }
+    ensures { IfOk result
+        (λ answer. Follows (choice.struct_body bodies (kind_of kind.now)) answer
+        (reverse stack.old.items) (reverse stack.new.items)) }
 {
     match kind {
         TokenKind::Punct(Punct::LeftBrace) => if bodies {
@@ -171,7 +182,9 @@ pub(super) fn enum_tag(
     typed: bool,
     kind: &TokenKind,
 ) -> Result<Answer, AllocError>
-    ensures { IfOk result (λ answer. Follows (choice.enum_tag bodies typed (kind_of kind.now)) answer (reverse stack.old.items) (reverse stack.new.items)) }
+    ensures { IfOk result
+        (λ answer. Follows (choice.enum_tag bodies typed (kind_of kind.now)) answer
+        (reverse stack.old.items) (reverse stack.new.items)) }
 {
     match kind {
         TokenKind::Name(_) => if typed {
@@ -197,7 +210,9 @@ pub(super) fn enum_body(
     bodies: bool,
     kind: &TokenKind,
 ) -> Result<Answer, AllocError>
-    ensures { IfOk result (λ answer. Follows (choice.enum_body bodies (kind_of kind.now)) answer (reverse stack.old.items) (reverse stack.new.items)) }
+    ensures { IfOk result
+        (λ answer. Follows (choice.enum_body bodies (kind_of kind.now)) answer
+        (reverse stack.old.items) (reverse stack.new.items)) }
 {
     match kind {
         TokenKind::Punct(Punct::LeftBrace) => if bodies {
@@ -218,7 +233,9 @@ pub(super) fn members(
     typed: bool,
     kind: &TokenKind,
 ) -> Result<Answer, AllocError>
-    ensures { IfOk result (λ answer. Follows (choice.members typed (kind_of kind.now)) answer (reverse stack.old.items) (reverse stack.new.items)) }
+    ensures { IfOk result
+        (λ answer. Follows (choice.members typed (kind_of kind.now)) answer
+        (reverse stack.old.items) (reverse stack.new.items)) }
 {
     push_all(
         stack,
@@ -241,7 +258,9 @@ pub(super) fn members_more(
     typed: bool,
     kind: &TokenKind,
 ) -> Result<Answer, AllocError>
-    ensures { IfOk result (λ answer. Follows (choice.members_more typed (kind_of kind.now)) answer (reverse stack.old.items) (reverse stack.new.items)) }
+    ensures { IfOk result
+        (λ answer. Follows (choice.members_more typed (kind_of kind.now)) answer
+        (reverse stack.old.items) (reverse stack.new.items)) }
 {
     match kind {
         TokenKind::Punct(Punct::RightBrace) => take(stack, &[Symbol::End(Production::LastMember)]),
@@ -254,7 +273,11 @@ fn further_members(
     typed: bool,
     kind: &TokenKind,
 ) -> Result<Answer, AllocError>
-    ensures { IfOk result (λ answer. Follows (choice.and_then (choice.words false Seen.Nothing typed (kind_of kind.now)) (choice.declarator false (Symbol.DeclaratorsMore ∷ Symbol.MembersMore ∷ choice.end Production.MoreMembers ∷ []))) answer (reverse stack.old.items) (reverse stack.new.items)) }
+    ensures { IfOk result
+        (λ answer.
+        Follows (choice.and_then (choice.words false Seen.Nothing typed (kind_of kind.now))
+        (choice.declarator false
+        (Symbol.DeclaratorsMore ∷ Symbol.MembersMore ∷ choice.end Production.MoreMembers ∷ []))) answer (reverse stack.old.items) (reverse stack.new.items)) }
 {
     push_all(
         stack,
@@ -277,7 +300,9 @@ pub(super) fn declarators_more(
     stack: &mut Vec<Symbol>,
     kind: &TokenKind,
 ) -> Result<Answer, AllocError>
-    ensures { IfOk result (λ answer. Follows (choice.declarators_more (kind_of kind.now)) answer (reverse stack.old.items) (reverse stack.new.items)) }
+    ensures { IfOk result
+        (λ answer. Follows (choice.declarators_more (kind_of kind.now)) answer
+        (reverse stack.old.items) (reverse stack.new.items)) }
 {
     match kind {
         TokenKind::Punct(Punct::Comma) => take(
@@ -305,7 +330,9 @@ pub(super) fn stars(
     starred: bool,
     kind: &TokenKind,
 ) -> Result<Answer, AllocError>
-    ensures { IfOk result (λ answer. Follows (choice.stars starred (kind_of kind.now)) answer (reverse stack.old.items) (reverse stack.new.items)) }
+    ensures { IfOk result
+        (λ answer. Follows (choice.stars starred (kind_of kind.now)) answer
+        (reverse stack.old.items) (reverse stack.new.items)) }
 {
     match kind {
         TokenKind::Punct(Punct::Star) => take(
@@ -330,7 +357,9 @@ pub(super) fn dimensions(
     bodies: bool,
     kind: &TokenKind,
 ) -> Result<Answer, AllocError>
-    ensures { IfOk result (λ answer. Follows (choice.dimensions bodies (kind_of kind.now)) answer (reverse stack.old.items) (reverse stack.new.items)) }
+    ensures { IfOk result
+        (λ answer. Follows (choice.dimensions bodies (kind_of kind.now)) answer
+        (reverse stack.old.items) (reverse stack.new.items)) }
 {
     match kind {
         TokenKind::Punct(Punct::LeftBracket) => take(
@@ -352,7 +381,9 @@ pub(super) fn enumerators(
     typed: bool,
     kind: &TokenKind,
 ) -> Result<Answer, AllocError>
-    ensures { IfOk result (λ answer. Follows (choice.enumerators typed (kind_of kind.now)) answer (reverse stack.old.items) (reverse stack.new.items)) }
+    ensures { IfOk result
+        (λ answer. Follows (choice.enumerators typed (kind_of kind.now)) answer
+        (reverse stack.old.items) (reverse stack.new.items)) }
 {
     match kind {
         TokenKind::Name(_) => if typed {
@@ -366,7 +397,9 @@ pub(super) fn enumerators(
 
 /// The value of an enumerator, or none.
 pub(super) fn enum_value(stack: &mut Vec<Symbol>, kind: &TokenKind) -> Result<Answer, AllocError>
-    ensures { IfOk result (λ answer. Follows (choice.enum_value (kind_of kind.now)) answer (reverse stack.old.items) (reverse stack.new.items)) }
+    ensures { IfOk result
+        (λ answer. Follows (choice.enum_value (kind_of kind.now)) answer (reverse stack.old.items)
+        (reverse stack.new.items)) }
 {
     match kind {
         TokenKind::Punct(Punct::Equal) => take(
@@ -382,7 +415,9 @@ pub(super) fn enum_value(stack: &mut Vec<Symbol>, kind: &TokenKind) -> Result<An
 
 /// `,`, or `}`.
 pub(super) fn enum_more(stack: &mut Vec<Symbol>, kind: &TokenKind) -> Result<Answer, AllocError>
-    ensures { IfOk result (λ answer. Follows (choice.enum_more (kind_of kind.now)) answer (reverse stack.old.items) (reverse stack.new.items)) }
+    ensures { IfOk result
+        (λ answer. Follows (choice.enum_more (kind_of kind.now)) answer (reverse stack.old.items)
+        (reverse stack.new.items)) }
 {
     match kind {
         TokenKind::Punct(Punct::Comma) => take(stack, &[Symbol::EnumNext]),
@@ -400,7 +435,9 @@ pub(super) fn enum_next(
     typed: bool,
     kind: &TokenKind,
 ) -> Result<Answer, AllocError>
-    ensures { IfOk result (λ answer. Follows (choice.enum_next typed (kind_of kind.now)) answer (reverse stack.old.items) (reverse stack.new.items)) }
+    ensures { IfOk result
+        (λ answer. Follows (choice.enum_next typed (kind_of kind.now)) answer
+        (reverse stack.old.items) (reverse stack.new.items)) }
 {
     match kind {
         TokenKind::Name(_) => if typed {

@@ -2,7 +2,7 @@
 
 ghost use Rattle.std.specs.Prelude.{◌≡◌, IfOk};
 ghost use Rattle.c_limits.specs.Limits as limits;
-ghost use Rattle.c_limits.specs.Measure as machine;
+ghost use Rattle.c_limits.specs.CodeMeasure as machine;
 
 use super::Limit;
 use super::offsets::{before, joined, leftmost};
@@ -84,7 +84,9 @@ impl Measure {
 
     /// Two parts side by side.
     pub(super) fn beside(self, right: Measure) -> Result<Measure, AllocError>
-        ensures { IfOk result (λ measure. machine.measure_of measure ≡ machine.cut (limits.beside (machine.measure_of self) (machine.measure_of right))) }
+        ensures { IfOk result
+            (λ measure. machine.measure_of measure
+            ≡ machine.cut (limits.beside (machine.measure_of self) (machine.measure_of right))) }
     {
         Ok(Measure {
             functions: joined(self.functions, right.functions, Limit::Functions)?,
@@ -98,7 +100,10 @@ impl Measure {
 
     /// A node of an expression above these parts.
     pub(super) fn node(mut self, at: usize) -> Result<Measure, AllocError>
-        ensures { machine.cut (machine.measure_of self) ≡ machine.measure_of self → IfOk result (λ measure. machine.measure_of measure ≡ machine.cut (limits.node at (machine.measure_of self))) }
+        ensures { machine.cut (machine.measure_of self) ≡ machine.measure_of self →
+            IfOk result
+            (λ measure. machine.measure_of measure
+            ≡ machine.cut (limits.node at (machine.measure_of self))) }
     {
         self.nodes = before(at, self.nodes, Limit::Nodes)?;
         self.depth = before(at, self.depth, Limit::Depth)?;
@@ -120,7 +125,10 @@ impl Measure {
 
     /// A statement above these parts.
     pub(super) fn statement(mut self, alloc: Global, at: usize) -> Result<Measure, AllocError>
-        ensures { machine.cut (machine.measure_of self) ≡ machine.measure_of self → IfOk result (λ measure. machine.measure_of measure ≡ machine.cut (limits.statement at (machine.measure_of self))) }
+        ensures { machine.cut (machine.measure_of self) ≡ machine.measure_of self →
+            IfOk result
+            (λ measure. machine.measure_of measure
+            ≡ machine.cut (limits.statement at (machine.measure_of self))) }
     {
         self.statements = before(at, self.statements, Limit::Statements)?;
         self.blocks = before(at, self.blocks, Limit::Blocks)?;
@@ -129,7 +137,10 @@ impl Measure {
 
     /// The declarator of a local, with these parts and the locals behind it.
     pub(super) fn local(mut self, alloc: Global, at: usize) -> Result<Measure, AllocError>
-        ensures { machine.cut (machine.measure_of self) ≡ machine.measure_of self → IfOk result (λ measure. machine.measure_of measure ≡ machine.cut (limits.local at (machine.measure_of self))) }
+        ensures { machine.cut (machine.measure_of self) ≡ machine.measure_of self →
+            IfOk result
+            (λ measure. machine.measure_of measure
+            ≡ machine.cut (limits.local at (machine.measure_of self))) }
     {
         self.statements = before(at, self.statements, Limit::Statements)?;
         Ok(self.outermost(alloc))
@@ -137,7 +148,9 @@ impl Measure {
 
     /// A function around these parts.
     pub(super) fn function(self, alloc: Global, at: usize) -> Result<Measure, AllocError>
-        ensures { IfOk result (λ measure. machine.measure_of measure ≡ machine.cut (limits.function at (machine.measure_of self))) }
+        ensures { IfOk result
+            (λ measure. machine.measure_of measure
+            ≡ machine.cut (limits.function at (machine.measure_of self))) }
     {
         let inner = earlier(past(Limit::Blocks, &self.blocks), self.fault);
         let mut measure = Measure::nothing(alloc);
@@ -148,7 +161,9 @@ impl Measure {
 
     /// The first limit that a whole text passes.
     pub(super) fn first_limit(&self) -> Option<Fault>
-        ensures { result ≡ limits.earlier (limits.past Limit.Functions (machine.measure_of self.now).functions) (machine.measure_of self.now).fault }
+        ensures { result ≡ limits.earlier
+            (limits.past Limit.Functions (machine.measure_of self.now).functions)
+            (machine.measure_of self.now).fault }
     {
         earlier(past(Limit::Functions, &self.functions), self.fault)
     }

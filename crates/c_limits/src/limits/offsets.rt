@@ -12,7 +12,8 @@ pub(super) fn before(
     mut others: Vec<usize>,
     limit: Limit,
 ) -> Result<Vec<usize>, AllocError>
-    ensures { IfOk result (λ offsets. offsets.items ≡ take (limits.most limit + 1) (at ∷ others.items)) }
+    ensures { IfOk result
+        (λ offsets. offsets.items ≡ take (limits.most limit + 1) (at ∷ others.items)) }
 {
     others.insert(0, at)?;
     others.truncate(limit.most() + 1);
@@ -25,7 +26,8 @@ pub(super) fn joined(
     right: Vec<usize>,
     limit: Limit,
 ) -> Result<Vec<usize>, AllocError>
-    ensures { IfOk result (λ offsets. offsets.items ≡ take (limits.most limit + 1) (left.items ++ right.items)) }
+    ensures { IfOk result
+        (λ offsets. offsets.items ≡ take (limits.most limit + 1) (left.items ++ right.items)) }
 {
     if left.is_empty() {
         left = right;
@@ -42,7 +44,9 @@ pub(super) fn leftmost(
     right: Vec<usize>,
     limit: Limit,
 ) -> Result<Vec<usize>, AllocError>
-    ensures { IfOk result (λ offsets. offsets.items ≡ take (limits.most limit + 1) (limits.leftmost left.items right.items)) }
+    ensures { IfOk result
+        (λ offsets. offsets.items
+        ≡ take (limits.most limit + 1) (limits.leftmost left.items right.items)) }
 {
     if left.is_empty() {
         left = right;

@@ -1,7 +1,7 @@
 //! The parts of a text on the stack: where each begins, and its measure.
 
 ghost use Rattle.std.specs.Prelude.{◌≡◌, IfOk, map, option_map, reverse};
-ghost use Rattle.c_limits.specs.Measure as machine;
+ghost use Rattle.c_limits.specs.CodeMeasure as machine;
 
 use super::measure::Measure;
 use super::role::{Role, arity, role_of};
@@ -40,7 +40,9 @@ impl Part {
 
     /// Two parts side by side.
     pub(super) fn beside(self, right: Part) -> Result<Part, AllocError>
-        ensures { IfOk result (λ part. machine.part_of part ≡ machine.joined machine.cut (machine.part_of self) (machine.part_of right)) }
+        ensures { IfOk result
+            (λ part. machine.part_of part ≡ machine.joined machine.cut (machine.part_of self)
+            (machine.part_of right)) }
     {
         Ok(Part {
             first: self.first.or(right.first),
@@ -50,7 +52,10 @@ impl Part {
 
     /// What a production makes of its parts, if anything.
     pub(super) fn made(self, alloc: Global, role: Role) -> Result<Option<Part>, AllocError>
-        ensures { machine.cut_part (machine.part_of self) ≡ machine.part_of self → IfOk result (λ part. option_map machine.part_of part ≡ machine.made machine.cut role (machine.part_of self)) }
+        ensures { machine.cut_part (machine.part_of self) ≡ machine.part_of self →
+            IfOk result
+            (λ part. option_map machine.part_of part
+            ≡ machine.made machine.cut role (machine.part_of self)) }
     {
         let Part { first, measure } = self;
         let at = first.unwrap_or(0);
@@ -71,7 +76,10 @@ impl Part {
 
 /// Takes some parts from the stack, and puts them side by side.
 fn gather(alloc: Global, parts: &mut Vec<Part>, count: usize) -> Result<Part, AllocError>
-    ensures { IfOk result (λ part. (machine.part_of part, reverse (map machine.part_of parts.new.items)) ≡ machine.gathered machine.cut count (reverse (map machine.part_of parts.old.items)) machine.empty) }
+    ensures { IfOk result
+        (λ part. (machine.part_of part, reverse (map machine.part_of parts.new.items))
+        ≡ machine.gathered machine.cut count
+        (reverse (map machine.part_of parts.old.items)) machine.empty) }
 {
     let mut sum = Part::empty(alloc);
     for _ in 0..count {
@@ -89,7 +97,9 @@ pub(super) fn reduce(
     parts: &mut Vec<Part>,
     production: Production,
 ) -> Result<(), AllocError>
-    ensures { IfOk result (λ _. reverse (map machine.part_of parts.new.items) ≡ machine.reduced machine.cut production (reverse (map machine.part_of parts.old.items))) }
+    ensures { IfOk result
+        (λ _. reverse (map machine.part_of parts.new.items) ≡ machine.reduced machine.cut production
+        (reverse (map machine.part_of parts.old.items))) }
 {
     let sum = gather(alloc, parts, arity(production))?;
     if let Some(part) = sum.made(alloc, role_of(production))? {

@@ -1,7 +1,7 @@
 //! What a production does to the measures of its parts.
 
 ghost use Rattle.std.specs.Prelude.{◌≡◌};
-ghost use Rattle.c_limits.specs.Roles as roles;
+ghost use Rattle.c_limits.specs.CodeRoles as roles;
 
 use c_grammar::Production;
 

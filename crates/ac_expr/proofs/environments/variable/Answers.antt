@@ -4,7 +4,7 @@ use Rattle.std.proofs.lemmas.Bool.{cond-true, cond-false}
 use Rattle.std.specs.Prelude.{string_bytes}
 use Rattle.c_values.specs.Name.{same_name}
 use Rattle.c_values.specs.CodeValue.{value_of}
-use Rattle.c_memory.specs.CodeParts.{has_parts}
+use Rattle.c_values.specs.CodeParts.{has_parts}
 use Rattle.ac_expr.specs.CodeState.{env_of}
 use Rattle.ac_expr.proofs.Named.{named_here}
 use Rattle.ac_expr.proofs.environments.variable.Goals as goal

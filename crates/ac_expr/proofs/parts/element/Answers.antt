@@ -3,7 +3,7 @@ use Rattle.std.proofs.Common.{◌∙◌, ap, sym}
 use Rattle.std.specs.Prelude.{string_bytes}
 use Rattle.c_values.specs.Layout.{shape_of}
 use Rattle.c_values.specs.CodeTypes.{type_of}
-use Rattle.ac_expr.specs.Along.{element_in}
+use Rattle.ac_expr.specs.CodeAlong.{element_in}
 use Rattle.ac_expr.proofs.Sorting.{struct_element}
 use Rattle.ac_expr.proofs.parts.element.Goals as goal
 

@@ -7,8 +7,8 @@ use Rattle.c_values.specs.Types.{address_width}
 use Rattle.c_values.specs.CodeTypes.{type_of}
 use Rattle.ac_expr.specs.declared.expression.Exp.{size-Exp}
 use Rattle.ac_expr.specs.Sort.{sort_of, is_truth, is_word_of}
-use Rattle.ac_expr.specs.Along.{parts_type}
-use Rattle.ac_expr.specs.Code.{exp_of, path_of}
+use Rattle.ac_expr.specs.CodeAlong.{parts_type}
+use Rattle.ac_expr.specs.CodeExpression.{exp_of, path_of}
 use Rattle.ac_expr.specs.CodeSort.{sort_value, scope_of}
 use Rattle.ac_expr.proofs.PartSorts.{root_sorted, global_sorted, sel_sorted, upd_sorted}
 use Rattle.ac_expr.proofs.Either.{rest_is_truth, right_operand_shorter}

@@ -5,7 +5,7 @@ use Rattle.c_values.specs.CodeTypes.{type_of}
 use Rattle.ac_expr.specs.declared.expression.Exp.{size-Exp}
 use Rattle.ac_expr.specs.declared.paths.Path.{size-Path}
 use Rattle.ac_expr.specs.Sort.{sort_of, is_truth, shape_along}
-use Rattle.ac_expr.specs.Code.{exp_of, path_of}
+use Rattle.ac_expr.specs.CodeExpression.{exp_of, path_of}
 use Rattle.ac_expr.specs.CodeSort.{scope_of}
 use Rattle.ac_expr.proofs.sorts.+sorts.Given as goal
 

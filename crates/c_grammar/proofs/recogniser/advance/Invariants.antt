@@ -1,8 +1,8 @@
 use Rattle.std.proofs.Common.{◌≡◌, ◌++◌, map, reverse, vec_len}
 use Rattle.c_lex.specs.Lexeme.{lexeme_of}
-use Rattle.c_grammar.specs.Names.{made_of, next_of}
-use Rattle.c_grammar.specs.Accepts.{forward}
-use Rattle.c_grammar.specs.Written.{token_steps}
+use Rattle.c_grammar.specs.CodeNames.{made_of, next_of}
+use Rattle.c_grammar.specs.CodeAccepts.{forward}
+use Rattle.c_grammar.specs.CodeWritten.{token_steps}
 use Rattle.c_grammar.proofs.recogniser.advance.Given as goal
 
 abbrev pub invariant-loop-symbol : goal.invariant-loop-symbol

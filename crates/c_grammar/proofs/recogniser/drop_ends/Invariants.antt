@@ -1,6 +1,6 @@
 use Rattle.std.proofs.Common.{◌≡◌, ◌++◌, reverse, vec_len}
-use Rattle.c_grammar.specs.Accepts.{drop_ends}
-use Rattle.c_grammar.specs.Written.{end_steps}
+use Rattle.c_grammar.specs.CodeAccepts.{drop_ends}
+use Rattle.c_grammar.specs.CodeWritten.{end_steps}
 use Rattle.c_grammar.proofs.recogniser.drop_ends.Given as goal
 
 abbrev pub invariant-loop-production : goal.invariant-loop-production

@@ -1,6 +1,6 @@
 use Rattle.std.proofs.Common.{◌≡◌, ◌++◌, reverse, vec_len}
-use Rattle.c_grammar.specs.Accepts.{is_complete}
-use Rattle.c_grammar.specs.Written.{last_steps}
+use Rattle.c_grammar.specs.CodeAccepts.{is_complete}
+use Rattle.c_grammar.specs.CodeWritten.{last_steps}
 use Rattle.c_grammar.proofs.recogniser.finish.Given as goal
 
 abbrev pub invariant-loop-symbol : goal.invariant-loop-symbol

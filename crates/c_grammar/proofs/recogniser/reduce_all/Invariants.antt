@@ -1,5 +1,5 @@
 use Rattle.std.proofs.Common.{◌≡◌, ◌++◌, drop}
-use Rattle.c_grammar.specs.Written.{reduces}
+use Rattle.c_grammar.specs.CodeWritten.{reduces}
 use Rattle.c_grammar.proofs.recogniser.reduce_all.Given as goal
 
 abbrev pub invariant-loop-production : goal.invariant-loop-production

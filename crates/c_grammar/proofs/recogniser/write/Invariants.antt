@@ -1,8 +1,8 @@
 use Rattle.std.proofs.Common.{◌≡◌, ◌++◌, drop, map, reverse, Some}
 use Rattle.c_lex.specs.Lexeme.{lexemes_of}
-use Rattle.c_grammar.specs.Names.{made_of, next_of}
-use Rattle.c_grammar.specs.Accepts.{accepts, first_stage, stop}
-use Rattle.c_grammar.specs.Written.{script}
+use Rattle.c_grammar.specs.CodeNames.{made_of, next_of}
+use Rattle.c_grammar.specs.CodeAccepts.{accepts, first_stage, stop}
+use Rattle.c_grammar.specs.CodeWritten.{script}
 use Rattle.c_grammar.proofs.recogniser.write.Given as goal
 
 abbrev pub invariant-loop-token : goal.invariant-loop-token

@@ -1,7 +1,7 @@
 use Rattle.std.proofs.Common.{◌∙◌, ◌∷◌, ap, map, reverse}
 use Rattle.std.proofs.lemmas.List.{nil_from_length}
 use Rattle.c_lex.specs.Lexeme.{lexeme_of, lexemes_of}
-use Rattle.c_limits.specs.Measure as machine
+use Rattle.c_limits.specs.CodeMeasure as machine
 use Rattle.c_limits.proofs.LimitsSteps.{stack_pushed, no_token, a_token, a_production}
 use Rattle.c_limits.proofs.limits.advance.Goals as goal
 

@@ -1,6 +1,6 @@
 use Rattle.std.proofs.Common.{◌≡◌, [], map, reverse, take, fold}
 use Rattle.c_lex.specs.Lexeme.{lexemes_of}
-use Rattle.c_limits.specs.Measure as machine
+use Rattle.c_limits.specs.CodeMeasure as machine
 use Rattle.c_limits.proofs.limits.measured.Given as goal
 
 abbrev pub invariant-loop-step : goal.invariant-loop-step

@@ -5,12 +5,12 @@ use Rattle.c_values.specs.Path.{Field}
 use Rattle.std.proofs.lemmas.Nat.{mod_below, pow_pos}
 use Rattle.c_values.specs.CodeTypes.{target_of, type_of}
 use Rattle.c_memory.specs.Memory.{loaded_members}
-use Rattle.c_memory.specs.CodeParts.{values_in}
-use Rattle.c_memory.specs.Pages.{byte_at}
+use Rattle.c_values.specs.CodeParts.{values_in, joined}
+use Rattle.c_memory.specs.CodePages.{byte_at}
 use Rattle.c_memory.proofs.Walks.{element_object, member_object}
 use Rattle.c_memory.proofs.Inside.{step_lower}
 use Rattle.c_memory.proofs.Rows.{member_number, fields_of, drop_fields}
-use Rattle.c_memory.proofs.Joined.{joined, element_loaded, member_loaded, members_loaded}
+use Rattle.c_memory.proofs.Joined.{element_loaded, member_loaded, members_loaded}
 use Rattle.c_memory.proofs.loads.+load.Goals as goal
 
 pub load_array-size_of-requires : goal.load_array-size_of-requires

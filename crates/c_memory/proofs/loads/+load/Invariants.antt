@@ -4,10 +4,9 @@ use Rattle.c_values.specs.Layout.{shape_of, size, space}
 use Rattle.c_values.specs.CodeTypes.{type_of}
 use Rattle.c_values.proofs.Height.{height}
 use Rattle.c_memory.specs.Memory.{load, loaded_members, loaded_elements}
-use Rattle.c_memory.specs.Pages.{byte_at}
-use Rattle.c_memory.specs.CodeParts.{values_in}
+use Rattle.c_memory.specs.CodePages.{byte_at}
+use Rattle.c_values.specs.CodeParts.{values_in, joined}
 use Rattle.c_memory.proofs.Rows.{fields_of, drop_fields}
-use Rattle.c_memory.proofs.Joined.{joined}
 use Rattle.c_memory.proofs.loads.+load.Given as goal
 
 abbrev pub decreases-load : goal.decreases-load

@@ -1,7 +1,7 @@
 use Rattle.std.proofs.Common.{◌≡◌, ℕ, ◌+◌, ◌%◌, ◌^◌, ◌<◌, ◌≤◌, length, slice_index}
 use Rattle.c_values.specs.Types.{address_width}
 use Rattle.c_values.specs.CodeTypes.{target_of}
-use Rattle.c_memory.specs.Pages.{byte_at}
+use Rattle.c_memory.specs.CodePages.{byte_at}
 use Rattle.c_memory.proofs.pages.bytes_across_pages.Given as goal
 
 abbrev pub invariant-loop-i : goal.invariant-loop-i

@@ -1,7 +1,7 @@
 use Rattle.std.proofs.Common.{◌∙◌, ◌^◌, ◌%◌, refl}
 use Rattle.c_values.specs.Types.{address_width}
 use Rattle.c_values.specs.CodeTypes.{target_of}
-use Rattle.c_memory.specs.Pages.{byte_at}
+use Rattle.c_memory.specs.CodePages.{byte_at}
 use Rattle.c_memory.proofs.Scalars.{put_next}
 use Rattle.c_memory.proofs.pages.put_across_pages.Goals as goal
 

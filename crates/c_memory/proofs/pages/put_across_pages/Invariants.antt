@@ -2,7 +2,7 @@ use Rattle.std.proofs.Common.{◌≡◌, ◌+◌, ◌-◌, ◌^◌}
 use Rattle.c_values.specs.Types.{address_width}
 use Rattle.c_values.specs.CodeTypes.{target_of}
 use Rattle.c_memory.specs.Memory.{with_bytes}
-use Rattle.c_memory.specs.Pages.{byte_at, KeepsPages}
+use Rattle.c_memory.specs.CodePages.{byte_at, KeepsPages}
 use Rattle.c_memory.proofs.pages.put_across_pages.Given as goal
 
 abbrev pub invariant-loop-i : goal.invariant-loop-i

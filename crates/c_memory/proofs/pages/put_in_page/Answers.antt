@@ -1,7 +1,7 @@
 use Rattle.std.proofs.Common.{◌^◌}
 use Rattle.c_values.specs.Types.{address_width}
 use Rattle.c_values.specs.CodeTypes.{target_of}
-use Rattle.c_memory.specs.Pages.{byte_at}
+use Rattle.c_memory.specs.CodePages.{byte_at}
 use Rattle.c_memory.proofs.Scalars.{put_low_bytes}
 use Rattle.c_memory.proofs.Spaces.{in_page_fits}
 use Rattle.c_memory.proofs.pages.put_in_page.Goals as goal

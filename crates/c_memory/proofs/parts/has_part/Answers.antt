@@ -1,6 +1,6 @@
 use Rattle.std.proofs.Common.{◌∙◌, is_some, arith, sym, ap}
 use Rattle.c_values.specs.CodeTypes.{type_of}
-use Rattle.c_memory.specs.Inner.{part_step}
+use Rattle.c_memory.specs.CodeInner.{part_step}
 use Rattle.c_memory.proofs.Inside.{step_lower, path_outside, root_here, root_in, root_in_none, some_prefixed}
 use Rattle.c_memory.proofs.parts.has_part.Goals as goal
 

@@ -2,7 +2,7 @@ use Rattle.std.proofs.Common.{◌-◌, ◌<◌, ◌≤◌, arith, sym, subst}
 use Rattle.c_values.specs.Types.{Struct}
 use Rattle.c_values.specs.Layout.{size_of}
 use Rattle.c_values.specs.CodeTypes.{type_of}
-use Rattle.c_memory.specs.Inner.{LiesIn}
+use Rattle.c_memory.specs.CodeInner.{LiesIn}
 use Rattle.c_memory.proofs.Walks.{member_object}
 use Rattle.c_memory.proofs.Rows.{member_number, before_member, after_member, lies_in_member, past_member, lies_in_no_member}
 use Rattle.c_memory.proofs.parts.member_at.Goals as goal

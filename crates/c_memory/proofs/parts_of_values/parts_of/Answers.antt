@@ -1,8 +1,8 @@
 use Rattle.std.proofs.Common.{◌∙◌, ap, sym}
 use Rattle.c_values.specs.Value.{Parts}
 use Rattle.c_values.specs.CodeValue.{value_of}
-use Rattle.c_memory.specs.CodeParts.{values_in}
-use Rattle.c_memory.proofs.Listed.{parts_value}
+use Rattle.c_values.specs.CodeParts.{values_in}
+use Rattle.c_values.proofs.Listed.{parts_value}
 use Rattle.c_memory.proofs.parts_of_values.parts_of.Goals as goal
 
 pub returns-in-Parts-clause-some : goal.returns-in-Parts-clause-some

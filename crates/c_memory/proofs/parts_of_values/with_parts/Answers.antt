@@ -1,4 +1,4 @@
-use Rattle.c_memory.proofs.Listed.{parts_value}
+use Rattle.c_values.proofs.Listed.{parts_value}
 use Rattle.c_memory.proofs.parts_of_values.with_parts.Goals as goal
 
 pub returns : goal.returns

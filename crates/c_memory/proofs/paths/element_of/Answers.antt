@@ -3,7 +3,7 @@ use Rattle.c_values.specs.Types.{CType}
 use Rattle.c_values.specs.Layout.{is_object, space, shape_of}
 use Rattle.c_values.specs.Path.{Index, step_spot}
 use Rattle.c_values.specs.CodeTypes.{type_of}
-use Rattle.c_memory.specs.Place.{place_from}
+use Rattle.c_memory.specs.CodePlace.{place_from}
 use Rattle.c_memory.proofs.Walks.{element_object, struct_elements}
 use Rattle.c_memory.proofs.paths.element_of.Goals as goal
 

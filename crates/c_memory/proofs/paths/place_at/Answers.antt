@@ -3,7 +3,7 @@ use Rattle.c_values.specs.Layout.{shape_of, space}
 use Rattle.c_values.specs.Path.{spot}
 use Rattle.c_values.specs.CodeTypes.{type_of}
 use Rattle.c_memory.specs.CodeStep.{step_of}
-use Rattle.c_memory.specs.Place.{place_from}
+use Rattle.c_memory.specs.CodePlace.{place_from}
 use Rattle.c_memory.proofs.Walks.{next_place, next_steps}
 use Rattle.c_memory.proofs.Objects.{some_space}
 use Rattle.c_memory.proofs.paths.place_at.Goals as goal

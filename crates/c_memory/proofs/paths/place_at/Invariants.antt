@@ -3,7 +3,7 @@ use Rattle.c_values.specs.Layout.{shape_of, is_object, space}
 use Rattle.c_values.specs.Path.{spot}
 use Rattle.c_values.specs.CodeTypes.{type_of}
 use Rattle.c_memory.specs.CodeStep.{step_of}
-use Rattle.c_memory.specs.Place.{place_from}
+use Rattle.c_memory.specs.CodePlace.{place_from}
 use Rattle.c_memory.proofs.paths.place_at.Given as goal
 
 abbrev pub invariant-loop-step : goal.invariant-loop-step

@@ -1,5 +1,5 @@
 use Rattle.std.proofs.Common.{◌+◌, ◌^◌, ◌≤◌, ◌∙◌, ℕ, List, map, take, drop, length, ap, sym, subst}
-use Rattle.c_memory.specs.Pages.{byte_at}
+use Rattle.c_memory.specs.CodePages.{byte_at}
 use Rattle.c_memory.specs.Ranges.{Run, run_of, run_byte, AreRuns}
 use Rattle.c_memory.proofs.Pieces.{Here, Elsewhere, around, one_longer, run_fits, run_put}
 use Rattle.c_memory.proofs.ranges.pages_of.Goals as goal

@@ -1,6 +1,6 @@
 use Rattle.std.proofs.Common.{◌≡◌, map, take}
 use Rattle.c_memory.specs.Memory.{AreBytes}
-use Rattle.c_memory.specs.Pages.{byte_at}
+use Rattle.c_memory.specs.CodePages.{byte_at}
 use Rattle.c_memory.specs.Ranges.{run_of, run_byte}
 use Rattle.c_memory.proofs.ranges.pages_of.Given as goal
 

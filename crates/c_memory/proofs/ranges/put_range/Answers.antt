@@ -1,5 +1,5 @@
 use Rattle.std.proofs.Common.{◌≡◌, ◌+◌, ◌≤◌, ◌∙◌, length, subst, ap, arith}
-use Rattle.c_memory.specs.Pages.{byte_at}
+use Rattle.c_memory.specs.CodePages.{byte_at}
 use Rattle.c_memory.proofs.Pieces.{Here, Elsewhere, piece_here, piece_elsewhere, bytes_put}
 use Rattle.c_memory.proofs.ranges.put_range.Goals as goal
 

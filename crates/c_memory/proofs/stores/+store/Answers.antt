@@ -8,8 +8,8 @@ use Rattle.c_values.specs.CodeTypes.{type_of}
 use Rattle.c_values.specs.CodeValue.{value_of}
 use Rattle.c_values.specs.Value.{Parts}
 use Rattle.c_memory.specs.Memory.{store}
-use Rattle.c_memory.specs.CodeParts.{values_in}
-use Rattle.c_memory.specs.Pages.{byte_at}
+use Rattle.c_values.specs.CodeParts.{values_in}
+use Rattle.c_memory.specs.CodePages.{byte_at}
 use Rattle.c_memory.proofs.Walks.{element_object, member_object}
 use Rattle.c_memory.proofs.Inside.{step_lower}
 use Rattle.c_memory.proofs.Rows.{member_number}

@@ -5,8 +5,8 @@ use Rattle.c_values.specs.Layout.{shape_of, size, space}
 use Rattle.c_values.specs.CodeTypes.{type_of}
 use Rattle.c_values.proofs.Height.{height}
 use Rattle.c_memory.specs.Memory.{store, stored_members, stored_elements}
-use Rattle.c_memory.specs.Pages.{byte_at, KeepsPages}
-use Rattle.c_memory.specs.CodeParts.{values_in}
+use Rattle.c_memory.specs.CodePages.{byte_at, KeepsPages}
+use Rattle.c_values.specs.CodeParts.{values_in}
 use Rattle.c_memory.proofs.Rows.{fields_of, drop_fields}
 use Rattle.c_memory.proofs.stores.+store.Given as goal
 

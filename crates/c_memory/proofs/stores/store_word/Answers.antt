@@ -4,7 +4,7 @@ use Rattle.c_values.specs.Layout.{shape_of, space}
 use Rattle.c_values.specs.CodeTypes.{type_of}
 use Rattle.c_values.specs.CodeValue.{value_of}
 use Rattle.c_memory.specs.Memory.{store, with_bytes}
-use Rattle.c_memory.specs.Pages.{byte_at}
+use Rattle.c_memory.specs.CodePages.{byte_at}
 use Rattle.c_memory.proofs.Put.{word_stored}
 use Rattle.c_memory.proofs.stores.store_word.Goals as goal
 

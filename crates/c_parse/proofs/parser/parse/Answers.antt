@@ -1,8 +1,8 @@
 use Rattle.std.proofs.Common.{◌≡◌, [], ◌∷◌, Some, List, sym, subst, ◌∙◌, inl}
 use Rattle.c_lex.specs.Lexeme.{lexemes_of}
-use Rattle.c_grammar.specs.declared.script.Step.{Step}
-use Rattle.c_grammar.specs.Build.{OfUnit}
-use Rattle.c_grammar.specs.Script.{replay}
+use Rattle.c_grammar.specs.declared.scripts.Step.{Step}
+use Rattle.c_grammar.specs.CodeBuild.{OfUnit}
+use Rattle.c_grammar.specs.CodeScript.{replay}
 use Rattle.c_limits.specs.Limits.{first_limit}
 use Rattle.c_parse.proofs.OneAnswer.{limit_of_each, only_tree, is_first, refused_is_told, error_is_told}
 use Rattle.c_parse.specs.Answer.{of_script}

@@ -3,7 +3,7 @@ use Rattle.c_values.specs.Name.{Name}
 use Rattle.c_values.specs.Layout.{Shape, shape_from}
 use Rattle.c_values.specs.CodeTypes.{target_of}
 use Rattle.c_values.specs.CodeLayout.{member_of}
-use Rattle.c_values.specs.StructTable.{Describes}
+use Rattle.c_values.specs.CodeStructTable.{Describes}
 use Rattle.c_values.proofs.PlacingMembers.{Placing}
 use Rattle.c_values.proofs.placing.places.Given as goal
 

@@ -7,7 +7,7 @@ use Rattle.c_values.specs.Name.{Name}
 use Rattle.c_values.specs.Layout.{shape_from, struct_shape}
 use Rattle.c_values.specs.CodeTypes.{target_of}
 use Rattle.c_values.specs.CodeLayout.{struct_def_of, IsFirstLarge}
-use Rattle.c_values.specs.StructTable.{IsPlacement, IsNamed}
+use Rattle.c_values.specs.CodeStructTable.{IsPlacement, IsNamed}
 use Rattle.c_values.proofs.Tabulating.{after, members_complete, tabulating_more, tabulated, first_large, seen_here, seen_within, small_struct, describes_more, finds_more, named_here}
 use Rattle.c_values.proofs.tabulation.tabulate.Goals as goal
 

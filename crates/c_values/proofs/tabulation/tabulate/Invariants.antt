@@ -3,7 +3,7 @@ use Rattle.c_values.specs.Name.{Name}
 use Rattle.c_values.specs.Layout.{Shape}
 use Rattle.c_values.specs.CodeTypes.{target_of}
 use Rattle.c_values.specs.CodeLayout.{struct_def_of}
-use Rattle.c_values.specs.StructTable.{Describes, Finds}
+use Rattle.c_values.specs.CodeStructTable.{Describes, Finds}
 use Rattle.c_values.proofs.Tabulating.{Tabulating}
 use Rattle.c_values.proofs.tabulation.tabulate.Given as goal
 

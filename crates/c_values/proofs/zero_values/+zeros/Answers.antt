@@ -8,7 +8,11 @@ use Rattle.c_values.specs.CodeLayout.{member_of, struct_def_of}
 use Rattle.c_values.specs.CodeTypes.{type_of}
 use Rattle.c_values.specs.CodeValue.{value_of}
 use Rattle.c_values.proofs.Height.{height}
-use Rattle.c_values.proofs.Zeroed.{values_in, joined, zeros_each, heights, element_made, member_made, members_made, parts_value, struct_zeros, struct_height, incomplete_struct, all_around, around_other, lower}
+use Rattle.c_values.proofs.Listed.{parts_value}
+use Rattle.c_values.specs.CodeParts.{values_in, joined}
+use Rattle.c_values.specs.CodeLone.{inside, around}
+use Rattle.c_values.proofs.Lone.{inside_lower}
+use Rattle.c_values.proofs.Zeroed.{zeros_each, heights, element_made, member_made, members_made, struct_zeros, struct_height, incomplete_struct, zeros_around}
 use Rattle.c_values.proofs.zero_values.+zeros.Goals as goal
 
 pub zeros_of_array-elements-preserved : goal.zeros_of_array-elements-preserved
@@ -66,14 +70,15 @@ zeros_of_struct-returns-in-Some t c =
 
 pub zeros_of_type-zeros_by_kind-requires : goal.zeros_of_type-zeros_by_kind-requires
 zeros_of_type-zeros_by_kind-requires t c =
-    let low = lower c.args.layout.now (type_of c.args.ty.now) (type_of c.inwards.inner.now) c.inwards.invariant c.in_default.ensures.none in
-    (omega (arith, low, c.decreases), (c.requires.layout, c.requires.target))
-
-pub zeros_of_type-outwards-init : goal.zeros_of_type-outwards-init
-zeros_of_type-outwards-init t c =
-    all_around c.args.layout.now (type_of c.args.ty.now) (type_of c.inwards.inner.now) (value_of c.in_ok-value.value)
-    c.inwards.invariant c.in_default.ensures.none c.in_ok-value.ensures
+    let l = c.args.layout.now in
+    let low = inside_lower l (type_of c.args.ty.now) in
+    let same : height (shape_of l (type_of c.inside.result.now)) ≡ height (shape_of l (inside (type_of c.args.ty.now))) = ap (λ u. height (shape_of l u)) c.inside.ensures in
+    (omega (arith, low, same, c.decreases), (c.requires.layout, c.requires.target))
 
 pub zeros_of_type-returns : goal.zeros_of_type-returns
 zeros_of_type-returns t c =
-    sym (around_other (type_of c.outwards.outer.now) (value_of c.outwards.value) c.in_default-lone_element.ensures.none) ∙ c.outwards.invariant
+    let l = c.args.layout.now in
+    let ty = type_of c.args.ty.now in
+    subst (λ w. IfOk c.around.result (λ v. value_of v ≡ w))
+    (ap (λ w. around ty w) (c.in_ok-value.ensures ∙ ap (λ u. zeros (shape_of l u)) c.inside.ensures) ∙ zeros_around l ty)
+    c.around.ensures

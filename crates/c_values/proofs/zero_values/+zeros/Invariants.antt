@@ -5,9 +5,9 @@ use Rattle.c_values.specs.Layout.{shape_of}
 use Rattle.c_values.specs.Path.{zeros, copies}
 use Rattle.c_values.specs.CodeLayout.{member_of}
 use Rattle.c_values.specs.CodeTypes.{type_of}
-use Rattle.c_values.specs.CodeValue.{value_of}
 use Rattle.c_values.proofs.Height.{height}
-use Rattle.c_values.proofs.Zeroed.{values_in, joined, zeros_each, heights, inside, around, layers}
+use Rattle.c_values.specs.CodeParts.{values_in, joined}
+use Rattle.c_values.proofs.Zeroed.{zeros_each, heights}
 use Rattle.c_values.proofs.zero_values.+zeros.Given as goal
 
 abbrev pub decreases-zeros_of_type : goal.decreases-zeros_of_type
@@ -24,18 +24,6 @@ decreases-zeros_of_members l = 4 * heights (shape_of l.layout.now) (map member_o
 
 abbrev pub decreases-zeros_of_array : goal.decreases-zeros_of_array
 decreases-zeros_of_array l = 4 * height (shape_of l.layout.now (type_of l.element.now)) + 4
-
-abbrev pub invariant-zeros_of_type-inwards : goal.invariant-zeros_of_type-inwards
-invariant-zeros_of_type-inwards l = inside (type_of l.inner) ≡ inside (type_of l.ty)
-
-abbrev pub decreases-zeros_of_type-inwards : goal.decreases-zeros_of_type-inwards
-decreases-zeros_of_type-inwards l = layers (type_of l.inner)
-
-abbrev pub invariant-zeros_of_type-outwards : goal.invariant-zeros_of_type-outwards
-invariant-zeros_of_type-outwards l = around (type_of l.outer) (value_of l.value) ≡ zeros (shape_of l.layout (type_of l.ty))
-
-abbrev pub decreases-zeros_of_type-outwards : goal.decreases-zeros_of_type-outwards
-decreases-zeros_of_type-outwards l = layers (type_of l.outer)
 
 abbrev pub invariant-zeros_of_array-elements : goal.invariant-zeros_of_array-elements
 invariant-zeros_of_array-elements l =

@@ -1,5 +1,5 @@
 use Rattle.std.proofs.Common.{[]}
-use Rattle.c_values.proofs.Zeroed.{parts_listed}
+use Rattle.c_values.proofs.Listed.{parts_listed}
 use Rattle.c_values.proofs.zero_values.no_parts.Goals as goal
 
 pub returns : goal.returns

@@ -6,10 +6,10 @@ use Rattle.c_values.specs.Value.{Parts, with_part}
 use Rattle.c_values.specs.Path.{place_of, upd}
 use Rattle.c_values.specs.CodeValue.{value_of}
 use Rattle.c_memory.specs.CodeStep.{step_of}
-use Rattle.c_memory.specs.CodeParts.{values_in}
-use Rattle.c_memory.proofs.Listed.{parts_value}
-use Rattle.typed_heap.specs.Ways.{steps_of}
-use Rattle.typed_heap.proofs.Follow.{set_in, part_in, place_below, upd_at, upd_nowhere}
+use Rattle.c_values.specs.CodeParts.{values_in}
+use Rattle.c_values.proofs.Listed.{parts_value}
+use Rattle.typed_heap.specs.CodeWays.{steps_of}
+use Rattle.c_values.proofs.Follow.{set_in, part_in, place_below, upd_at, upd_nowhere}
 use Rattle.typed_heap.proofs.Steps.{if_some, each_some}
 use Rattle.typed_heap.proofs.selecting.+replace.Goals as goal
 

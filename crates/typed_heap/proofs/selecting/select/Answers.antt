@@ -3,13 +3,13 @@ use Rattle.std.proofs.Common.{◌∙◌, ◌<◌, ap, subst, sym}
 use Rattle.std.specs.Prelude.{IsSomeAnd}
 use Rattle.c_values.specs.CodeValue.{value_of}
 use Rattle.c_memory.specs.CodeStep.{step_of}
-use Rattle.typed_heap.specs.Follow.{CanFollow}
-use Rattle.typed_heap.specs.Ways.{steps_of}
+use Rattle.c_values.specs.CodeFollow.{CanFollow}
+use Rattle.typed_heap.specs.CodeWays.{steps_of}
 use Rattle.typed_heap.proofs.Steps.{sel_found, many_steps, first_follows, rest_follows, rest_selects, rest_shorter, end_selects, selected}
 use Rattle.typed_heap.proofs.selecting.select.Goals as goal
 
-pub part_at-part-requires : goal.part_at-part-requires
-part_at-part-requires c =
+pub part_by-part-requires : goal.part_by-part-requires
+part_by-part-requires c =
     let l = c.args.l.now in
     let v = value_of c.steps.part.now in
     first_follows v (step_of c.in-Some.step) (steps_of l c.in-Some.rest) (subst (λ o. IsSomeAnd o (CanFollow v)) c.in-Some.ensures.some c.steps.invariant.follows)
@@ -31,8 +31,8 @@ steps-preserved c =
     let e = c.in-Some.ensures.some in
     record {
       object = c.in-Some.ensures.object;
-      follows = rest_follows v p rest (value_of c.part_at-part.result.now) c.part_at-part.ensures (subst (λ o. IsSomeAnd o (CanFollow v)) e c.steps.invariant.follows);
-      rest = rest_selects v p rest (value_of c.part_at-part.result.now) c.part_at-part.ensures ∙ ap (λ o. sel_found v o) (sym e) ∙ c.steps.invariant.rest;
+      follows = rest_follows v p rest (value_of c.part_by-part.result.now) c.part_by-part.ensures (subst (λ o. IsSomeAnd o (CanFollow v)) e c.steps.invariant.follows);
+      rest = rest_selects v p rest (value_of c.part_by-part.result.now) c.part_by-part.ensures ∙ ap (λ o. sel_found v o) (sym e) ∙ c.steps.invariant.rest;
     }
 
 pub returns : goal.returns

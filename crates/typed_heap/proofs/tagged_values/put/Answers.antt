@@ -6,7 +6,7 @@ use Rattle.c_values.specs.CodeTypes.{type_of}
 use Rattle.c_values.specs.CodeValue.{value_of}
 use Rattle.c_memory.specs.Tags.{AreTags}
 use Rattle.c_memory.specs.CodeStep.{step_of}
-use Rattle.typed_heap.specs.Ways.{steps_of}
+use Rattle.typed_heap.specs.CodeWays.{steps_of}
 use Rattle.typed_heap.proofs.Found.{tags_from, found, write_at}
 use Rattle.typed_heap.proofs.tagged_values.put.Goals as goal
 

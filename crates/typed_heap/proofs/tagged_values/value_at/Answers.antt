@@ -9,8 +9,8 @@ use Rattle.c_values.specs.CodeValue.{value_of}
 use Rattle.c_memory.specs.Tags.{AreTags}
 use Rattle.c_memory.specs.CodeStep.{step_of}
 use Rattle.c_memory.proofs.Neighbours.{tag_at}
-use Rattle.typed_heap.specs.Follow.{CanFollow}
-use Rattle.typed_heap.specs.Ways.{steps_of}
+use Rattle.c_values.specs.CodeFollow.{CanFollow}
+use Rattle.typed_heap.specs.CodeWays.{steps_of}
 use Rattle.typed_heap.proofs.Steps.{if_none}
 use Rattle.typed_heap.proofs.Found.{tags_from, found, read_at, place_ends, value_fits, spot_of_some}
 use Rattle.typed_heap.proofs.tagged_values.value_at.Goals as goal

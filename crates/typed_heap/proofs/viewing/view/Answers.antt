@@ -3,7 +3,7 @@ use Rattle.std.proofs.Common.{◌≡◌, ◌+◌, ◌∙◌, List, length, map, 
 use Rattle.std.proofs.lemmas.List.{length-map, length-take, length_push}
 use Rattle.c_memory.specs.Memory.{Tag}
 use Rattle.c_memory.specs.CodeTag.{tag_of}
-use Rattle.c_memory.specs.Pages.{byte_at}
+use Rattle.c_memory.specs.CodePages.{byte_at}
 use Rattle.c_memory.proofs.Pieces.{one_longer}
 use Rattle.typed_heap.specs.CodeCells.{cells_from}
 use Rattle.typed_heap.proofs.Cells.{cell_of, cell_made, tag_of_item, tag_in_space, root_loaded}

@@ -1,7 +1,7 @@
 -- The values so far are those that memory has at the tags so far.
 use Rattle.std.proofs.Common.{◌≡◌, length, map, take}
 use Rattle.c_memory.specs.CodeTag.{tag_of}
-use Rattle.c_memory.specs.Pages.{byte_at}
+use Rattle.c_memory.specs.CodePages.{byte_at}
 use Rattle.typed_heap.specs.CodeCells.{cells_from}
 use Rattle.typed_heap.proofs.Cells.{cell_of}
 use Rattle.typed_heap.proofs.viewing.view.Given as goal

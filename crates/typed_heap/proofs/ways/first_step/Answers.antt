@@ -7,7 +7,7 @@ use Rattle.c_memory.specs.CodeStep.{step_of}
 use Rattle.c_memory.specs.Tags.{root_path, prefixed}
 use Rattle.c_memory.proofs.Inside.{root_here}
 use Rattle.typed_heap.specs.declared.ways.Way as W
-use Rattle.typed_heap.specs.Ways.{steps_of, IsWay}
+use Rattle.typed_heap.specs.CodeWays.{steps_of, IsWay}
 use Rattle.typed_heap.proofs.Steps.{mapped_here, if_none_so, if_some}
 use Rattle.typed_heap.proofs.ways.first_step.Goals as goal
 

@@ -3,7 +3,7 @@ use Rattle.std.proofs.Common.{◌++◌, map, ap, sym, ◌∙◌}
 use Rattle.std.specs.Option.{option_map}
 use Rattle.c_values.specs.Layout.{shape_of}
 use Rattle.c_values.specs.CodeTypes.{type_of}
-use Rattle.c_memory.specs.Inner.{part_step}
+use Rattle.c_memory.specs.CodeInner.{part_step}
 use Rattle.c_memory.specs.CodeStep.{step_of}
 use Rattle.c_memory.specs.Tags.{root_path, prefixed}
 use Rattle.c_memory.proofs.Inside.{root_in, root_in_none}

@@ -6,7 +6,7 @@ use Rattle.ac_expr.specs.declared.expression.Exp.{size-Exp}
 use Rattle.ac_expr.specs.declared.paths.Path.{size-Path}
 use Rattle.ac_expr.specs.Evaluation.{value, steps}
 use Rattle.ac_expr.specs.Wide.{wide, wide_in}
-use Rattle.ac_expr.specs.Code.{exp_of, path_of}
+use Rattle.ac_expr.specs.CodeExpression.{exp_of, path_of}
 use Rattle.ac_expr.specs.CodeScene.{scene_of, ReadyIn, ReadyAlong}
 use Rattle.ac_expr.proofs.scene.Scene.+values.Given as goal
 

@@ -1,5 +1,5 @@
 use Rattle.std.proofs.Common.{◌∙◌, ◌-◌, ◌++◌, [], map, reverse, take, sym, ap}
-use Rattle.c_limits.specs.Measure as machine
+use Rattle.c_limits.specs.CodeMeasure as machine
 use Rattle.c_limits.proofs.LimitsSteps.{gathered_more, gathered_all, gathered_none}
 use Rattle.c_limits.proofs.limits.part.gather.Goals as goal
 use Rattle.c_limits.proofs.limits.part.gather.Goals.{else-loop-test, then-loop-test+in-None}

@@ -1,5 +1,5 @@
 use Rattle.std.proofs.Common.{◌≡◌, ◌-◌, map, reverse}
-use Rattle.c_limits.specs.Measure as machine
+use Rattle.c_limits.specs.CodeMeasure as machine
 use Rattle.c_limits.proofs.limits.part.gather.Given as goal
 
 abbrev pub invariant-loop : goal.invariant-loop

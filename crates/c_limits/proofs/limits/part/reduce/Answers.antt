@@ -1,5 +1,5 @@
 use Rattle.std.proofs.Common.{◌∙◌, rules, Some, None}
-use Rattle.c_limits.specs.Measure as machine
+use Rattle.c_limits.specs.CodeMeasure as machine
 use Rattle.c_limits.proofs.LimitsSteps.{stack_pushed, reduced_is}
 use Rattle.c_limits.proofs.limits.part.reduce.Goals as goal
 

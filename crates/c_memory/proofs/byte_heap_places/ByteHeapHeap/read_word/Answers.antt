@@ -5,7 +5,7 @@ use Rattle.c_values.specs.Path.{spot}
 use Rattle.c_values.specs.CodeTypes.{type_of}
 use Rattle.c_memory.specs.declared.paths.Place as P
 use Rattle.c_memory.specs.CodeStep.{step_of}
-use Rattle.c_memory.specs.Place.{Place, place_of, place_from}
+use Rattle.c_memory.specs.CodePlace.{Place, place_of, place_from}
 use Rattle.c_memory.proofs.Read.{scalar_place}
 use Rattle.c_memory.proofs.byte_heap_places.ByteHeapHeap.read_word.Goals as goal
 

@@ -3,7 +3,7 @@ use Rattle.std.proofs.lemmas.Bool.{leb-true, leb-false}
 use Rattle.c_values.specs.Layout.{is_object, size_of}
 use Rattle.c_memory.specs.Memory.{Tag}
 use Rattle.c_memory.specs.CodeTag.{tag_of}
-use Rattle.c_memory.specs.TagIndex.{AllEndBy, OneEndsAfter}
+use Rattle.c_memory.specs.CodeTagIndex.{AllEndBy, OneEndsAfter}
 use Rattle.c_memory.proofs.Neighbours.{tag_at, item_at, last_ends}
 use Rattle.c_memory.proofs.tag_table.TagTable.all_end_by.Goals as goal
 

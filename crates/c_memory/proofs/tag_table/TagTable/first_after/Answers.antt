@@ -1,7 +1,7 @@
 use Rattle.std.proofs.Common.{◌≤◌, ℕ, List, IfNone, IfSome, slice_get, Some, ◌≡◌, map, subst}
 use Rattle.c_memory.specs.Memory.{Tag}
 use Rattle.c_memory.specs.CodeTag.{tag_of}
-use Rattle.c_memory.specs.TagIndex.{IsNextTag}
+use Rattle.c_memory.specs.CodeTagIndex.{IsNextTag}
 use Rattle.c_memory.proofs.Indexed.{next_none, next_some}
 use Rattle.c_memory.proofs.tag_table.TagTable.first_after.Goals as goal
 

@@ -1,7 +1,7 @@
 use Rattle.std.proofs.Common.{◌≡◌, ◌∙◌, true, false, Bool, MatchBool, sym, subst}
 use Rattle.c_values.specs.CodeTypes.{type_of}
 use Rattle.c_memory.specs.Memory.{Tag}
-use Rattle.c_memory.specs.TagIndex.{AllBeginAfter, OneBeginsWithin}
+use Rattle.c_memory.specs.CodeTagIndex.{AllBeginAfter, OneBeginsWithin}
 use Rattle.c_memory.specs.TagFault.{is_apart}
 use Rattle.c_memory.proofs.Rows.{object_some}
 use Rattle.c_memory.proofs.Neighbours.{apart_from_neighbours, over_one, into_one}

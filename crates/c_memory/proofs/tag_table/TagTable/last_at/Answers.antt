@@ -1,7 +1,7 @@
 use Rattle.std.proofs.Common.{◌<◌, ℕ, List, IfNone, IfSome, slice_get, Some, ◌≡◌, map, subst}
 use Rattle.c_memory.specs.Memory.{Tag}
 use Rattle.c_memory.specs.CodeTag.{tag_of}
-use Rattle.c_memory.specs.TagIndex.{IsLastTag}
+use Rattle.c_memory.specs.CodeTagIndex.{IsLastTag}
 use Rattle.c_memory.proofs.Indexed.{last_none, last_some}
 use Rattle.c_memory.proofs.tag_table.TagTable.last_at.Goals as goal
 

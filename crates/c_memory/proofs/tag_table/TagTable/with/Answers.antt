@@ -3,7 +3,7 @@ use Rattle.std.proofs.lemmas.List.{map-append, length-map}
 use Rattle.c_values.specs.CodeTypes.{type_of}
 use Rattle.c_memory.specs.Memory.{Tag}
 use Rattle.c_memory.specs.CodeTag.{tag_of}
-use Rattle.c_memory.specs.TagIndex.{IsIndex}
+use Rattle.c_memory.specs.CodeTagIndex.{IsIndex}
 use Rattle.c_memory.proofs.Indexed.{pushed}
 use Rattle.c_memory.proofs.tag_table.TagTable.with.Goals as goal
 

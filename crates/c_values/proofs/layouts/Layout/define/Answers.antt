@@ -9,7 +9,7 @@ use Rattle.c_values.specs.Layout.{Layout, Incomplete, struct_shape, shapes_after
 use Rattle.c_values.specs.Growth.{with_struct, can_follow}
 use Rattle.c_values.specs.CodeTypes.{target_of}
 use Rattle.c_values.specs.CodeLayout.{struct_def_of}
-use Rattle.c_values.specs.StructTable.{IsPlacement}
+use Rattle.c_values.specs.CodeStructTable.{IsPlacement}
 use Rattle.c_values.proofs.Growing.{complete_members, tabled_more, last_is_object, last_is_large}
 use Rattle.c_values.proofs.layouts.Layout.define.Goals as goal
 

@@ -15,7 +15,7 @@ use Rattle.typed_heap.proofs.Found.{tags_from, read_uncovered}
 use Rattle.typed_heap.proofs.places.TypedHeapHeap.read_value.Goals as goal
 
 pub returns-in-Some : goal.returns-in-Some
-returns-in-Some c = subst (λ v. IfOk c.copy_of.result (λ copy. value_of copy ≡ v)) c.in-Some.ensures.some c.copy_of.ensures.copy
+returns-in-Some c = subst (λ v. IfOk c.copy_value.result (λ copy. value_of copy ≡ v)) c.in-Some.ensures.some c.copy_value.ensures.copy
 
 pub returns-in-None : goal.returns-in-None
 returns-in-None c =

@@ -1,5 +1,5 @@
 use Rattle.std.proofs.Common.{rules}
-use Rattle.c_limits.specs.Measure as machine
+use Rattle.c_limits.specs.CodeMeasure as machine
 use Rattle.c_limits.proofs.LimitsSteps.{node_is}
 use Rattle.c_limits.proofs.limits.measure.Measure.node.Goals as goal
 

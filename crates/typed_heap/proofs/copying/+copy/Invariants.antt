@@ -1,7 +1,0 @@
--- The copies so far are those of the parts so far.
-use Rattle.std.proofs.Common.{◌≡◌, take}
-use Rattle.c_memory.specs.CodeParts.{values_in}
-use Rattle.typed_heap.proofs.copying.+copy.Given as goal
-
-abbrev pub invariant-copy_of_parts-loop-part : goal.invariant-copy_of_parts-loop-part
-invariant-copy_of_parts-loop-part l = values_in l.copies.items ≡ values_in (take l.part-index l.parts)
