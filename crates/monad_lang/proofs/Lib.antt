@@ -1,2 +1,4 @@
 pub mod OneEnd
 pub mod Continues
+pub mod Filled
+pub mod WithFronts

@@ -5,4 +5,7 @@ pub mod Sorted
 pub mod Names
 pub mod Form
 pub mod Steady
-pub mod Code
+pub mod CodeProgram
+pub mod CodeFront
+pub mod CodeCompared
+pub mod CodeCopied

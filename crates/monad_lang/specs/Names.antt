@@ -1,40 +1,33 @@
 -- Free names of expressions and programs, and names that a binder would capture.
 use Rattle.std.specs.Prelude.{Bool, false, not, ◌&&◌, ◌||◌, List, [], ◌∷◌}
-use Rattle.c_values.specs.Name.{Name, same_name, is_among}
-use Rattle.ac_expr.specs.Expression.{Exp, Var}
-use Rattle.ac_expr.specs.Form.{has, path_has}
+use Rattle.c_values.specs.Name.{Name, is_among}
+use Rattle.ac_expr.specs.Expression.{Exp}
+use Rattle.ac_expr.specs.Form.{path_has}
+use Rattle.ac_expr.specs.Facts.{is_name, names}
 use Rattle.monad_lang.specs.Program.{Place, Stored, Written, Global, Start, Mon, Ret, Bind, Guard, If, Write, Loop, Call, Pick}
 use Rattle.monad_lang.specs.Run.{start_names}
 
-abbrev pub is_var : Name → Exp → Bool
-is_var x (Var y) = same_name x y
-is_var x _ = false
-
--- the name stands in the expression
-abbrev pub is_in : Name → Exp → Bool
-is_in x e = has (is_var x) e
-
 abbrev pub is_in_some : Name → List Exp → Bool
 is_in_some x [] = false
-is_in_some x (e ∷ es) = is_in x e || is_in_some x es
+is_in_some x (e ∷ es) = names x e || is_in_some x es
 
 abbrev pub is_in_start : Name → List Start → Bool
 is_in_start x [] = false
-is_in_start x (s ∷ ss) = is_in x s.exp || is_in_start x ss
+is_in_start x (s ∷ ss) = names x s.exp || is_in_start x ss
 
 abbrev pub is_in_place : Name → Place → Bool
-is_in_place x (Stored t p path) = is_in x p || path_has (is_var x) path
-is_in_place x (Written t p path) = is_in x p || path_has (is_var x) path
-is_in_place x (Global y path) = path_has (is_var x) path
+is_in_place x (Stored t p path) = names x p || path_has (is_name x) path
+is_in_place x (Written t p path) = names x p || path_has (is_name x) path
+is_in_place x (Global y path) = path_has (is_name x) path
 
 -- the name is free in the program
 abbrev pub is_free : Name → Mon → Bool
 is_free x (Ret es) = is_in_some x es
 is_free x (Bind m xs n) = is_free x m || (not (is_among x xs) && is_free x n)
-is_free x (Guard e) = is_in x e
-is_free x (If e m n) = is_in x e || is_free x m || is_free x n
-is_free x (Write place e) = is_in_place x place || is_in x e
-is_free x (Loop starts guard test m) = is_in_start x starts || (not (is_among x (start_names starts)) && (is_in x guard || is_in x test || is_free x m))
+is_free x (Guard e) = names x e
+is_free x (If e m n) = names x e || is_free x m || is_free x n
+is_free x (Write place e) = is_in_place x place || names x e
+is_free x (Loop starts guard test m) = is_in_start x starts || (not (is_among x (start_names starts)) && (names x guard || names x test || is_free x m))
 is_free x (Call f es) = is_in_some x es
 is_free x (Pick k) = false
 
@@ -46,6 +39,6 @@ is_captured y x (Guard e) = false
 is_captured y x (If e m n) = is_captured y x m || is_captured y x n
 is_captured y x (Write place e) = false
 is_captured y x (Loop starts guard test m) =
-    not (is_among x (start_names starts)) && ((is_among y (start_names starts) && (is_in x guard || is_in x test || is_free x m)) || is_captured y x m)
+    not (is_among x (start_names starts)) && ((is_among y (start_names starts) && (names x guard || names x test || is_free x m)) || is_captured y x m)
 is_captured y x (Call f es) = false
 is_captured y x (Pick k) = false

@@ -3,6 +3,7 @@
 use Rattle.std.specs.Prelude.{List, [], ◌∷◌, Option, Some, None, if◌then◌else◌}
 use Rattle.c_values.specs.Name.{Name, same_name}
 use Rattle.c_values.specs.Types.{CType}
+use Rattle.c_values.specs.Program.{Program, function_named}
 use Rattle.c_values.specs.Layout.{Layout, GlobalVar}
 use Rattle.ac_expr.specs.Expression.{Exp, Path}
 use Rattle.ac_expr.specs.Sort.{Level, Kind}
@@ -41,12 +42,8 @@ pub record FinalFn : Type 0 where
   pub results : List Kind
   pub body : Mon
 
-pub record FinalUnit : Type 0 where
-  pub layout : Layout
-  pub globals : List GlobalVar
-  pub functions : List FinalFn
+abbrev pub FinalUnit : Type 0
+FinalUnit = Program FinalFn
 
--- the first function of a name
 abbrev pub final_fn : List FinalFn → Name → Option FinalFn
-final_fn [] x = None
-final_fn (f ∷ fs) x = if same_name f.name x then Some f else final_fn fs x
+final_fn = function_named (λ f. f.name)

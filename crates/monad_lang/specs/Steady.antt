@@ -11,6 +11,7 @@ use Rattle.c_memory.specs.Memory.{Memory}
 use Rattle.c_memory.specs.TypedHeap.{view}
 use Rattle.c_memory.specs.Heap.{Heap, OnBytes, OnTypes, is_tagged}
 use Rattle.ac_expr.specs.Evaluation.{Env, State, value, steps}
+use Rattle.ac_expr.specs.States.{state_with}
 use Rattle.ac_expr.specs.Signature.{kinds_of, values_of}
 use Rattle.ac_expr.specs.View.{AreOfKinds}
 use Rattle.monad_lang.specs.Program.{Written, Mon, Write, Call, FinalFn, FinalUnit, final_fn}
@@ -45,9 +46,6 @@ pub record Viewed (l : Layout) (a b : Answer) : Type 0 where
 
 abbrev pub Alike : Failure → Failure → Type 0
 Alike f g = Unit {0}
-
-abbrev pub state_with : Heap → (Name → Value) → State
-state_with h g = record { heap = h; globals = g }
 
 -- Each write of the program itself that a run reaches has a covered root and indices in range, and from a well-tagged memory
 -- and from its view the program fails alike, gives the same values with memories whose views are the typed heaps, and stops alike.

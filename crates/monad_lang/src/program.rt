@@ -1,10 +1,28 @@
-//! Programs as plain data. `specs/Program` has the whole language, and `specs/Run` what programs do.
+//! Programs as plain data. `specs/Program` has the language, and `specs/Run` what programs do.
 
-use ac_expr::{Exp, Kind, Level};
-use c_values::{GlobalVar, Layout};
+use ac_expr::{Binder, Exp, Kind, Level, Path};
+use c_values::{CType, Program};
 
-/// A monadic program. It has the cases that straight-line programs need.
+/// What is written.
 #[derive(Debug, Drop)]
+pub enum Place {
+    /// The bytes of a part of an object: its type, its address and the path.
+    Stored(CType, Exp, Path),
+    /// The same in a typed heap.
+    Written(CType, Exp, Path),
+    /// A part of a global.
+    Global(String, Path),
+}
+
+/// A name and the expression that it begins with.
+#[derive(Debug, Drop)]
+pub struct Start {
+    pub name: String,
+    pub exp: Exp,
+}
+
+/// A monadic program.
+#[derive(Debug)]
 pub enum Mon {
     /// Gives the values.
     Ret(Vec<Exp>),
@@ -12,13 +30,33 @@ pub enum Mon {
     Bind(Box<Mon>, Vec<String>, Box<Mon>),
     /// Fails where the expression is false.
     Guard(Exp),
+    /// The first program where the expression holds, else the second.
+    If(Exp, Box<Mon>, Box<Mon>),
+    /// The place takes the value.
+    Write(Place, Exp),
+    /// Names with their start expressions, a guard and a test before each turn, and a body that gives the next values.
+    Loop(Vec<Start>, Exp, Exp, Box<Mon>),
+    Call(String, Vec<Exp>),
+    /// Any value of the kind.
+    Pick(Kind),
 }
 
-/// A name with its kind.
-#[derive(Debug, Drop)]
-pub struct Binder {
-    pub name: String,
-    pub kind: Kind,
+// A derived drop would call itself once for each program of a sequence.
+impl Drop for Mon {
+    fn drop(mut self) {
+        loop {
+            match self {
+                Mon::Ret(_values) => return,
+                Mon::Guard(_condition) => return,
+                Mon::Write(_place, _value) => return,
+                Mon::Call(_function, _arguments) => return,
+                Mon::Pick(_kind) => return,
+                Mon::Bind(_first, _names, last) => self = Box::into_inner(last),
+                Mon::If(_test, _first, last) => self = Box::into_inner(last),
+                Mon::Loop(_starts, _guard, _test, last) => self = Box::into_inner(last),
+            }
+        }
+    }
 }
 
 /// A function's program.
@@ -32,12 +70,4 @@ pub struct FinalFn {
 }
 
 /// The programs of a text.
-#[derive(Debug, Drop)]
-pub struct FinalUnit {
-    /// The target, and the structs with a body.
-    pub layout: Layout,
-    /// The globals in the order of the text.
-    pub globals: Vec<GlobalVar>,
-    /// One for each function with a body, in the order of the bodies.
-    pub functions: Vec<FinalFn>,
-}
+pub type FinalUnit = Program<FinalFn>;

@@ -4,7 +4,7 @@ use Rattle.std.proofs.lemmas.Bool.{false_from_ne_true}
 use Rattle.c_values.specs.Name.{Name}
 use Rattle.ac_expr.specs.declared.signatures.Binder as B
 use Rattle.ac_expr.specs.declared.expression.Exp as R
-use Rattle.ac_expr.specs.Code.{exp_of}
+use Rattle.ac_expr.specs.CodeExpression.{exp_of}
 use Rattle.ac_expr.specs.CodeSignature.{binder_of}
 use Rattle.ac_expr.specs.Expression.{Exp}
 use Rattle.ac_expr.specs.Sort.{Scalar, Sort, Of, PartsSort, Kind, Scope, same_scalar, word_sort_of}

@@ -5,3 +5,6 @@ pub mod PlaceTypes
 pub mod WholeParts
 pub mod Formed
 pub mod LocalNames
+pub mod Filled
+pub mod Unnamed
+pub mod WithFronts

@@ -9,8 +9,10 @@ use Rattle.ac_expr.specs.Expression.{Exp}
 use Rattle.ac_expr.specs.Sort.{Kind}
 use Rattle.ac_expr.specs.Signature.{Binder, Signature, Invocation, signature}
 use Rattle.ac_expr.proofs.Picked.{picked_word_at_once}
-use Rattle.simpl_lang.specs.Command.{GuardKind, Condition, Simpl, Skip, Throw, Set, SetGlobal, Store, Pick, Seq, Cond, Guard, Catch, While, Call, SimplFn, SimplUnit, simpl_fn, kind_of}
-use Rattle.simpl_lang.specs.Exec.{Machine, Flow, Normal, Abrupt, Runs, normally, handled, turned, checked, entered, picked_local, execs, ended, function_runs, bodies, functions_below, simpl_runs}
+use Rattle.ac_expr.specs.GuardKind.{GuardKind}
+use Rattle.simpl_lang.specs.Command.{Condition, Simpl, Skip, Throw, Set, SetGlobal, Store, Pick, Seq, Cond, Guard, Catch, While, Call, SimplFn, SimplUnit, simpl_fn, kind_of}
+use Rattle.ac_expr.specs.Machine.{Machine}
+use Rattle.simpl_lang.specs.Exec.{Flow, Normal, Abrupt, Runs, normally, handled, turned, checked, entered, picked_local, execs, ended, function_runs, bodies, functions_below, simpl_runs}
 
 normally_once : (next : Machine → Ends Flow GuardKind) → ((m : Machine) → OneEnd (next m)) → (f : Flow) → OneEnd (normally next f)
 normally_once next h (Normal m) = h m

@@ -6,7 +6,7 @@ use Rattle.c_values.specs.Name.{Name, same_name, with_name}
 use Rattle.c_values.specs.Types.{Target, CType, Integer, Void, Ptr, Struct, Array, same_type}
 use Rattle.c_values.specs.Layout.{Layout, IsLayout, StructDef, Shape, Incomplete, Scalar, Record, Row, type_of, shape_of, shape_from, shapes_after, struct_shape, is_complete}
 use Rattle.c_values.proofs.Laid.{name_is, shape_type, structs_of}
-use Rattle.c_values.proofs.SameType.{type_is, same_type-refl}
+use Rattle.c_values.specs.CodeSameType.{type_is, same_type-refl}
 use Rattle.ac_expr.specs.Sort as S
 use Rattle.ac_expr.specs.Sort.{Sort, Of, PartsSort, are_same, sort_at}
 use Rattle.ac_expr.specs.Sorted.{fits_place}

@@ -3,21 +3,12 @@
 use Rattle.std.specs.Prelude.{List, [], ◌∷◌, Option, Some, None, if◌then◌else◌}
 use Rattle.c_values.specs.Name.{Name, same_name}
 use Rattle.c_values.specs.Types.{CType}
+use Rattle.c_values.specs.Program.{function_named}
 use Rattle.c_values.specs.Layout.{Layout, GlobalVar}
+use Rattle.ac_expr.specs.GuardKind.{GuardKind}
 use Rattle.ac_expr.specs.Expression.{Exp, Path}
 use Rattle.ac_expr.specs.Sort.{Level, Kind}
 use Rattle.ac_expr.specs.Signature.{Binder, Signature}
-
--- why a guard stands where it does; the last two are watched by a function's level alone
-pub data GuardKind : Type 0 where
-  Div : GuardKind
-  Signed : GuardKind
-  Shift : GuardKind
-  Pointer : GuardKind
-  Bounds : GuardKind
-  Unreached : GuardKind
-  Tag : GuardKind
-  Wrap : GuardKind
 
 -- a condition that has to hold, and what it is about
 pub record Condition : Type 0 where
@@ -56,8 +47,7 @@ pub record SimplUnit : Type 0 where
   pub signatures : List Signature
 
 abbrev pub simpl_fn : List SimplFn → Name → Option SimplFn
-simpl_fn [] x = None
-simpl_fn (f ∷ fs) x = if same_name f.name x then Some f else simpl_fn fs x
+simpl_fn = function_named (λ f. f.name)
 
 abbrev pub kind_of : List Binder → Name → Option Kind
 kind_of [] x = None

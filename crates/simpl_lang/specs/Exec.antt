@@ -12,35 +12,21 @@ use Rattle.c_values.specs.Path.{upd}
 use Rattle.c_values.specs.Choice.{Choice}
 use Rattle.c_memory.specs.Heap.{write_heap}
 use Rattle.ac_expr.specs.Expression.{Exp}
+use Rattle.ac_expr.specs.GuardKind.{GuardKind}
+use Rattle.ac_expr.specs.Machine.{Machine, machine_with, with_local, Returned}
 use Rattle.ac_expr.specs.Sort.{Kind}
 use Rattle.ac_expr.specs.Evaluation.{Env, State, value, steps, holds}
 use Rattle.ac_expr.specs.View.{picked_word_at, zero_word_at}
 use Rattle.ac_expr.specs.Signature.{Binder, Signature, Invocation, names_of, signature, values_of, bound, no_env}
-use Rattle.simpl_lang.specs.Command.{GuardKind, Condition, Simpl, Skip, Throw, Set, SetGlobal, Store, Pick, Seq, Cond, Guard, Catch, While, Call, SimplFn, SimplUnit, simpl_fn, kind_of}
-
--- the locals, with memory and globals
-pub record Machine : Type 0 where
-  pub locals : Env
-  pub state : State
+use Rattle.simpl_lang.specs.Command.{Condition, Simpl, Skip, Throw, Set, SetGlobal, Store, Pick, Seq, Cond, Guard, Catch, While, Call, SimplFn, SimplUnit, simpl_fn, kind_of}
 
 -- a command ends normally or by an exception
 pub data Flow : Type 0 where
   Normal : Machine → Flow
   Abrupt : Machine → Flow
 
--- what a function gives: a value, where it has a result, and the state after it
-pub record Returned : Type 0 where
-  pub result : Option Value
-  pub state : State
-
 abbrev pub Runs : Type 1
 Runs = Functions Invocation Returned GuardKind
-
-abbrev pub machine_with : Env → State → Machine
-machine_with locals s = record { locals = locals; state = s }
-
-abbrev pub with_local : Name → Value → Machine → Machine
-with_local x v m = machine_with (with_name x v m.locals) m.state
 
 -- the value of an expression on a machine
 abbrev pub value_on : Layout → Machine → Exp → Value

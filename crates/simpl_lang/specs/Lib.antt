@@ -2,5 +2,10 @@ pub mod Command
 pub mod Exec
 pub mod Sorted
 pub mod Form
+pub mod Names
+pub mod Flag
 pub mod CodeCommand
 pub mod CodeForms
+pub mod CodeFront
+pub mod CodeCompared
+pub mod CodeCopied

@@ -5,7 +5,7 @@ ghost use Rattle.std.specs.Option.{option_map};
 ghost use Rattle.ac_expr.specs.Sort.{Of, word_sort_of};
 ghost use Rattle.ac_expr.specs.Signature.{signature, kinds_of};
 ghost use Rattle.ac_expr.specs.Sorted.{scalars_of, call_scalars};
-ghost use Rattle.ac_expr.specs.Code.{exp_of, kind_of};
+ghost use Rattle.ac_expr.specs.CodeExpression.{exp_of, kind_of};
 ghost use Rattle.ac_expr.specs.CodeSignature.{binder_of, signature_of};
 ghost use Rattle.ac_expr.specs.CodeSort.{names_of};
 ghost use Rattle.simpl_lang.specs.Sorted.{fits_target, is_scalar_of};
@@ -27,7 +27,8 @@ pub(crate) fn is_call_sorted(
 ) -> bool
     ensures { let g = scope_in u.now names.now in
         result ≡ fits_target g (option_map string_bytes target.now)
-        (call_scalars word_sort_of (signature (signatures_in u.now) function.now) (scalars_of g (map exp_of arguments.now))) }
+        (call_scalars word_sort_of (signature (signatures_in u.now) function.now)
+        (scalars_of g (map exp_of arguments.now))) }
 {
     match signature(&u.signatures, function) {
         Some(signature) => {
@@ -40,7 +41,8 @@ pub(crate) fn is_call_sorted(
 
 // The signature of a function, where there is one of the name.
 fn signature<'a>(signatures: &'a [Signature], name: &str) -> Option<&'a Signature>
-    ensures { option_map (λ s. signature_of s.now) result ≡ signature (map signature_of signatures.now) name.now }
+    ensures { option_map (λ s. signature_of s.now) result
+        ≡ signature (map signature_of signatures.now) name.now }
 {
     'signatures: for signature in signatures {
         if signature.name.as_str() == name {
@@ -54,7 +56,8 @@ fn signature<'a>(signatures: &'a [Signature], name: &str) -> Option<&'a Signatur
 #[tactic(auto, using(crate::proofs::Arguments::takes_one, crate::proofs::Arguments::takes_rest))]
 fn may_take(u: &SimplUnit, names: &Names<'_>, params: &[Binder], arguments: &[Exp]) -> bool
     ensures { let g = scope_in u.now names.now in
-        result ≡ may_take (kinds_of (map binder_of params.now)) (scalars_of g (map exp_of arguments.now)) }
+        result ≡ may_take (kinds_of (map binder_of params.now))
+        (scalars_of g (map exp_of arguments.now)) }
 {
     let mut left = params;
     let mut right = arguments;
@@ -73,7 +76,8 @@ fn may_take(u: &SimplUnit, names: &Names<'_>, params: &[Binder], arguments: &[Ex
 
 // Whether a function's result may go there: to a local of its kind, or nowhere where there is none.
 fn may_go_to(names: &Names<'_>, target: &Option<String>, kind: Option<Kind>) -> bool
-    ensures { result ≡ may_go_to (names_of names.now) (option_map string_bytes target.now) (option_map kind_of kind) }
+    ensures { result ≡ may_go_to (names_of names.now) (option_map string_bytes target.now)
+        (option_map kind_of kind) }
 {
     match target {
         None => kind.is_none(),
@@ -86,7 +90,8 @@ fn may_go_to(names: &Names<'_>, target: &Option<String>, kind: Option<Kind>) -> 
 
 // Whether it is a local of the kind.
 fn is_local_of(names: &Names<'_>, name: &str, kind: Kind) -> bool
-    ensures { result ≡ is_scalar_of (names_of names.now name.now) (Some (Of (word_sort_of (kind_of kind)))) }
+    ensures { result ≡ is_scalar_of (names_of names.now name.now)
+        (Some (Of (word_sort_of (kind_of kind)))) }
 {
     match names.get(name) {
         Some(scalar) => scalar == scalar_of_kind(kind),

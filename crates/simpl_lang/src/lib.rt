@@ -3,8 +3,12 @@
 
 mod calls;
 mod command;
+mod comparison;
+mod conditions;
+mod copies;
 mod distinct_names;
 mod forms;
+mod fronts;
 mod places;
 mod program_sorts;
 mod run_laws;
@@ -15,7 +19,9 @@ mod units;
 mod well_formed;
 
 pub use command::{Condition, GuardKind, Simpl};
+pub use conditions::{same_condition, same_conditions, same_guard_kind};
 pub use forms::{commands, is_flat};
-pub use run_laws::{commands_continue, commands_end_once};
+pub use fronts::{Front, boxed, whole};
+pub use run_laws::{commands_continue, commands_end_once, commands_under_any_choice};
 pub use units::{SimplFn, SimplUnit};
 pub use well_formed::forms_ok;

@@ -5,17 +5,17 @@ ghost use Rattle.std.specs.Option.{option_map};
 ghost use Rattle.c_values.specs.Layout.{shape_of};
 ghost use Rattle.c_values.specs.CodeTypes.{type_of};
 ghost use Rattle.ac_expr.specs.Sort.{sort_at};
-ghost use Rattle.ac_expr.specs.Sorted.{program_sort, typed_place, global_place, fits_place};
-ghost use Rattle.ac_expr.specs.Code.{exp_of, path_of};
+ghost use Rattle.ac_expr.specs.Sorted.{program_sort, part_place, typed_place, global_place, fits_place};
+ghost use Rattle.ac_expr.specs.CodeExpression.{exp_of, path_of};
 ghost use Rattle.ac_expr.specs.CodeSort.{sort_value};
 ghost use Rattle.simpl_lang.specs.CodeForms.{scope_in, HasCompleteParts};
 
-use crate::program_sorts::{path_has_part_of_value, program_sort};
+use crate::program_sorts::program_sort;
 use crate::units::SimplUnit;
 use ac_expr::parts::global;
 use ac_expr::sort_rules::{are_same, is_root, is_word_of};
-use ac_expr::{Exp, Names, Path, Sort, along};
-use c_values::{CType, Layout, address_width, width_of};
+use ac_expr::{Exp, IsPartOfValue, Names, Path, Sort, along};
+use c_values::{CType, Layout, address_width, is_object, width_of};
 
 /// Whether a value may go to a part of a global.
 pub(crate) fn fits_global(
@@ -30,7 +30,7 @@ pub(crate) fn fits_global(
         result ≡ fits_place place (program_sort g (exp_of value.now)) }
 {
     match global(&u.globals, name) {
-        Some(t) => fits_part_of(u, names, t, path, value),
+        Some(t) => is_object(&u.layout, t) && fits_part_of(u, names, t, path, value),
         None => false,
     }
 }
@@ -54,10 +54,10 @@ pub(crate) fn fits_object(
 // Whether a value may go to a part of an object of a type.
 fn fits_part_of(u: &SimplUnit, names: &Names<'_>, t: &CType, path: &Path, value: &Exp) -> bool
     ensures { let g = scope_in u.now names.now in
-        let place = global_place g (Some (type_of t.now)) (path_of path.now) in
+        let place = part_place g (type_of t.now) (path_of path.now) in
         result ≡ fits_place place (program_sort g (exp_of value.now)) }
 {
-    if path_has_part_of_value(path) {
+    if path.any(&IsPartOfValue) {
         return false;
     }
     match along(path, t, names, &u.layout, &u.globals) {
@@ -70,7 +70,8 @@ fn fits_part_of(u: &SimplUnit, names: &Names<'_>, t: &CType, path: &Path, value:
 #[tactic(auto, using(crate::proofs::PlaceTypes::struct_fits, crate::proofs::PlaceTypes::array_fits))]
 fn fits_part(l: &Layout, part: &CType, sort: Option<Sort<'_>>) -> bool
     requires { HasCompleteParts l.now (option_map sort_value sort) }
-    ensures { result ≡ fits_place (sort_at (shape_of l.now (type_of part.now))) (option_map sort_value sort.entry) }
+    ensures { result ≡ fits_place (sort_at (shape_of l.now (type_of part.now)))
+        (option_map sort_value sort.entry) }
 {
     let target = l.target();
     match part {

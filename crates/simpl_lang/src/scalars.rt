@@ -3,7 +3,7 @@
 ghost use Rattle.std.specs.Prelude.{◌≡◌};
 ghost use Rattle.std.specs.Option.{option_map};
 ghost use Rattle.ac_expr.specs.Sort.{is_kind};
-ghost use Rattle.ac_expr.specs.Code.{kind_of};
+ghost use Rattle.ac_expr.specs.CodeExpression.{kind_of};
 ghost use Rattle.ac_expr.specs.CodeSort.{scalar_of, sort_value};
 ghost use Rattle.simpl_lang.specs.Sorted.{is_scalar_of, same_kind};
 

@@ -2,7 +2,7 @@
 
 ghost use Rattle.std.specs.Prelude.{◌≡◌, map};
 ghost use Rattle.std.specs.Option.{option_map};
-ghost use Rattle.ac_expr.specs.Code.{kind_of, level_of};
+ghost use Rattle.ac_expr.specs.CodeExpression.{kind_of, level_of};
 ghost use Rattle.ac_expr.specs.CodeSignature.{binder_of, signature_of};
 ghost use Rattle.simpl_lang.specs.Sorted.{are_signed, come_first, holds_result, same_level};
 ghost use Rattle.simpl_lang.specs.Command as plain;
@@ -15,7 +15,8 @@ use ac_expr::{Binder, Kind, Level, Signature};
 
 /// Whether the signatures are of the functions, in their order.
 pub(crate) fn are_signed(functions: &[SimplFn], signatures: &[Signature]) -> bool
-    ensures { result ≡ are_signed (map simpl_fn_of functions.now) (map signature_of signatures.now) }
+    ensures { result ≡ are_signed (map simpl_fn_of functions.now)
+        (map signature_of signatures.now) }
 {
     let mut left = functions;
     let mut right = signatures;

@@ -2,7 +2,7 @@
 
 ghost use Rattle.std.specs.Prelude.{◌≡◌, map};
 ghost use Rattle.ac_expr.specs.Sorted.{program_sort};
-ghost use Rattle.ac_expr.specs.Code.{exp_of};
+ghost use Rattle.ac_expr.specs.CodeExpression.{exp_of};
 ghost use Rattle.ac_expr.specs.CodeSort.{names_of};
 ghost use Rattle.simpl_lang.specs.Sorted.{is_sorted, is_scalar_of, is_local, are_conditions};
 ghost use Rattle.simpl_lang.specs.CodeCommand.{condition_of, simpl_of};

@@ -39,7 +39,8 @@ fn is_formed(u: &SimplUnit) -> bool
 
 // Whether each function has distinct locals of kinds that are, and a well-sorted body.
 fn are_functions_sorted(u: &SimplUnit) -> bool
-    ensures { result ≡ are_fns_sorted (simpl_unit_of u.now) (map simpl_fn_of u.now.functions.items) }
+    ensures { result ≡ are_fns_sorted (simpl_unit_of u.now)
+        (map simpl_fn_of u.now.functions.items) }
 {
     'functions: for f in &u.functions {
         if !is_function_sorted(u, f) {
@@ -78,7 +79,8 @@ fn are_kinds(locals: &[Binder]) -> bool
 
 // Whether a function's body is well-sorted where its locals are in scope.
 fn is_body_sorted(u: &SimplUnit, f: &SimplFn) -> bool
-    ensures { result ≡ is_sorted (scope_of (simpl_unit_of u.now) (simpl_fn_of f.now)) (signatures_in u.now) (simpl_of f.now.body) }
+    ensures { result ≡ is_sorted (scope_of (simpl_unit_of u.now) (simpl_fn_of f.now))
+        (signatures_in u.now) (simpl_of f.now.body) }
 {
     let outside = Names::new();
     let inside = outside.push_all(&f.locals);

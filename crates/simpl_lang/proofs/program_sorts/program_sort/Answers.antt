@@ -2,13 +2,13 @@
 use Rattle.std.proofs.Common.{ap, ◌∙◌}
 use Rattle.std.specs.Option.{option_map}
 use Rattle.ac_expr.specs.Sort.{sort_of}
-use Rattle.ac_expr.specs.Code.{exp_of}
+use Rattle.ac_expr.specs.CodeExpression.{exp_of}
 use Rattle.ac_expr.specs.CodeSort.{sort_value, scope_of}
 use Rattle.simpl_lang.specs.CodeForms.{scope_in}
 use Rattle.simpl_lang.proofs.WholeParts.{sort_whole}
 use Rattle.simpl_lang.proofs.program_sorts.program_sort.Goals as goal
 
-pub returns-else-has_part_of_value-clause-whole : goal.returns-else-has_part_of_value-clause-whole
-returns-else-has_part_of_value-clause-whole c =
+pub returns-else-any-clause-whole : goal.returns-else-any-clause-whole
+returns-else-any-clause-whole c =
     sort_whole (scope_in c.args.u.now c.args.names.now) (exp_of c.args.e.now) (option_map sort_value c.sort_of.result) c.target.ensures.layout
     (c.sort_of.ensures ∙ ap (λ gs. sort_of (scope_of c.args.u.now.layout c.args.names.now gs) (exp_of c.args.e.now)) c.deref.ensures.value)

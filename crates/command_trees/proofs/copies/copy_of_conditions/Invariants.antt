@@ -1,7 +1,0 @@
--- Those so far are copied.
-use Rattle.std.proofs.Common.{◌≡◌, map, take}
-use Rattle.simpl_lang.specs.CodeCommand.{condition_of}
-use Rattle.command_trees.proofs.copies.copy_of_conditions.Given as goal
-
-abbrev pub invariant-loop-condition : goal.invariant-loop-condition
-invariant-loop-condition l = map condition_of l.copies.items ≡ map condition_of (take l.condition-index l.conditions)

@@ -1,4 +1,0 @@
-pub mod SameExpression
-pub mod Front
-pub mod SameCommand
-pub mod CodeCopies
