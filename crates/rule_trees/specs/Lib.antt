@@ -1,0 +1,2 @@
+pub mod RuleTree
+pub mod CodeFound
