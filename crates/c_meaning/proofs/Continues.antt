@@ -8,9 +8,9 @@ use Rattle.c_values.specs.Choice.{Choice}
 use Rattle.c_values.specs.Layout.{Layout}
 use Rattle.ac_expr.specs.Sort.{Level}
 use Rattle.ac_expr.specs.Signature.{Invocation}
-use Rattle.simpl_lang.specs.Command as K
-use Rattle.simpl_lang.specs.Exec.{Machine}
-use Rattle.c_typed.specs.Typed as C
+use Rattle.ac_expr.specs.GuardKind as K
+use Rattle.ac_expr.specs.Machine.{Machine}
+use Rattle.c_lang.specs.Typed as C
 use Rattle.c_meaning.specs.CRun.{Flow, Next, Broken, Continued, Returning, Runs, Setting, Ended, and_next, turned, stepped, statement, statements, groups, function_runs, bodies, functions_below, c_runs}
 
 and_next_continues : (r r' : Machine → Ended) → ((m : Machine) → Continues (r m) (r' m)) → (f : Flow) → Continues (and_next r f) (and_next r' f)

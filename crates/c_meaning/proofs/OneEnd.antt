@@ -11,9 +11,9 @@ use Rattle.c_values.specs.Layout.{Layout}
 use Rattle.ac_expr.specs.Sort.{Level}
 use Rattle.ac_expr.specs.Signature.{Invocation}
 use Rattle.ac_expr.proofs.Picked.{picked_once}
-use Rattle.simpl_lang.specs.Command as K
-use Rattle.simpl_lang.specs.Exec.{Machine}
-use Rattle.c_typed.specs.Typed as C
+use Rattle.ac_expr.specs.GuardKind as K
+use Rattle.ac_expr.specs.Machine.{Machine}
+use Rattle.c_lang.specs.Typed as C
 use Rattle.c_meaning.specs.CRun.{Flow, Next, Broken, Continued, Returning, Runs, Setting, Ended, and_next, assigned, used, tested, turned, stepped, later, tested_after_first, turned_later, switched, statement, statements, groups, ended, function_runs, bodies, functions_below, c_runs}
 
 and_next_once : (rest : Machine → Ended) → ((m : Machine) → OneEnd (rest m)) → (f : Flow) → OneEnd (and_next rest f)

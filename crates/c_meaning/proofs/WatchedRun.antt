@@ -9,9 +9,9 @@ use Rattle.c_values.specs.Choice.{Choice}
 use Rattle.c_values.specs.Layout.{Layout}
 use Rattle.ac_expr.specs.Sort.{Level, Bytes}
 use Rattle.ac_expr.specs.Signature.{Invocation}
-use Rattle.simpl_lang.specs.Command as K
-use Rattle.simpl_lang.specs.Exec.{Machine}
-use Rattle.c_typed.specs.Typed as C
+use Rattle.ac_expr.specs.GuardKind as K
+use Rattle.ac_expr.specs.Machine.{Machine}
+use Rattle.c_lang.specs.Typed as C
 use Rattle.c_meaning.specs.CValue.{Defined}
 use Rattle.c_meaning.specs.CRun.{Flow, Next, Broken, Continued, Returning, Runs, Setting, Ended, context, and_next, assigned, used, tested, turned, stepped, tested_after_first, statement, statements, groups, function_runs, bodies, c_runs, plain}
 use Rattle.c_meaning.proofs.WatchedValue.{IsExtra, tag, wrap, Watched, same, extra, bind_watched, accessible_watched, value_watched, located_watched, values_watched}

@@ -15,10 +15,10 @@ use Rattle.c_memory.specs.Heap.{write_heap}
 use Rattle.ac_expr.specs.Sort.{Level, Bytes}
 use Rattle.ac_expr.specs.Evaluation.{Env}
 use Rattle.ac_expr.specs.Signature.{Invocation, bound, no_env}
-use Rattle.simpl_lang.specs.Command as K
-use Rattle.simpl_lang.specs.Exec.{Machine, machine_with, with_local, Returned}
-use Rattle.c_typed.specs.Typed as C
-use Rattle.c_typed.specs.Labels.{is_label, has_label}
+use Rattle.ac_expr.specs.GuardKind as K
+use Rattle.ac_expr.specs.Machine.{Machine, machine_with, with_local, Returned}
+use Rattle.c_lang.specs.Typed as C
+use Rattle.c_lang.specs.Labels.{is_label, has_label}
 use Rattle.c_meaning.specs.CValue.{Context, Defined, ◌>>=◌, Located, InMemory, InGlobal, value, values, located, accessible, converted, is_true, number_at}
 
 pub data Flow : Type 0 where

@@ -15,8 +15,8 @@ use Rattle.c_memory.specs.Tags.{is_pointer_ok}
 use Rattle.c_memory.specs.Heap.{read_heap, is_tagged}
 use Rattle.ac_expr.specs.Sort.{Level, Numbers, is_lifted}
 use Rattle.ac_expr.specs.Evaluation.{Env, State, moved, moved_to}
-use Rattle.simpl_lang.specs.Command as K
-use Rattle.c_typed.specs.Typed as C
+use Rattle.ac_expr.specs.GuardKind as K
+use Rattle.c_lang.specs.Typed as C
 
 -- what C expressions are evaluated in
 pub record Context : Type 0 where

@@ -1,22 +1,16 @@
--- Where typed trees are run: values of the types that the names are declared with, and memory and globals that can be.
-use Rattle.std.specs.Prelude.{◌≡◌, List, [], ◌∷◌, Option, Some, None, if◌then◌else◌}
+-- Where typed trees are run: values of the types that the names are declared with, from states that can be.
+use Rattle.std.specs.Prelude.{◌≡◌, List, [], ◌∷◌, Option, Some, None}
 use Rattle.c_values.specs.Name.{Name}
 use Rattle.c_values.specs.Types.{CType}
 use Rattle.c_values.specs.Value.{Value}
-use Rattle.c_values.specs.Layout.{Layout, GlobalVar, shape_of, scalar_width, global_type}
-use Rattle.c_values.specs.Path.{HasShape, IsBits}
-use Rattle.c_memory.specs.Heap.{IsHeap}
-use Rattle.ac_expr.specs.Evaluation.{Env, State, holds}
-use Rattle.simpl_lang.specs.Command.{GuardKind, Condition}
-use Rattle.simpl_lang.specs.Exec.{Returned}
-use Rattle.c_typed.specs.Typed as C
-use Rattle.c_typed.specs.WellTyped.{Scope, variable_type}
+use Rattle.c_values.specs.Layout.{Layout, GlobalVar, scalar_width}
+use Rattle.c_values.specs.Path.{IsBits}
+use Rattle.ac_expr.specs.Evaluation.{Env}
+use Rattle.ac_expr.specs.States.{IsState}
+use Rattle.ac_expr.specs.Machine.{Returned}
+use Rattle.c_lang.specs.Typed as C
+use Rattle.c_lang.specs.WellTyped.{Scope, variable_type}
 use Rattle.c_meaning.specs.CValue.{Context}
-
--- memory is well-tagged, and each global has a value of its type
-pub record IsState (l : Layout) (vs : List GlobalVar) (s : State) : Type 0 where
-  pub heap : IsHeap l s.heap
-  pub globals : (x : Name) (t : CType) → global_type vs x ≡ Some t → HasShape (shape_of l t) (s.globals x)
 
 -- a word of a scalar type
 abbrev pub IsOfType : Layout → CType → Value → Type 0
@@ -47,8 +41,3 @@ pub record Fits (g : Scope) (c : Context) : Type 0 where
 -- two environments have the same values for the locals that are declared
 abbrev pub AgreeOn : List C.Variable → Env → Env → Type 0
 AgreeOn vs a b = (x : Name) (t : CType) → variable_type vs x ≡ Some t → b x ≡ a x
-
--- the kind of the first condition that doesn't hold
-abbrev pub refused : Layout → Env → State → List Condition → Option GuardKind
-refused l env s [] = None
-refused l env s (c ∷ cs) = if holds l env s c.exp then refused l env s cs else Some c.kind

@@ -5,8 +5,8 @@
 use Rattle.std.specs.Prelude.{◌≡◌, Bool, true, false, ◌||◌, List, [], ◌∷◌, ◌++◌, Option, Some, None, if◌then◌else◌}
 use Rattle.c_values.specs.Name.{Name, is_among}
 use Rattle.ac_expr.specs.Sort.{Level, Bytes, Words, Numbers}
-use Rattle.c_typed.specs.Cast.{casts_to, has_cast, place_has_cast}
-use Rattle.c_typed.specs.Typed as C
+use Rattle.c_lang.specs.Cast.{casts_to, has_cast, place_has_cast}
+use Rattle.c_lang.specs.Typed as C
 
 abbrev pub some_has_cast : List C.Expr → Bool
 some_has_cast [] = false

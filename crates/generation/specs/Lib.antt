@@ -1,0 +1,4 @@
+pub mod Guards
+pub mod Generate
+pub mod Refused
+pub mod SameEnds
