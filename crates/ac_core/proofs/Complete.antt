@@ -5,9 +5,9 @@ use Rattle.c_lex.specs.Lexeme.{Lexeme}
 use Rattle.c_lex.specs.Tokens.{Tokens}
 use Rattle.c_grammar.specs.Tree.{External}
 use Rattle.c_values.specs.Types.{Ilp32}
-use Rattle.c_typed.specs.Typed.{TypedUnit}
-use Rattle.c_typing.specs.Checked.{Checked, Good, Bad}
-use Rattle.c_typing.specs.Unit.{checked, IsTyped}
+use Rattle.c_lang.specs.Typed.{TypedUnit}
+use Rattle.typing_rules.specs.Checked.{Checked, Good, Bad}
+use Rattle.typing_rules.specs.Unit.{checked, IsTyped}
 use Rattle.ac_core.specs.Sum.{SumFunction}
 use Rattle.ac_core.specs.Class.{class_of}
 use Rattle.c_lex.proofs.Leads.{one_list, tokens_or_fault}
@@ -16,7 +16,7 @@ use Rattle.c_limits.specs.Limits.{first_limit}
 use Rattle.ac_base.specs.Count.{Rose}
 use Rattle.ac_base.specs.Sink.{grown}
 use Rattle.ac_core.specs.Words.{command_of, plain_show}
-use Rattle.c_typing.specs.declared.fault.TypeKind.{TypeKind}
+use Rattle.typing_rules.specs.declared.fault.TypeKind.{TypeKind}
 use Rattle.ac_core.specs.Answer.{source_limit, IsTree, OfTree, IsTokensAnswer, OfTokens, IsTextAnswer, Reads, IsFileAnswer, IsAnswerTo, IsAnswer, EndsWith}
 use Rattle.ac_core.specs.declared.status.Status.{Status}
 use Rattle.ac_core.specs.declared.status.Status.TheVariants.{Done, No, Words, Source, Text, ReadFault, WriteFault, Limit, Memory, NotYet}

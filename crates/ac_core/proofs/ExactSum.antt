@@ -15,14 +15,16 @@ use Rattle.ac_expr.specs.Sort.{Numbers}
 use Rattle.ac_expr.specs.Evaluation as E
 use Rattle.ac_expr.specs.Form.{has, is_load, is_word_arithmetic}
 use Rattle.ac_expr.specs.Signature.{bound, no_env}
-use Rattle.simpl_lang.specs.Command as K
+use Rattle.ac_expr.specs.GuardKind as K
 use Rattle.monad_lang.specs.Program.{Place, Mon, Ret, Bind}
 use Rattle.monad_lang.specs.Form.{program_has, is_stored, no_place, is_numbers}
 use Rattle.monad_lang.specs.Run as M
-use Rattle.c_typed.specs.Typed as C
+use Rattle.c_lang.specs.Typed as C
 use Rattle.c_meaning.specs.CValue as V
-use Rattle.c_meaning.specs.Generate.{variables}
-use Rattle.ac_core.specs.Exact.{AreArguments, Begin, state_of, heap_for, ExactFrom, Exact, IsExact, ArePrograms, AreProgramsOf}
+use Rattle.c_meaning.specs.Kinds.{variables}
+use Rattle.exactness.specs.Exact.{Begin, heap_for, ExactFrom, Exact, IsExact, ArePrograms, AreProgramsOf}
+use Rattle.ac_expr.specs.States.{state_with}
+use Rattle.c_meaning.specs.Fitting.{AreOfTypes}
 use Rattle.ac_core.specs.Answer.{AreInNumbers}
 use Rattle.ac_core.specs.Sum.{Sum, Named, Constant, Converted, Plus, SumFunction, IsSum, layout, c_sum, c_parameter, typed_fn_of, typed_unit_of, levels, constant, exp_of_sum, guard, guarded, body, parameter, final_fn_of, final_unit_of}
 use Rattle.ac_core.proofs.Unsigned.{Same, c_bound, m_bound, parameter_is, fits_test, tested_only, tested_does, tested_fails, context, Means, adds, wraps, left_undefined, right_undefined, guard_is}
@@ -116,18 +118,18 @@ module _ (structs : List StructDef) (name : Name) (params : List Name) (sum : Su
   env_at = m_bound params b.arguments no_env
 
   abbrev c_start : E.State
-  c_start = state_of (OnBytes b.memory) b.globals
+  c_start = state_with (OnBytes b.memory) b.globals
 
   abbrev m_start : E.State
-  m_start = state_of (heap b.memory) b.globals
+  m_start = state_with (heap b.memory) b.globals
 
   abbrev below : List M.Runs
   below = M.functions_below (one.final structs name params (c_sum sum) (body sum)) b.choice b.turns
 
-  abbrev same_at : AreArguments (layout structs) (map c_parameter params) b.arguments → (x : Name) → is_among x params ≡ true → Same (locals_at x) (env_at x)
+  abbrev same_at : AreOfTypes (layout structs) (map c_parameter params) b.arguments → (x : Name) → is_among x params ≡ true → Same (locals_at x) (env_at x)
   same_at arguments x among = parameter_is structs params b.arguments no_env no_env x arguments among
 
-  agree : (arguments : AreArguments (layout structs) (map c_parameter params) b.arguments) → Sums structs params locals_at env_at c_start m_start b.choice b.depth below (same_at arguments) sum → one.Agree structs name params (c_sum sum) (body sum) b heap
+  agree : (arguments : AreOfTypes (layout structs) (map c_parameter params) b.arguments) → Sums structs params locals_at env_at c_start m_start b.choice b.depth below (same_at arguments) sum → one.Agree structs name params (c_sum sum) (body sum) b heap
   agree arguments (adds_up n h) = one.give n (record {
     watched = h.means.watched;
     unwatched = h.means.unwatched;
@@ -136,7 +138,7 @@ module _ (structs : List StructDef) (name : Name) (params : List Name) (sum : Su
   })
   agree arguments (wraps_round h) = one.overflow (record { watched = h.watched; fails = h.fails (Ret (exp_of_sum sum ∷ [])) })
 
-  sum_exact_from : IsSum params sum → AreArguments (layout structs) (map c_parameter params) b.arguments → ExactFrom (one.c_unit structs name params (c_sum sum) (body sum)) levels (one.final structs name params (c_sum sum) (body sum)) (one.c_function structs name params (c_sum sum) (body sum)) b heap
+  sum_exact_from : IsSum params sum → AreOfTypes (layout structs) (map c_parameter params) b.arguments → ExactFrom (one.c_unit structs name params (c_sum sum) (body sum)) levels (one.final structs name params (c_sum sum) (body sum)) (one.c_function structs name params (c_sum sum) (body sum)) b heap
   sum_exact_from is arguments =
       one.exact_from structs name params (c_sum sum) (body sum) b heap
       (agree arguments (sum_ends structs params locals_at env_at c_start m_start b.choice b.depth below (same_at arguments) sum is))
@@ -158,14 +160,14 @@ sum_exact structs (u ∷ []) is x f h =
 sum_exact structs (u ∷ v ∷ us) is x f h = absurd is
 
 -- a test that passes none of the expressions of these programs
-record Skips (test : Exp → Bool) : Type 0 where
-  var : (x : Name) → test (Var x) ≡ false
-  number : (n : ℤ) → test (NumberLit n) ≡ false
-  arith_is : (a b : Exp) → test (Arith Add a b) ≡ false
-  between : (low high : ℤ) (a : Exp) → test (Between low a high) ≡ false
+pub record Skips (test : Exp → Bool) : Type 0 where
+  pub var : (x : Name) → test (Var x) ≡ false
+  pub number : (n : ℤ) → test (NumberLit n) ≡ false
+  pub arith_is : (a b : Exp) → test (Arith Add a b) ≡ false
+  pub between : (low high : ℤ) (a : Exp) → test (Between low a high) ≡ false
 
 module _ (test : Exp → Bool) (place_test : Place → Bool) (skips : Skips test) where
-  sum_skipped : (sum : Sum) → has test (exp_of_sum sum) ≡ false
+  pub sum_skipped : (sum : Sum) → has test (exp_of_sum sum) ≡ false
   sum_skipped (Named x) = skips.var x
   sum_skipped (Constant n) = skips.number (constant n)
   sum_skipped (Converted n) = skips.number (constant n)

@@ -4,6 +4,8 @@ pub mod ClassIsSum
 pub mod OneReturn
 pub mod Constants
 pub mod ExactSum
+pub mod SumForm
+pub mod TextNames
 pub mod ParameterNames
 pub mod Commands
 pub mod Complete

@@ -12,15 +12,17 @@ use Rattle.ac_expr.specs.Sort.{Level, Bytes, Numbers, NatKind}
 use Rattle.ac_expr.specs.Evaluation as E
 use Rattle.ac_expr.specs.View.{views_at}
 use Rattle.ac_expr.specs.Signature.{kinds_of, no_env}
-use Rattle.simpl_lang.specs.Command as K
-use Rattle.simpl_lang.specs.Exec.{Machine, machine_with, Returned}
+use Rattle.ac_expr.specs.GuardKind as K
+use Rattle.ac_expr.specs.Machine.{Machine, machine_with, Returned}
 use Rattle.monad_lang.specs.Program.{Mon, FinalFn, FinalUnit}
 use Rattle.monad_lang.specs.Run as M
-use Rattle.c_typed.specs.Typed as C
+use Rattle.c_lang.specs.Typed as C
 use Rattle.c_meaning.specs.CValue as V
 use Rattle.c_meaning.specs.CRun as R
-use Rattle.c_meaning.specs.Generate.{variables}
-use Rattle.ac_core.specs.Exact.{Begin, state_of, c_ends, program_ends, Fails, IsUndefined, seen, ReturnsAs, KeepsMemory, ExactFrom}
+use Rattle.c_meaning.specs.Kinds.{variables}
+use Rattle.c_memory.specs.Footprint.{KeepsMemory}
+use Rattle.exactness.specs.Exact.{Begin, c_ends, program_ends, Fails, IsUndefined, seen, ReturnsAs, ExactFrom}
+use Rattle.ac_expr.specs.States.{state_with}
 use Rattle.ac_core.specs.Sum.{unsigned_type, layout, c_parameter, parameter, levels}
 use Rattle.ac_core.proofs.Unsigned.{bits, same_itself, c_bound, m_bound, context}
 
@@ -73,13 +75,13 @@ module _ (structs : List StructDef) (name : Name) (params : List Name) (e : C.Ex
 
   module _ (b : Begin) (heap : Memory → Heap) where
     abbrev pub machine : Machine
-    machine = machine_with (c_bound params b.arguments no_env) (state_of (OnBytes b.memory) b.globals)
+    machine = machine_with (c_bound params b.arguments no_env) (state_with (OnBytes b.memory) b.globals)
 
     abbrev pub environment : E.Env
     environment = m_bound params b.arguments no_env
 
     abbrev pub start : E.State
-    start = state_of (heap b.memory) b.globals
+    start = state_with (heap b.memory) b.globals
 
     abbrev c_value : Level → V.Defined Value
     c_value level = V.value (context structs machine.locals environment machine.state start level) e
@@ -159,7 +161,7 @@ module _ (structs : List StructDef) (name : Name) (params : List Name) (e : C.Ex
 
       given_back : (r : M.Answer) → ReturnsAs (layout structs) (Some (NatKind 32)) heap plain_ends r → p_ends (Done r)
       given_back r h =
-          let is : record { result = h.value; state = state_of (OnBytes h.memory) r.state.globals } ≡ result (bits n) machine = plain_only (Done (record { result = h.value; state = state_of (OnBytes h.memory) r.state.globals })) h.returns in
+          let is : record { result = h.value; state = state_with (OnBytes h.memory) r.state.globals } ≡ result (bits n) machine = plain_only (Done (record { result = h.value; state = state_with (OnBytes h.memory) r.state.globals })) h.returns in
           let values : r.values ≡ Number (pos n) ∷ [] = h.values ∙ ap (λ z. seen (Some (NatKind 32)) z.result) is in
           let heap_is : r.state.heap ≡ heap b.memory = h.heap_is ∙ ap (λ z. heap (memory_in z.state.heap)) is in
           let globals : r.state.globals ≡ b.globals = ap (λ z. z.state.globals) is in

@@ -2,8 +2,8 @@
 use Rattle.std.proofs.Common.{◌≡◌, ℕ, ◌+◌, ◌<◌, ◌≤◌, List, [], ◌∷◌, ◌++◌, map, length, drop, get_or, sym, refl, ap, ◌∙◌, append_assoc, add-one, drop-cons, Option, Some, None}
 use Rattle.std.proofs.lemmas.List.{append-nil, drop_all}
 use Rattle.c_values.specs.Name.{Name}
-use Rattle.c_typed.specs.declared.tree.Variable.{Variable}
-use Rattle.c_typed.specs.View.{variable_of}
+use Rattle.c_lang.specs.declared.tree.Variable.{Variable}
+use Rattle.c_lang.specs.CodeTyped.{variable_of}
 use Rattle.ac_core.specs.Class.{unsigned_name, one_more, unsigned_names}
 
 -- the names before, and those of what is left

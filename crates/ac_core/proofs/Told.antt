@@ -7,9 +7,9 @@ use Rattle.c_lex.specs.Lexeme.{Lexeme}
 use Rattle.c_grammar.specs.Tree.{External}
 use Rattle.c_grammar.specs.Place.{IsPlace}
 use Rattle.c_parse.specs.Answer.{HasNoTree}
-use Rattle.c_typed.specs.Typed.{TypedUnit}
-use Rattle.c_typing.specs.Unit.{IsTyped, IsFirstBad}
-use Rattle.c_typing.specs.declared.fault.TypeKind.{TypeKind}
+use Rattle.c_lang.specs.Typed.{TypedUnit}
+use Rattle.typing_rules.specs.Unit.{IsTyped, IsFirstBad}
+use Rattle.typing_rules.specs.declared.fault.TypeKind.{TypeKind}
 use Rattle.ac_core.specs.Refusal.{kind_text, source_line}
 use Rattle.ac_core.specs.Answer.{IsTree, IsUnitAnswer, IsTreeAnswer, IsTokensAnswer}
 use Rattle.ac_core.specs.declared.status.Status.{Status}

@@ -17,13 +17,13 @@ use Rattle.ac_expr.specs.Sort.{Level, Bytes, Numbers, NatKind}
 use Rattle.ac_expr.specs.Evaluation as E
 use Rattle.ac_expr.specs.View.{view_at, views_at}
 use Rattle.ac_expr.specs.Signature.{names_of, kinds_of, bound}
-use Rattle.simpl_lang.specs.Command as K
+use Rattle.ac_expr.specs.GuardKind as K
 use Rattle.monad_lang.specs.Run as M
-use Rattle.c_typed.specs.Typed as C
+use Rattle.c_lang.specs.Typed as C
 use Rattle.c_meaning.specs.CValue as V
 use Rattle.c_meaning.specs.CValue.{◌>>=◌}
-use Rattle.c_meaning.specs.Generate.{variables}
-use Rattle.ac_core.specs.Exact.{AreArguments}
+use Rattle.c_meaning.specs.Kinds.{variables}
+use Rattle.c_meaning.specs.Fitting.{AreOfTypes}
 use Rattle.ac_core.specs.Sum.{layout, c_parameter, parameter}
 
 -- the word of a number
@@ -66,7 +66,7 @@ same_with : (v w a b : Value) (t : Bool) → Same v w → Same a b → Same (if 
 same_with v w a b true h k = h
 same_with v w a b false h k = k
 
-keeps : (structs : List StructDef) (xs : List Name) (vs : List Value) (c m : E.Env) (y : Name) → AreArguments (layout structs) (map c_parameter xs) vs → Same (c y) (m y) → Same (c_bound xs vs c y) (m_bound xs vs m y)
+keeps : (structs : List StructDef) (xs : List Name) (vs : List Value) (c m : E.Env) (y : Name) → AreOfTypes (layout structs) (map c_parameter xs) vs → Same (c y) (m y) → Same (c_bound xs vs c y) (m_bound xs vs m y)
 keeps structs [] [] c m y h s = s
 keeps structs [] (v ∷ vs) c m y h s = absurd h
 keeps structs (x ∷ xs) [] c m y h s = absurd h
@@ -75,7 +75,7 @@ keeps structs (x ∷ xs) (v ∷ vs) c m y h s =
     (same_with v (view_at (NatKind 32) v) (c y) (m y) (same_name x y) (argument_is v h.0) s)
 
 -- a name is this one, or among the others
-this_or_other : {P : Type 0} (x y : Name) (others : Bool) → (same_name x y || others) ≡ true → (same_name y x ≡ true → P) → (others ≡ true → P) → P
+pub this_or_other : {P : Type 0} (x y : Name) (others : Bool) → (same_name x y || others) ≡ true → (same_name y x ≡ true → P) → (others ≡ true → P) → P
 this_or_other {P} x y others h this other =
     elim (same_name x y) as (λ t. same_name x y ≡ t → (t || others) ≡ true → P) [
       | true ↦ λ same _. this (ap (λ z. same_name z x) (sym ((bytes_eq-Decides x y).0 same)) ∙ same_itself x)
@@ -83,7 +83,7 @@ this_or_other {P} x y others h this other =
     ] refl h
 
 -- each parameter stands for the same on both sides
-pub parameter_is : (structs : List StructDef) (xs : List Name) (vs : List Value) (c m : E.Env) (x : Name) → AreArguments (layout structs) (map c_parameter xs) vs → is_among x xs ≡ true → Same (c_bound xs vs c x) (m_bound xs vs m x)
+pub parameter_is : (structs : List StructDef) (xs : List Name) (vs : List Value) (c m : E.Env) (x : Name) → AreOfTypes (layout structs) (map c_parameter xs) vs → is_among x xs ≡ true → Same (c_bound xs vs c x) (m_bound xs vs m x)
 parameter_is structs [] vs c m x h among = absurd (false≢true among)
 parameter_is structs (y ∷ ys) [] c m x h among = absurd h
 parameter_is structs (y ∷ ys) (v ∷ vs) c m x h among =

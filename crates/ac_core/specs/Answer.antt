@@ -13,19 +13,21 @@ use Rattle.c_parse.specs.Answer.{HasNoTree, Passes}
 use Rattle.c_limits.specs.declared.limits.Limit as limits
 use Rattle.monad_lang.specs.Program.{FinalUnit, FinalFn}
 use Rattle.monad_lang.specs.Form.{is_numbers}
+use Rattle.monad_lang.specs.Sorted.{IsWellFormed}
 use Rattle.ac_base.specs.Count.{Rose}
 use Rattle.ac_base.specs.Shelf.{AreWhole, IsLonger}
 use Rattle.ac_base.specs.Sink.{grown, TakesPart}
 use Rattle.ac_core.specs.Words.{command_of, plain_show}
 use Rattle.c_values.specs.Types.{Ilp32}
-use Rattle.c_typed.specs.Typed.{TypedUnit}
-use Rattle.c_typing.specs.Unit.{IsTyped, IsFirstBad}
-use Rattle.c_typing.specs.declared.fault.TypeKind.{TypeKind}
+use Rattle.c_lang.specs.Typed.{TypedUnit}
+use Rattle.typing_rules.specs.Unit.{IsTyped, IsFirstBad}
+use Rattle.typing_rules.specs.declared.fault.TypeKind.{TypeKind}
 use Rattle.ac_core.specs.Sum.{SumFunction, levels}
 use Rattle.ac_core.specs.Class.{class_of}
 use Rattle.ac_core.specs.Refusal.{cause_text, kind_text, source_line, limit_line}
-use Rattle.ac_core.specs.Exact.{AreProgramsOf, IsExact}
+use Rattle.exactness.specs.Exact.{AreProgramsOf, IsExact}
 use Rattle.ac_core.specs.ProgramText.{unit_text}
+use Rattle.ac_core.specs.Spelled.{IsSpelled}
 use Rattle.ac_core.specs.declared.status.Status.{Status}
 use Rattle.ac_core.specs.declared.status.Status.TheVariants.{Done, Words, Source, ReadFault, WriteFault, Limit, Memory, NotYet}
 
@@ -44,13 +46,15 @@ pub record IsTree (ts : List Lexeme) (tree : List External) : Type 0 where
   pub within : first_limit tree ≡ None
 
 -- The unit is of the class that is shown, and what is written is the text of the programs of its C functions: at the level of
--- numbers, in numbers form, and exact.
+-- numbers, well-formed, in numbers form, with names and numbers of the text alone, and exact.
 pub record ShowsExact (unit : TypedUnit) (lines : List ℕ) : Type 0 where
   pub functions : List SumFunction
   pub programs : FinalUnit
   pub of_class : class_of unit ≡ Some functions
   pub of_unit : AreProgramsOf unit levels programs
   pub exact : IsExact unit levels programs
+  pub well_formed : IsWellFormed programs
+  pub spelled : IsSpelled programs
   pub numbers : AreInNumbers programs.functions
   pub written : lines ≡ unit_text programs
 

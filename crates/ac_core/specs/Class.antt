@@ -4,7 +4,7 @@
 use Rattle.std.specs.Prelude.{Bool, true, false, not, ◌&&◌, List, [], ◌∷◌, Option, Some, None, if◌then◌else◌}
 use Rattle.c_values.specs.Name.{Name, is_among}
 use Rattle.c_values.specs.Types.{Target, Ilp32, Lp64, Int, UInt, CType, Integer}
-use Rattle.c_typed.specs.Typed as C
+use Rattle.c_lang.specs.Typed as C
 use Rattle.ac_core.specs.Sum.{Sum, Named, Constant, Converted, Plus, SumFunction}
 
 abbrev pub is_ilp32 : Target → Bool

@@ -1,10 +1,10 @@
-pub mod Exact
-pub mod Triple
 pub mod ProgramText
+pub mod Spelled
 pub mod Words
 pub mod Sum
-pub mod SumCode
+pub mod CodeSum
 pub mod Refusal
 pub mod Class
 pub mod Answer
 pub mod Status
+pub mod CodeHeads

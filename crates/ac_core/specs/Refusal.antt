@@ -3,8 +3,8 @@ use Rattle.std.specs.Prelude.{ℕ, List, ◌++◌, codes}
 use Rattle.std.specs.Fmt.{decimal}
 use Rattle.c_lex.specs.Front.{Cause, bad_byte, bad_number, open_comment, unsupported, long_name}
 use Rattle.c_lex.specs.Unsupported.{unsupported_text}
-use Rattle.c_typing.specs.declared.fault.TypeKind.{TypeKind}
-use Rattle.c_typing.specs.declared.fault.TypeKind.TheVariants as kind
+use Rattle.typing_rules.specs.declared.fault.TypeKind.{TypeKind}
+use Rattle.typing_rules.specs.declared.fault.TypeKind.TheVariants as kind
 use Rattle.c_limits.specs.declared.limits.Limit.{Limit}
 use Rattle.c_limits.specs.declared.limits.Limit.TheVariants.{Functions, Statements, Blocks, Depth, Nodes}
 

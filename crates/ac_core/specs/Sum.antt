@@ -10,7 +10,7 @@ use Rattle.ac_expr.specs.Expression.{Exp, Var, NumberLit, Arith, Between}
 use Rattle.ac_expr.specs.Sort.{Level, Numbers, NatKind}
 use Rattle.ac_expr.specs.Signature.{Binder}
 use Rattle.monad_lang.specs.Program.{Mon, Ret, Bind, Guard, FinalFn, FinalUnit}
-use Rattle.c_typed.specs.Typed as C
+use Rattle.c_lang.specs.Typed as C
 
 pub data Sum : Type 0 where
   Named : Name → Sum

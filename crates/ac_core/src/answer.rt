@@ -1,10 +1,15 @@
 //! The answer to words: the status and the lines that go to the sink, made whole before the first byte is written.
 
-ghost use Rattle.std.specs.Prelude.{◌≡◌, ◌≤◌, ℕ, List, map, length, IfOk, None, Some, codes, string_bytes, ◌++◌};
+ghost use Rattle.std.specs.Prelude.{◌≡◌, ◌<◌, ◌≤◌, ◌^◌, ℕ, List, map, length, IfOk, None, Some, codes, string_bytes, ◌++◌};
 ghost use Rattle.ac_core.specs.Words.{command_of, plain_show};
 ghost use Rattle.c_lex.specs.Lexeme.{lexemes_of};
-ghost use Rattle.c_grammar.specs.View.{unit_of as tree_of};
-ghost use Rattle.c_typed.specs.View.{unit_of};
+ghost use Rattle.c_lex.specs.Tokens.{Tokens};
+ghost use Rattle.c_grammar.specs.Tree.{External};
+ghost use Rattle.c_grammar.specs.CodeTree.{unit_of as tree_of};
+ghost use Rattle.c_values.specs.Types.{Ilp32};
+ghost use Rattle.typing_rules.specs.Unit.{IsTyped};
+ghost use Rattle.typing_laws.specs.Written.{AreWritten};
+ghost use Rattle.c_lang.specs.CodeTyped.{unit_of};
 ghost use Rattle.ac_core.specs.Answer.{IsAnswer, IsUnshown, IsFileAnswer, IsTextAnswer, IsTokensAnswer, IsTreeAnswer, IsUnitAnswer};
 ghost use Rattle.ac_core.specs.declared.status.Status.{Status};
 
@@ -38,10 +43,13 @@ pub(crate) fn answer_to<H: Shelf>(
     words: &[String],
     shelf: &mut H,
 ) -> Result<Answer, AllocError>
-    ensures answer { IfOk result (λ a. IsAnswer (map string_bytes words.now) (H.contents shelf.old) (H.faults shelf.old) (H.faults shelf.new) a.status a.lines.items) }
+    ensures answer { IfOk result
+        (λ a. IsAnswer (map string_bytes words.now) (H.contents shelf.old) (H.faults shelf.old)
+        (H.faults shelf.new) a.status a.lines.items) }
     ensures contents { (name : List ℕ) → H.contents shelf.new name ≡ H.contents shelf.old name }
     ensures counts { (name : List ℕ) → H.faults shelf.old name ≤ H.faults shelf.new name }
-    ensures unasked { plain_show (command_of (map string_bytes words.now)) ≡ None → shelf.new ≡ shelf.old }
+    ensures unasked { plain_show (command_of (map string_bytes words.now)) ≡ None →
+        shelf.new ≡ shelf.old }
 {
     match shown_file(words) {
         Some(file) => show(alloc, file, shelf),
@@ -63,7 +71,9 @@ fn unshown(alloc: Global, words: &[String]) -> Result<Answer, AllocError>
 
 // What is shown of a file.
 fn show<H: Shelf>(alloc: Global, file: &str, shelf: &mut H) -> Result<Answer, AllocError>
-    ensures answer { IfOk result (λ a. IsFileAnswer file.now (H.contents shelf.old file.now) (H.faults shelf.old file.now) (H.faults shelf.new file.now) a.status a.lines.items) }
+    ensures answer { IfOk result
+        (λ a. IsFileAnswer file.now (H.contents shelf.old file.now) (H.faults shelf.old file.now)
+        (H.faults shelf.new file.now) a.status a.lines.items) }
     ensures contents { (name : List ℕ) → H.contents shelf.new name ≡ H.contents shelf.old name }
     ensures counts { (name : List ℕ) → H.faults shelf.old name ≤ H.faults shelf.new name }
 {
@@ -87,6 +97,7 @@ fn show_text(alloc: Global, text: &[u8]) -> Result<Answer, AllocError>
 
 // What is shown of the tokens of a text.
 fn show_tokens(alloc: Global, tokens: &[Token]) -> Result<Answer, AllocError>
+    requires { (text : List ℕ) × (length text < 2 ^ 64) × Tokens text (lexemes_of tokens.now) }
     ensures { IfOk result (λ a. IsTokensAnswer (lexemes_of tokens.now) a.status a.lines.items) }
 {
     match parse(alloc, tokens) {
@@ -99,6 +110,7 @@ fn show_tokens(alloc: Global, tokens: &[Token]) -> Result<Answer, AllocError>
 
 // What is shown of a tree.
 fn show_tree(alloc: Global, tree: &Unit) -> Result<Answer, AllocError>
+    requires { AreWritten (tree_of tree.now) }
     ensures { IfOk result (λ a. IsTreeAnswer (tree_of tree.now) a.status a.lines.items) }
 {
     match check_unit(alloc, Target::Ilp32, tree) {
@@ -110,6 +122,7 @@ fn show_tree(alloc: Global, tree: &Unit) -> Result<Answer, AllocError>
 
 // What is shown of a typed text.
 fn show_unit(alloc: Global, unit: TypedUnit) -> Result<Answer, AllocError>
+    requires { (tree : List External) × AreWritten tree × IsTyped Ilp32 tree (unit_of unit) }
     ensures { IfOk result (λ a. IsUnitAnswer (unit_of unit) a.status a.lines.items) }
 {
     match class_of(alloc, &unit)? {
@@ -125,7 +138,9 @@ fn show_unit(alloc: Global, unit: TypedUnit) -> Result<Answer, AllocError>
 }
 
 fn read_fault(alloc: Global, file: &str) -> Result<Answer, AllocError>
-    ensures { IfOk result (λ a. (a.status ≡ Status.ReadFault) × (a.lines.items ≡ codes "read fault: " ++ (file.now ++ codes "\n"))) }
+    ensures { IfOk result
+        (λ a. (a.status ≡ Status.ReadFault)
+        × (a.lines.items ≡ codes "read fault: " ++ (file.now ++ codes "\n"))) }
 {
     let mut lines = Vec::from_slice(alloc, b"read fault: ")?;
     lines.extend_from_slice(file.as_bytes())?;

@@ -3,13 +3,13 @@
 
 ghost use Rattle.std.specs.Prelude.{◌≡◌, map, IfOk, option_map, string_bytes};
 ghost use Rattle.c_values.specs.CodeTypes.{target_of, type_of};
-ghost use Rattle.c_typed.specs.View.{expr_of, function_of, statements_of, unit_of, variable_of};
+ghost use Rattle.c_lang.specs.CodeTyped.{expr_of, function_of, statements_of, unit_of, variable_of};
 ghost use Rattle.ac_core.specs.Class as shown;
-ghost use Rattle.ac_core.specs.SumCode as code;
+ghost use Rattle.ac_core.specs.CodeSum as code;
 
 use crate::sum::{Sum, SumFunction};
 use crate::words::is_among;
-use c_typed::tree::{Arithmetic, Expr, Statement, Statements, TypedFn, TypedUnit, Variable};
+use c_lang::tree::{Arithmetic, Expr, Statement, Statements, TypedFn, TypedUnit, Variable};
 use c_values::{CType, IntType, Target};
 use std::alloc::{AllocError, Global};
 
@@ -18,7 +18,8 @@ pub(crate) fn class_of(
     alloc: Global,
     unit: &TypedUnit,
 ) -> Result<Option<Vec<SumFunction>>, AllocError>
-    ensures { IfOk result (λ found. option_map (λ us. map code.function_of us.items) found ≡ shown.class_of (unit_of unit.now)) }
+    ensures { IfOk result (λ found. option_map (λ us. map code.function_of us.items) found
+        ≡ shown.class_of (unit_of unit.now)) }
 {
     if is_ilp32(unit.layout.target()) && unit.globals.is_empty() {
         sum_functions(alloc, &unit.functions)
@@ -40,7 +41,8 @@ fn sum_functions(
     alloc: Global,
     functions: &[TypedFn],
 ) -> Result<Option<Vec<SumFunction>>, AllocError>
-    ensures { IfOk result (λ found. option_map (λ us. map code.function_of us.items) found ≡ shown.sum_functions (map function_of functions.now)) }
+    ensures { IfOk result (λ found. option_map (λ us. map code.function_of us.items) found
+        ≡ shown.sum_functions (map function_of functions.now)) }
 {
     match functions {
         [] => Ok(Some(Vec::new(alloc))),
@@ -53,7 +55,8 @@ fn one_function(
     alloc: Global,
     function: Option<SumFunction>,
 ) -> Result<Option<Vec<SumFunction>>, AllocError>
-    ensures { IfOk result (λ found. option_map (λ us. map code.function_of us.items) found ≡ shown.one_function (option_map code.function_of function)) }
+    ensures { IfOk result (λ found. option_map (λ us. map code.function_of us.items) found
+        ≡ shown.one_function (option_map code.function_of function)) }
 {
     let Some(function) = function else {
         return Ok(None);
@@ -64,7 +67,9 @@ fn one_function(
 }
 
 fn sum_function(alloc: Global, function: &TypedFn) -> Result<Option<SumFunction>, AllocError>
-    ensures { IfOk result (λ found. option_map code.function_of found ≡ shown.sum_function (function_of function.now)) }
+    ensures { IfOk result
+        (λ found. option_map code.function_of found
+        ≡ shown.sum_function (function_of function.now)) }
 {
     if !is_bare(function) {
         return Ok(None);
@@ -109,7 +114,8 @@ fn is_unsigned(ty: &CType) -> bool
 
 // The names of parameters that are unsigned ints, each.
 fn unsigned_names(alloc: Global, params: &[Variable]) -> Result<Option<Vec<String>>, AllocError>
-    ensures { IfOk result (λ found. option_map (λ names. map string_bytes names.items) found ≡ shown.unsigned_names (map variable_of params.now)) }
+    ensures { IfOk result (λ found. option_map (λ names. map string_bytes names.items) found
+        ≡ shown.unsigned_names (map variable_of params.now)) }
 {
     let mut names = Vec::new(alloc);
     for param in params {
@@ -122,7 +128,8 @@ fn unsigned_names(alloc: Global, params: &[Variable]) -> Result<Option<Vec<Strin
 }
 
 fn unsigned_name(param: &Variable) -> Option<&String>
-    ensures { option_map (λ name. string_bytes name.now) result ≡ shown.unsigned_name (variable_of param.now) }
+    ensures { option_map (λ name. string_bytes name.now) result
+        ≡ shown.unsigned_name (variable_of param.now) }
 {
     if is_unsigned(&param.ty) {
         Some(&param.name)
@@ -133,7 +140,8 @@ fn unsigned_name(param: &Variable) -> Option<&String>
 
 // What a body gives that is one return.
 fn returned(body: &Statements) -> Option<&Expr>
-    ensures { option_map (λ value. expr_of value.now) result ≡ shown.returned (statements_of body.now) }
+    ensures { option_map (λ value. expr_of value.now) result
+        ≡ shown.returned (statements_of body.now) }
 {
     match body {
         Statements::Next(statement, others) => match (&**statement, &**others) {
@@ -145,7 +153,9 @@ fn returned(body: &Statements) -> Option<&Expr>
 }
 
 fn sum_of(alloc: Global, params: &[String], value: &Expr) -> Result<Option<Sum>, AllocError>
-    ensures { IfOk result (λ found. option_map code.sum_of found ≡ shown.sum_of (map string_bytes params.now) (expr_of value.now)) }
+    ensures { IfOk result
+        (λ found. option_map code.sum_of found ≡ shown.sum_of (map string_bytes params.now)
+        (expr_of value.now)) }
 {
     match value {
         Expr::Local(name, ty) if is_unsigned(ty) && is_among(name.as_str(), params) => {
@@ -173,7 +183,9 @@ fn converted(value: &Expr) -> Option<Sum>
 }
 
 fn plus(alloc: Global, left: Option<Sum>, right: Option<Sum>) -> Result<Option<Sum>, AllocError>
-    ensures { IfOk result (λ found. option_map code.sum_of found ≡ shown.plus (option_map code.sum_of left) (option_map code.sum_of right)) }
+    ensures { IfOk result
+        (λ found. option_map code.sum_of found ≡ shown.plus (option_map code.sum_of left)
+        (option_map code.sum_of right)) }
 {
     match (left, right) {
         (Some(left), Some(right)) => Ok(Some(Sum::Plus(

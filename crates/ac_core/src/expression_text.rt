@@ -6,8 +6,8 @@ ghost use Rattle.c_values.specs.CodeTypes.{int_type_of, type_of};
 ghost use Rattle.c_values.specs.CodeWord.{word_op_of, shift_op_of, unary_op_of, word_test_of};
 ghost use Rattle.c_values.specs.CodeNumber.{number_op_of};
 ghost use Rattle.ac_expr.specs.Expression.{WordLit};
-ghost use Rattle.ac_expr.specs.Heads.{IsTest, IsPlace};
-ghost use Rattle.ac_expr.specs.Code.{cast_op_of, exp_of, path_of};
+ghost use Rattle.ac_core.specs.CodeHeads.{IsTest, IsPlace};
+ghost use Rattle.ac_expr.specs.CodeExpression.{cast_op_of, exp_of, path_of};
 ghost use Rattle.ac_core.specs.ProgramText.{form, row, spaced, number_text, truth_text, int_type_text, type_text, word_op_text, shift_text, unary_text, test_text, cast_text, arith_text, exp_text, step_texts};
 
 use ac_expr::{CastOp, Exp, Path};
@@ -166,7 +166,8 @@ fn push_place(out: &mut Vec<u8>, exp: &Exp) -> Result<(), AllocError>
 // A list of a head and an expression.
 #[cycle(texts)]
 fn push_one(out: &mut Vec<u8>, head: &str, a: &Exp) -> Result<(), AllocError>
-    ensures { OnOk result (out.new.items ≡ out.old.items ++ form head.now (exp_text (exp_of a.now) ∷ [])) }
+    ensures { OnOk result
+        (out.new.items ≡ out.old.items ++ form head.now (exp_text (exp_of a.now) ∷ [])) }
 {
     push_first(out, head, a)?;
     push(out, ")")
@@ -175,7 +176,9 @@ fn push_one(out: &mut Vec<u8>, head: &str, a: &Exp) -> Result<(), AllocError>
 // A list of a head, a width and an expression.
 #[cycle(texts)]
 fn push_sized(out: &mut Vec<u8>, head: &str, width: u8, a: &Exp) -> Result<(), AllocError>
-    ensures { OnOk result (out.new.items ≡ out.old.items ++ form head.now (decimal width ∷ exp_text (exp_of a.now) ∷ [])) }
+    ensures { OnOk result
+        (out.new.items
+        ≡ out.old.items ++ form head.now (decimal width ∷ exp_text (exp_of a.now) ∷ [])) }
 {
     push(out, "(")?;
     push(out, head)?;
@@ -186,7 +189,9 @@ fn push_sized(out: &mut Vec<u8>, head: &str, width: u8, a: &Exp) -> Result<(), A
 
 #[cycle(texts)]
 fn push_between(out: &mut Vec<u8>, low: Number, a: &Exp, high: Number) -> Result<(), AllocError>
-    ensures { OnOk result (out.new.items ≡ out.old.items ++ form (codes "between") (number_text low ∷ exp_text (exp_of a.now) ∷ number_text high ∷ [])) }
+    ensures { OnOk result
+        (out.new.items ≡ out.old.items ++ form (codes "between")
+        (number_text low ∷ exp_text (exp_of a.now) ∷ number_text high ∷ [])) }
 {
     push(out, "(between ")?;
     push_number(out, low)?;
@@ -198,8 +203,10 @@ fn push_between(out: &mut Vec<u8>, low: Number, a: &Exp, high: Number) -> Result
 
 // The beginning of a list: a head and an expression.
 #[cycle(texts)]
-fn push_first(out: &mut Vec<u8>, head: &str, a: &Exp) -> Result<(), AllocError>
-    ensures { OnOk result (out.new.items ≡ out.old.items ++ (codes "(" ++ (head.now ++ (codes " " ++ exp_text (exp_of a.now))))) }
+pub(crate) fn push_first(out: &mut Vec<u8>, head: &str, a: &Exp) -> Result<(), AllocError>
+    ensures { OnOk result
+        (out.new.items
+        ≡ out.old.items ++ (codes "(" ++ (head.now ++ (codes " " ++ exp_text (exp_of a.now))))) }
 {
     push(out, "(")?;
     push(out, head)?;
@@ -208,8 +215,9 @@ fn push_first(out: &mut Vec<u8>, head: &str, a: &Exp) -> Result<(), AllocError>
 
 // An expression after a space.
 #[cycle(texts)]
-fn push_next(out: &mut Vec<u8>, a: &Exp) -> Result<(), AllocError>
-    ensures { OnOk result (out.new.items ≡ out.old.items ++ (codes " " ++ exp_text (exp_of a.now))) }
+pub(crate) fn push_next(out: &mut Vec<u8>, a: &Exp) -> Result<(), AllocError>
+    ensures { OnOk result
+        (out.new.items ≡ out.old.items ++ (codes " " ++ exp_text (exp_of a.now))) }
 {
     push(out, " ")?;
     push_exp(out, a)
@@ -217,8 +225,9 @@ fn push_next(out: &mut Vec<u8>, a: &Exp) -> Result<(), AllocError>
 
 // An expression after a space, and the end of its list.
 #[cycle(texts)]
-fn push_last(out: &mut Vec<u8>, a: &Exp) -> Result<(), AllocError>
-    ensures { OnOk result (out.new.items ≡ out.old.items ++ (codes " " ++ (exp_text (exp_of a.now) ++ codes ")"))) }
+pub(crate) fn push_last(out: &mut Vec<u8>, a: &Exp) -> Result<(), AllocError>
+    ensures { OnOk result
+        (out.new.items ≡ out.old.items ++ (codes " " ++ (exp_text (exp_of a.now) ++ codes ")"))) }
 {
     push_next(out, a)?;
     push(out, ")")
@@ -227,15 +236,18 @@ fn push_last(out: &mut Vec<u8>, a: &Exp) -> Result<(), AllocError>
 // A path's steps, and the end of their list.
 #[cycle(texts)]
 fn push_ending(out: &mut Vec<u8>, path: &Path) -> Result<(), AllocError>
-    ensures { OnOk result (out.new.items ≡ out.old.items ++ (spaced (step_texts (path_of path.now)) ++ codes ")")) }
+    ensures { OnOk result
+        (out.new.items ≡ out.old.items ++ (spaced (step_texts (path_of path.now)) ++ codes ")")) }
 {
     push_steps(out, path)?;
     push(out, ")")
 }
 
 // The beginning of a list: a head and a type.
-fn push_typed(out: &mut Vec<u8>, head: &str, t: &CType) -> Result<(), AllocError>
-    ensures { OnOk result (out.new.items ≡ out.old.items ++ (codes "(" ++ (head.now ++ (codes " " ++ type_text (type_of t.now))))) }
+pub(crate) fn push_typed(out: &mut Vec<u8>, head: &str, t: &CType) -> Result<(), AllocError>
+    ensures { OnOk result
+        (out.new.items
+        ≡ out.old.items ++ (codes "(" ++ (head.now ++ (codes " " ++ type_text (type_of t.now))))) }
 {
     push(out, "(")?;
     push(out, head)?;
@@ -245,8 +257,9 @@ fn push_typed(out: &mut Vec<u8>, head: &str, t: &CType) -> Result<(), AllocError
 
 // A path's steps as a list, after a space.
 #[cycle(texts)]
-fn push_path(out: &mut Vec<u8>, path: &Path) -> Result<(), AllocError>
-    ensures { OnOk result (out.new.items ≡ out.old.items ++ (codes " " ++ row (step_texts (path_of path.now)))) }
+pub(crate) fn push_path(out: &mut Vec<u8>, path: &Path) -> Result<(), AllocError>
+    ensures { OnOk result
+        (out.new.items ≡ out.old.items ++ (codes " " ++ row (step_texts (path_of path.now)))) }
 {
     match path {
         Path::Here => push(out, " ()"),
@@ -266,7 +279,8 @@ fn push_path(out: &mut Vec<u8>, path: &Path) -> Result<(), AllocError>
 // A path's steps, each after a space. It goes along the path by a loop, since a text may have long paths.
 #[cycle(texts)]
 fn push_steps(out: &mut Vec<u8>, path: &Path) -> Result<(), AllocError>
-    ensures { OnOk result (out.new.items ≡ out.old.items ++ spaced (step_texts (path_of path.now))) }
+    ensures { OnOk result
+        (out.new.items ≡ out.old.items ++ spaced (step_texts (path_of path.now))) }
 {
     let mut rest = path;
     'steps: loop {

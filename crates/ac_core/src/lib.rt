@@ -7,11 +7,13 @@ mod expression_text;
 mod generation_laws;
 mod program_text;
 mod refusal;
+mod spelling_laws;
 mod status;
 mod sum;
 mod top;
 mod words;
 
 pub use generation_laws::generated_texts_have_the_same_ends;
+pub use spelling_laws::other_programs_are_not_spelled;
 pub use status::Status;
 pub use top::autocorres;

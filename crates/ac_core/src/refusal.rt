@@ -17,7 +17,9 @@ use std::alloc::{AllocError, Global};
 
 /// The answer to a text that has no tokens, for the fault that the lexer tells.
 pub(crate) fn lex_refusal(alloc: Global, fault: LexFault) -> Result<Answer, AllocError>
-    ensures told { IfOk result (λ a. (a.status ≡ Status.Source) × Tells fault (λ cause at. a.lines.items ≡ source_line (cause_text cause) at)) }
+    ensures told { IfOk result
+        (λ a. (a.status ≡ Status.Source)
+        × Tells fault (λ cause at. a.lines.items ≡ source_line (cause_text cause) at)) }
     ensures memory { fault ≡ LexFault.Memory → IfOk result (λ _. ⊥) }
 {
     match fault {
@@ -32,14 +34,16 @@ pub(crate) fn lex_refusal(alloc: Global, fault: LexFault) -> Result<Answer, Allo
 
 /// The answer to tokens that no tree spells.
 pub(crate) fn syntax(alloc: Global, at: usize) -> Result<Answer, AllocError>
-    ensures { IfOk result (λ a. (a.status ≡ Status.Source) × (a.lines.items ≡ source_line (codes "syntax") at)) }
+    ensures { IfOk result
+        (λ a. (a.status ≡ Status.Source) × (a.lines.items ≡ source_line (codes "syntax") at)) }
 {
     source(alloc, "syntax", at)
 }
 
 /// The answer to a text whose first bad node is this.
 pub(crate) fn untyped(alloc: Global, at: u32, kind: TypeKind) -> Result<Answer, AllocError>
-    ensures { IfOk result (λ a. (a.status ≡ Status.Source) × (a.lines.items ≡ source_line (kind_text kind) at)) }
+    ensures { IfOk result
+        (λ a. (a.status ≡ Status.Source) × (a.lines.items ≡ source_line (kind_text kind) at)) }
 {
     source(alloc, kind_name(kind), at as usize)
 }
@@ -87,7 +91,9 @@ fn limit_name(limit: Limit) -> &'static str
 }
 
 fn unsupported(alloc: Global, word: Unsupported, at: usize) -> Result<Answer, AllocError>
-    ensures { IfOk result (λ a. (a.status ≡ Status.Source) × (a.lines.items ≡ source_line (codes "unsupported " ++ unsupported_text word) at)) }
+    ensures { IfOk result
+        (λ a. (a.status ≡ Status.Source)
+        × (a.lines.items ≡ source_line (codes "unsupported " ++ unsupported_text word) at)) }
 {
     let mut lines = Vec::from_slice(alloc, b"source: unsupported ")?;
     push(&mut lines, word.text())?;
@@ -95,7 +101,8 @@ fn unsupported(alloc: Global, word: Unsupported, at: usize) -> Result<Answer, Al
 }
 
 fn source(alloc: Global, kind: &str, at: usize) -> Result<Answer, AllocError>
-    ensures { IfOk result (λ a. (a.status ≡ Status.Source) × (a.lines.items ≡ source_line kind.now at)) }
+    ensures { IfOk result
+        (λ a. (a.status ≡ Status.Source) × (a.lines.items ≡ source_line kind.now at)) }
 {
     let mut lines = Vec::from_slice(alloc, b"source: ")?;
     push(&mut lines, kind)?;
@@ -104,7 +111,9 @@ fn source(alloc: Global, kind: &str, at: usize) -> Result<Answer, AllocError>
 
 // The end of the line, which tells the place.
 fn at_offset(mut lines: Vec<u8>, at: usize) -> Result<Answer, AllocError>
-    ensures { IfOk result (λ a. (a.status ≡ Status.Source) × (a.lines.items ≡ lines.items ++ (codes " at " ++ (decimal at ++ codes "\n")))) }
+    ensures { IfOk result
+        (λ a. (a.status ≡ Status.Source)
+        × (a.lines.items ≡ lines.items ++ (codes " at " ++ (decimal at ++ codes "\n")))) }
 {
     push(&mut lines, " at ")?;
     push(&mut lines, Buffer::new().format(at))?;

@@ -2,15 +2,16 @@
 
 ghost use Rattle.std.specs.Prelude.{◌≡◌, [], map, IfOk, string_bytes};
 ghost use Rattle.c_values.specs.Types.{Ilp32};
-ghost use Rattle.ac_expr.specs.Code.{exp_of};
-ghost use Rattle.monad_lang.specs.Code.{mon_of, binder_of, final_fn_of, final_unit_of};
+ghost use Rattle.ac_expr.specs.CodeExpression.{exp_of};
+ghost use Rattle.ac_expr.specs.CodeSignature.{binder_of};
+ghost use Rattle.monad_lang.specs.CodeProgram.{mon_of, final_fn_of, final_unit_of};
 ghost use Rattle.ac_core.specs.Sum as sums;
-ghost use Rattle.ac_core.specs.SumCode.{sum_of, function_of};
+ghost use Rattle.ac_core.specs.CodeSum.{sum_of, function_of};
 
-use ac_expr::{Exp, Kind, Level};
+use ac_expr::{Binder, Exp, Kind, Level};
 use c_values::views::word;
 use c_values::{Layout, Number, NumberOp, nat};
-use monad_lang::{Binder, FinalFn, FinalUnit, Mon};
+use monad_lang::{FinalFn, FinalUnit, Mon};
 use std::alloc::{AllocError, Global};
 
 /// A sum as the text groups it.
@@ -41,7 +42,9 @@ pub(crate) fn translate(
     functions: &[SumFunction],
 ) -> Result<FinalUnit, AllocError>
     requires { layout.target ≡ Ilp32 }
-    ensures { IfOk result (λ programs. final_unit_of programs ≡ sums.final_unit_of layout.structs (map function_of functions.now)) }
+    ensures { IfOk result
+        (λ programs. final_unit_of programs
+        ≡ sums.final_unit_of layout.structs (map function_of functions.now)) }
 {
     Ok(FinalUnit {
         layout,
@@ -51,7 +54,9 @@ pub(crate) fn translate(
 }
 
 fn final_functions(alloc: Global, functions: &[SumFunction]) -> Result<Vec<FinalFn>, AllocError>
-    ensures { IfOk result (λ programs. map final_fn_of programs.items ≡ map sums.final_fn_of (map function_of functions.now)) }
+    ensures { IfOk result
+        (λ programs. map final_fn_of programs.items
+        ≡ map sums.final_fn_of (map function_of functions.now)) }
 {
     let mut programs = Vec::new(alloc);
     for function in functions {
@@ -61,7 +66,8 @@ fn final_functions(alloc: Global, functions: &[SumFunction]) -> Result<Vec<Final
 }
 
 fn final_function(alloc: Global, function: &SumFunction) -> Result<FinalFn, AllocError>
-    ensures { IfOk result (λ program. final_fn_of program ≡ sums.final_fn_of (function_of function.now)) }
+    ensures { IfOk result
+        (λ program. final_fn_of program ≡ sums.final_fn_of (function_of function.now)) }
 {
     let mut results = Vec::new(alloc);
     results.push(Kind::Nat(32))?;
@@ -75,7 +81,8 @@ fn final_function(alloc: Global, function: &SumFunction) -> Result<FinalFn, Allo
 }
 
 fn parameters(alloc: Global, names: &[String]) -> Result<Vec<Binder>, AllocError>
-    ensures { IfOk result (λ params. map binder_of params.items ≡ map sums.parameter (map string_bytes names.now)) }
+    ensures { IfOk result
+        (λ params. map binder_of params.items ≡ map sums.parameter (map string_bytes names.now)) }
 {
     let mut params = Vec::new(alloc);
     for name in names {
@@ -97,7 +104,8 @@ fn body(alloc: Global, sum: &Sum) -> Result<Mon, AllocError>
 
 // The guards of a sum's parts, from the left, then its own, and then the rest.
 fn guarded(alloc: Global, sum: &Sum, rest: Mon) -> Result<Mon, AllocError>
-    ensures { IfOk result (λ program. mon_of program ≡ sums.guarded (sum_of sum.now) (mon_of rest)) }
+    ensures { IfOk result
+        (λ program. mon_of program ≡ sums.guarded (sum_of sum.now) (mon_of rest)) }
 {
     match sum {
         Sum::Named(_) | Sum::Constant(_) | Sum::Converted(_) => Ok(rest),

@@ -7,8 +7,8 @@ ghost use Rattle.c_lex.specs.Tokens.{Tokens};
 ghost use Rattle.c_grammar.specs.Tree.{External};
 ghost use Rattle.ac_core.specs.Words.{command_of, plain_show};
 ghost use Rattle.c_values.specs.Types.{Ilp32};
-ghost use Rattle.c_typed.specs.Typed.{TypedUnit};
-ghost use Rattle.c_typing.specs.Unit.{IsTyped};
+ghost use Rattle.c_lang.specs.Typed.{TypedUnit};
+ghost use Rattle.typing_rules.specs.Unit.{IsTyped};
 ghost use Rattle.ac_core.specs.Sum.{SumFunction};
 ghost use Rattle.ac_core.specs.Class.{class_of};
 ghost use Rattle.ac_core.specs.Answer.{EndsWith, IsTree, source_limit};
@@ -30,19 +30,23 @@ pub fn autocorres<H: Shelf, K: Sink>(
     sink: &mut K,
 ) -> Status
     // Each status with its cause, and what was written. Where programs were written, they are exact against the C.
-    ensures ends { EndsWith (map string_bytes words.now) (H.contents shelf.old) (H.faults shelf.old) (H.faults shelf.new)
+    ensures ends { EndsWith (map string_bytes words.now) (H.contents shelf.old) (H.faults shelf.old)
+        (H.faults shelf.new)
         (K.taken sink.old) (K.taken sink.new) (K.faults sink.old) (K.faults sink.new) result }
 
     // A text that can be shown is shown, where neither its file nor the sink fails, unless memory runs out.
-    ensures complete { (file text : List ℕ) (ts : List Lexeme) (tree : List External) (unit : TypedUnit) (functions : List SumFunction) →
+    ensures complete { (file text : List ℕ) (ts : List Lexeme) (tree : List External)
+        (unit : TypedUnit) (functions : List SumFunction) →
         plain_show (command_of (map string_bytes words.now)) ≡ Some file →
         H.contents shelf.old file ≡ Some text → length text ≤ source_limit →
         Tokens text ts → IsTree ts tree → IsTyped Ilp32 tree unit → class_of unit ≡ Some functions →
-        ¬ Rose (H.faults shelf.old file) (H.faults shelf.new file) → ¬ Rose (K.faults sink.old) (K.faults sink.new) →
+        ¬ Rose (H.faults shelf.old file) (H.faults shelf.new file) →
+        ¬ Rose (K.faults sink.old) (K.faults sink.new) →
         (result ≡ Status.Done) ⊎ (result ≡ Status.Memory) }
 
     // The shelf isn't asked for anything where nothing is to be shown.
-    ensures unasked { plain_show (command_of (map string_bytes words.now)) ≡ None → shelf.new ≡ shelf.old }
+    ensures unasked { plain_show (command_of (map string_bytes words.now)) ≡ None →
+        shelf.new ≡ shelf.old }
     ensures contents { (name : List ℕ) → H.contents shelf.new name ≡ H.contents shelf.old name }
     ensures counts { (name : List ℕ) → H.faults shelf.old name ≤ H.faults shelf.new name }
     ensures sink_count { K.faults sink.old ≤ K.faults sink.new }

@@ -6,7 +6,8 @@ ghost use Rattle.ac_core.specs.Words.{command_of, plain_show, ilp32_word, lp64_w
 
 /// The file of `show FILE`, where the words are of that form and have no option.
 pub(crate) fn shown_file(words: &[String]) -> Option<&str>
-    ensures shown { IfSome result (λ file. plain_show (command_of (map string_bytes words.now)) ≡ Some file.now) }
+    ensures shown { IfSome result (λ file. plain_show (command_of (map string_bytes words.now))
+        ≡ Some file.now) }
     ensures other { IfNone result (plain_show (command_of (map string_bytes words.now)) ≡ None) }
 {
     let [command, file] = words else {
@@ -55,7 +56,8 @@ fn are_options(words: &[String]) -> bool
 
 // Whether both targets are among the words.
 fn have_both_targets(words: &[String]) -> bool
-    ensures { result ≡ (is_among ilp32_word (map string_bytes words.now) && is_among lp64_word (map string_bytes words.now)) }
+    ensures { result ≡ (is_among ilp32_word (map string_bytes words.now) && is_among lp64_word
+        (map string_bytes words.now)) }
 {
     is_among("target=ilp32", words) && is_among("target=lp64", words)
 }

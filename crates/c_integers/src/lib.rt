@@ -52,7 +52,8 @@ fn unsigned_of(ty: IntType) -> IntType
 
 // The common type of a signed type and an unsigned one, both promoted.
 fn mixed(target: Target, signed: IntType, unsigned: IntType) -> IntType
-    ensures { int_type_of result ≡ integers.mixed (target_of target) (int_type_of signed) (int_type_of unsigned) }
+    ensures { int_type_of result ≡ integers.mixed (target_of target) (int_type_of signed)
+        (int_type_of unsigned) }
 {
     if rank(signed) <= rank(unsigned) {
         unsigned
@@ -65,7 +66,8 @@ fn mixed(target: Target, signed: IntType, unsigned: IntType) -> IntType
 
 // The common type of two promoted types.
 fn common(target: Target, first: IntType, second: IntType) -> IntType
-    ensures { int_type_of result ≡ integers.common (target_of target) (is_signed (int_type_of first))
+    ensures { int_type_of result
+        ≡ integers.common (target_of target) (is_signed (int_type_of first))
         (is_signed (int_type_of second)) (int_type_of first) (int_type_of second) }
 {
     match (is_signed(first), is_signed(second)) {
@@ -88,7 +90,8 @@ fn higher(first: IntType, second: IntType) -> IntType
 
 /// The type at which two operands meet: that of the usual arithmetic conversions.
 pub fn usual(target: Target, first: IntType, second: IntType) -> IntType
-    ensures { int_type_of result ≡ integers.usual (target_of target) (int_type_of first) (int_type_of second) }
+    ensures { int_type_of result ≡ integers.usual (target_of target) (int_type_of first)
+        (int_type_of second) }
 {
     common(target, promoted(first), promoted(second))
 }
@@ -101,14 +104,16 @@ pub fn number_type(
     unsigned: bool,
     longs: u8,
 ) -> Option<IntType>
-    ensures { option_map int_type_of result ≡ integers.number_type (target_of target) value decimal unsigned longs }
+    ensures { option_map int_type_of result
+        ≡ integers.number_type (target_of target) value decimal unsigned longs }
 {
     first_holding(target, candidates(decimal, unsigned, longs), value)
 }
 
 // The first type that holds a value.
 fn first_holding(target: Target, types: &[IntType], value: u64) -> Option<IntType>
-    ensures { result ≡ find (λ ty. is_of_type (target_of target) (int_type_of ty) (pos value)) types.now }
+    ensures { result ≡ find
+        (λ ty. is_of_type (target_of target) (int_type_of ty) (pos value)) types.now }
 {
     types.iter().copied().find(|ty| holds(target, *ty, value))
 }
@@ -121,7 +126,8 @@ fn holds(target: Target, ty: IntType, value: u64) -> bool
 
 // The types that a number may have, in the order in which they are tried.
 fn candidates(decimal: bool, unsigned: bool, longs: u8) -> &'static [IntType]
-    ensures { map int_type_of result.now ≡ map integers.integer_type (lex.types_of decimal unsigned longs) }
+    ensures { map int_type_of result.now
+        ≡ map integers.integer_type (lex.types_of decimal unsigned longs) }
 {
     if unsigned {
         unsigned_candidates(longs)
@@ -133,7 +139,8 @@ fn candidates(decimal: bool, unsigned: bool, longs: u8) -> &'static [IntType]
 }
 
 fn decimal_candidates(longs: u8) -> &'static [IntType]
-    ensures { map int_type_of result.now ≡ map integers.integer_type (lex.types_of true false longs) }
+    ensures { map int_type_of result.now
+        ≡ map integers.integer_type (lex.types_of true false longs) }
 {
     match longs {
         0 => &[IntType::Int, IntType::Long, IntType::LLong],
@@ -143,7 +150,8 @@ fn decimal_candidates(longs: u8) -> &'static [IntType]
 }
 
 fn unsigned_candidates(longs: u8) -> &'static [IntType]
-    ensures { (decimal : Bool) → map int_type_of result.now ≡ map integers.integer_type (lex.types_of decimal true longs) }
+    ensures { (decimal : Bool) → map int_type_of result.now
+        ≡ map integers.integer_type (lex.types_of decimal true longs) }
 {
     match longs {
         0 => &[IntType::UInt, IntType::ULong, IntType::ULLong],
@@ -154,7 +162,8 @@ fn unsigned_candidates(longs: u8) -> &'static [IntType]
 
 // Octal and hexadecimal ones may be unsigned without a `u`.
 fn other_candidates(longs: u8) -> &'static [IntType]
-    ensures { map int_type_of result.now ≡ map integers.integer_type (lex.types_of false false longs) }
+    ensures { map int_type_of result.now
+        ≡ map integers.integer_type (lex.types_of false false longs) }
 {
     match longs {
         0 => &[

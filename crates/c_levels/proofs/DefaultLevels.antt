@@ -7,16 +7,16 @@ use Rattle.std.proofs.lemmas.Bool.{true≢false, cond-true, cond-false}
 use Rattle.std.proofs.lemmas.List.{length-map}
 use Rattle.c_values.specs.Name.{Name, same_name, is_among}
 use Rattle.ac_expr.specs.Sort.{Level, Bytes, Words, Numbers}
-use Rattle.c_typed.specs.Typed.{TypedFn, TypedUnit}
+use Rattle.c_lang.specs.Typed.{TypedFn, TypedUnit}
 use Rattle.c_meaning.specs.Levels.{OnBytes, HasDefaultLevel, AreDefaultLevels, casts}
-use Rattle.c_levels.specs.Spread.{Among, Reached, at_start, led_to, IsSpread, leads_by}
+use Rattle.c_levels.specs.CodeSpread.{Among, Reached, at_start, led_to, IsSpread, leads_by}
 use Rattle.c_levels.specs.CodeCalls.{AreTogether, is_start, call_of, calls_from, callers_of, function_names}
 use Rattle.c_levels.specs.CodeModes.{IsAt, AreLevels, default_level, default_levels}
-use Rattle.ac_expr.specs.Code.{level_of}
-use Rattle.c_typed.specs.View.{function_of, unit_of}
-use Rattle.c_typed.specs.declared.tree.TypedFn as F
-use Rattle.c_typed.specs.declared.tree.TypedUnit as U
-use Rattle.c_typed.specs.WellTyped.{IsWellTyped}
+use Rattle.ac_expr.specs.CodeExpression.{level_of}
+use Rattle.c_lang.specs.CodeTyped.{function_of, unit_of}
+use Rattle.c_lang.specs.declared.tree.TypedFn as F
+use Rattle.c_values.specs.declared.program.Program as P
+use Rattle.c_lang.specs.WellTyped.{IsWellTyped}
 use Rattle.c_levels.specs.declared.modes.Modes.{Modes}
 use Rattle.c_levels.proofs.Positions.{stands, plain_callers}
 use Rattle.c_levels.proofs.Together.{are_together}
@@ -117,7 +117,7 @@ same_names [] = refl
 same_names (f ∷ fs) = ap (λ xs. string_bytes f.name ∷ xs) (same_names fs)
 
 -- what the code makes of a unit
-pub record MadeLevels (u : U.TypedUnit) (chosen worded : List Name) (m : Modes) : Type 0 where
+pub record MadeLevels (u : P.Program F.TypedFn) (chosen worded : List Name) (m : Modes) : Type 0 where
   pub is_chosen : Name → Bool
   pub is_worded : Name → Bool
   pub calls : List (String Global × ℕ)
@@ -132,7 +132,7 @@ pub record MadeLevels (u : U.TypedUnit) (chosen worded : List Name) (m : Modes) 
   pub spread : IsSpread (leads_by (map (λ f. string_bytes f.name) u.functions.items) table) start marks
   pub made : map level_of m.levels.items ≡ default_levels is_worded (map function_of u.functions.items) marks
 
-pub made_defaults : (u : U.TypedUnit) (chosen worded : List Name) (m : Modes) → MadeLevels u chosen worded m → (levels : Name → Level) →
+pub made_defaults : (u : P.Program F.TypedFn) (chosen worded : List Name) (m : Modes) → MadeLevels u chosen worded m → (levels : Name → Level) →
     IsWellTyped (unit_of u) → AreLevels (unit_of u) m levels → AreDefaultLevels (unit_of u) chosen worded levels
 made_defaults u chosen worded m h levels t e =
     defaults (unit_of u) chosen worded levels h.table h.start h.marks (are_together (unit_of u) t)
@@ -141,7 +141,7 @@ made_defaults u chosen worded m h levels t e =
     (subst (λ ns. IsSpread (leads_by ns h.table) h.start h.marks) (same_names u.functions.items) h.spread)
     (e ∙ h.made ∙ levels_alike h.is_worded (λ x. is_among x worded) h.worded_are (map function_of u.functions.items) h.marks)
 
-pub made_count : (u : U.TypedUnit) (chosen worded : List Name) (m : Modes) → MadeLevels u chosen worded m → length m.levels.items ≡ length u.functions.items
+pub made_count : (u : P.Program F.TypedFn) (chosen worded : List Name) (m : Modes) → MadeLevels u chosen worded m → length m.levels.items ≡ length u.functions.items
 made_count u chosen worded m h =
     let n : length h.marks ≡ length (map function_of u.functions.items) = h.spread.count ∙ ap length h.started ∙ simp length-map in
     let k = counted h.is_worded (map function_of u.functions.items) h.marks n in

@@ -4,11 +4,11 @@ use Rattle.std.specs.List.{list_all}
 use Rattle.std.proofs.lemmas.Bool.{cond-true, cond-false}
 use Rattle.c_values.specs.Name.{Name, is_among}
 use Rattle.ac_expr.specs.Sort.{Level}
-use Rattle.ac_expr.specs.Code.{level_of}
-use Rattle.c_typed.specs.Typed.{TypedFn}
-use Rattle.c_typed.specs.View.{function_of, unit_of}
-use Rattle.c_typed.specs.declared.tree.TypedFn as F
-use Rattle.c_typed.specs.declared.tree.TypedUnit as U
+use Rattle.ac_expr.specs.CodeExpression.{level_of}
+use Rattle.c_lang.specs.Typed.{TypedFn}
+use Rattle.c_lang.specs.CodeTyped.{function_of, unit_of}
+use Rattle.c_lang.specs.declared.tree.TypedFn as F
+use Rattle.c_values.specs.declared.program.Program as P
 use Rattle.c_levels.specs.declared.modes.Modes.{Modes}
 use Rattle.c_levels.specs.declared.modes.Reason.TheVariants as R
 use Rattle.c_meaning.specs.Levels.{ByCast, casts, callees_in, reason, call_or_choice, first_on_bytes}
@@ -23,13 +23,13 @@ at_index [] k x g e a = absurd a
 at_index (f ∷ fs) zero x g e a = ap function_of e ∙ a
 at_index (f ∷ fs) (suc k) x g e a = at_index fs k x g e a
 
-pub by_cast : (u : U.TypedUnit) (k : ℕ) (x : F.TypedFn) (levels : Name → Level) (g : TypedFn) → x ≡ get_or u.functions.items k x → casts (function_of x) ≡ true →
+pub by_cast : (u : P.Program F.TypedFn) (k : ℕ) (x : F.TypedFn) (levels : Name → Level) (g : TypedFn) → x ≡ get_or u.functions.items k x → casts (function_of x) ≡ true →
     IsAt (map function_of u.functions.items) k g → IsReason (function_names (unit_of u)) R.Cast (reason levels g)
 by_cast u k x levels g e c a =
     let h : casts g ≡ true = ap casts (sym (at_index u.functions.items k x g e a)) ∙ c in
     subst (IsReason (function_names (unit_of u)) R.Cast) (sym (cond-true (casts g) ByCast (call_or_choice (first_on_bytes levels (callees_in g.body))) h)) tt
 
-told : (u : U.TypedUnit) (m : Modes) (k : ℕ) (x : F.TypedFn) (levels : Name → Level) (g : TypedFn) → x ≡ get_or u.functions.items k x →
+told : (u : P.Program F.TypedFn) (m : Modes) (k : ℕ) (x : F.TypedFn) (levels : Name → Level) (g : TypedFn) → x ≡ get_or u.functions.items k x →
     AreTogether (unit_of u) → AreLevels (unit_of u) m levels → IsAt (map function_of u.functions.items) k g →
     Tells (function_names (unit_of u)) (first_position (map function_of u.functions.items) (map level_of m.levels.items) (callees_in (function_of x).body)) (first_on_bytes levels (callees_in g.body))
 told u m k x levels g e t l a =
@@ -46,7 +46,7 @@ by_call_or_choice names r None None t f g = subst (λ s. IsReason names s (call_
 by_call_or_choice names r (Some n) None t f g = absurd t
 by_call_or_choice names r None (Some x) t f g = absurd t
 
-pub otherwise : (u : U.TypedUnit) (m : Modes) (k : ℕ) (x : F.TypedFn) (levels : Name → Level) (g : TypedFn) (q : Option ℕ) (r : R.the_data) → x ≡ get_or u.functions.items k x → casts (function_of x) ≡ false →
+pub otherwise : (u : P.Program F.TypedFn) (m : Modes) (k : ℕ) (x : F.TypedFn) (levels : Name → Level) (g : TypedFn) (q : Option ℕ) (r : R.the_data) → x ≡ get_or u.functions.items k x → casts (function_of x) ≡ false →
     q ≡ first_position (map function_of u.functions.items) (map level_of m.levels.items) (callees_in (function_of x).body) →
     ((n : ℕ) → q ≡ Some n → (j : ℕ) × ((r ≡ R.Calls j) × (j ≡ min n 4294967295))) → (q ≡ None → r ≡ R.Chosen) →
     AreTogether (unit_of u) → AreLevels (unit_of u) m levels → IsAt (map function_of u.functions.items) k g → IsReason (function_names (unit_of u)) r (reason levels g)

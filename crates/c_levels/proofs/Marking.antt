@@ -4,7 +4,7 @@ use Rattle.std.proofs.Math.ListN.{set}
 use Rattle.std.proofs.lemmas.List.{get_or_default, length_push, length-set, get_or-set_same, get_or-set_other}
 use Rattle.std.proofs.lemmas.Bool.{cases_eq}
 use Rattle.std.proofs.lemmas.Bool.Decides.{nat_tests}
-use Rattle.c_levels.specs.Spread.{Among, IsMarked, Marking, is_unmarked, marked, all_marked}
+use Rattle.c_levels.specs.CodeSpread.{Among, IsMarked, Marking, is_unmarked, marked, all_marked}
 
 -- how many aren't marked
 abbrev pub unmarked : List Bool → ℕ

@@ -5,9 +5,9 @@ use Rattle.std.proofs.lemmas.Bool.{and_parts, or_cases, or_left, or_right, cases
 use Rattle.std.proofs.lemmas.List.{length-map}
 use Rattle.c_values.specs.Name.{Name, same_name, is_among}
 use Rattle.c_values.proofs.Laid.{name_is}
-use Rattle.c_typed.specs.Typed.{TypedFn, TypedUnit, typed_fn}
+use Rattle.c_lang.specs.Typed.{TypedFn, TypedUnit, typed_fn}
 use Rattle.c_meaning.specs.Levels.{OnBytes, by_cast, by_choice, by_call, casts, callees_in}
-use Rattle.c_levels.specs.Spread.{Among, Reached, at_start, led_to, leads_by}
+use Rattle.c_levels.specs.CodeSpread.{Among, Reached, at_start, led_to, leads_by}
 use Rattle.c_levels.specs.CodeCalls.{AreTogether, calls_from, function_names, is_start}
 use Rattle.c_levels.specs.CodeModes.{IsAt}
 use Rattle.c_levels.proofs.Positions.{there, same_at, below, made_at, found, named, plain_callers, calls_it, is_caller}

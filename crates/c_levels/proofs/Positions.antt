@@ -4,9 +4,9 @@ use Rattle.std.specs.List.{filter}
 use Rattle.std.proofs.lemmas.Bool.{and_parts, true≢false, cond-true, cond-false}
 use Rattle.c_values.specs.Name.{Name, same_name, is_among, are_distinct}
 use Rattle.c_values.proofs.Laid.{same_name-refl, name_is}
-use Rattle.c_typed.specs.Typed.{TypedFn, typed_fn}
+use Rattle.c_lang.specs.Typed.{TypedFn, typed_fn}
 use Rattle.c_meaning.specs.Levels.{callees_in}
-use Rattle.c_levels.specs.Spread.{Among}
+use Rattle.c_levels.specs.CodeSpread.{Among}
 use Rattle.c_levels.specs.CodeModes.{IsAt}
 use Rattle.c_levels.specs.CodeCalls.{calls_by, calls_from}
 

@@ -1,7 +1,7 @@
 -- Marks that spread, one marked position after the other.
 use Rattle.std.proofs.Common.{◌≡◌, ℕ, zero, suc, ◌+◌, ◌<◌, Bool, true, false, List, [], ◌∷◌, ◌++◌, length, ◌⊎◌, inl, inr, refl, sym, ap, ◌∙◌, subst, arith}
 use Rattle.std.proofs.lemmas.List.{length_push}
-use Rattle.c_levels.specs.Spread.{Among, IsMarked, Reached, at_start, led_to, Marking, all_marked, IsSpread, positions_from}
+use Rattle.c_levels.specs.CodeSpread.{Among, IsMarked, Reached, at_start, led_to, Marking, all_marked, IsSpread, positions_from}
 use Rattle.c_levels.proofs.Marking.{unmarked, Marks, all_are_marked, among_left, among_parts, among_right}
 
 -- Each marked position waits, or has spread.

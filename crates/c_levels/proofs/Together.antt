@@ -4,8 +4,8 @@ use Rattle.std.specs.List.{list_all}
 use Rattle.std.proofs.lemmas.Bool.{and_parts, or_left, or_right}
 use Rattle.c_values.specs.Name.{Name, same_name, is_among, are_distinct}
 use Rattle.c_values.proofs.Laid.{same_name-refl}
-use Rattle.c_typed.specs.Typed as C
-use Rattle.c_typed.specs.WellTyped as W
+use Rattle.c_lang.specs.Typed as C
+use Rattle.c_lang.specs.WellTyped as W
 use Rattle.c_meaning.specs.Levels.{callees, callees_in, callees_of}
 use Rattle.c_levels.specs.CodeModes.{IsAt}
 use Rattle.c_levels.specs.CodeCalls.{AreTogether, function_names}

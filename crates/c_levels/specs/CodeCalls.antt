@@ -3,7 +3,7 @@ use Rattle.std.specs.Prelude.{◌≡◌, ℕ, ◌+◌, Bool, true, ◌||◌, Lis
 use Rattle.std.specs.List.{list_all}
 use Rattle.std.specs.declared.alloc.Global.{Global}
 use Rattle.c_values.specs.Name.{Name, same_name, is_among, are_distinct}
-use Rattle.c_typed.specs.Typed.{TypedFn, TypedUnit}
+use Rattle.c_lang.specs.Typed.{TypedFn, TypedUnit}
 use Rattle.c_meaning.specs.Levels.{casts, callees_in}
 
 abbrev pub call_of : String Global × ℕ → Name × ℕ

@@ -2,8 +2,8 @@
 use Rattle.std.specs.Prelude.{◌≡◌, ℕ, zero, suc, Bool, true, false, List, [], ◌∷◌, map, if◌then◌else◌}
 use Rattle.c_values.specs.Name.{Name}
 use Rattle.ac_expr.specs.Sort.{Level, Bytes, Words, Numbers}
-use Rattle.ac_expr.specs.Code.{level_of}
-use Rattle.c_typed.specs.Typed.{TypedFn, TypedUnit}
+use Rattle.ac_expr.specs.CodeExpression.{level_of}
+use Rattle.c_lang.specs.Typed.{TypedFn, TypedUnit}
 use Rattle.c_levels.specs.declared.modes.Modes.{Modes}
 
 abbrev pub levels_in : Modes → List Level

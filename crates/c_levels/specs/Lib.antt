@@ -1,4 +1,4 @@
 pub mod CodeModes
-pub mod Spread
+pub mod CodeSpread
 pub mod CodeCalls
 pub mod CodeReason

@@ -3,12 +3,12 @@
 ghost use Rattle.std.specs.Prelude.{◌≡◌, ◌++◌, map, OnOk, IfOk};
 ghost use Rattle.std.specs.HashMap.{get_by_text};
 ghost use Rattle.c_values.specs.Name.{Name};
-ghost use Rattle.c_typed.specs.View as typed;
+ghost use Rattle.c_lang.specs.CodeTyped as typed;
 ghost use Rattle.c_meaning.specs.Levels as rules;
-ghost use Rattle.c_levels.specs.Spread.{listed};
+ghost use Rattle.c_levels.specs.CodeSpread.{listed};
 ghost use Rattle.c_levels.specs.CodeCalls.{call_of, calls_by, calls_from, callers_of};
 
-use c_typed::tree::{Groups, Statement, Statements, TypedFn};
+use c_lang::tree::{Groups, Statement, Statements, TypedFn};
 use std::alloc::{AllocError, Global};
 use std::collections::HashMap;
 
@@ -17,7 +17,8 @@ pub(crate) fn calls(
     alloc: Global,
     functions: &[TypedFn],
 ) -> Result<Vec<(String, usize)>, AllocError>
-    ensures { IfOk result (λ cs. map call_of cs.items ≡ calls_from 0 (map typed.function_of functions.now)) }
+    ensures { IfOk result
+        (λ cs. map call_of cs.items ≡ calls_from 0 (map typed.function_of functions.now)) }
 {
     let mut calls = Vec::new(alloc);
     let mut caller = 0;
@@ -71,7 +72,8 @@ fn add_calls_in(
     out: &mut Vec<(String, usize)>,
 ) -> Result<(), AllocError>
     ensures { OnOk result (map call_of out.new.items
-        ≡ map call_of out.old.items ++ calls_by caller (rules.callees_in (typed.statements_of statements.now))) }
+        ≡ map call_of out.old.items
+        ++ calls_by caller (rules.callees_in (typed.statements_of statements.now))) }
 {
     match statements {
         Statements::None => Ok(()),
@@ -90,7 +92,8 @@ fn add_calls_of(
     out: &mut Vec<(String, usize)>,
 ) -> Result<(), AllocError>
     ensures { OnOk result (map call_of out.new.items
-        ≡ map call_of out.old.items ++ calls_by caller (rules.callees_of (typed.groups_of groups.now))) }
+        ≡ map call_of out.old.items
+        ++ calls_by caller (rules.callees_of (typed.groups_of groups.now))) }
 {
     match groups {
         Groups::None => Ok(()),

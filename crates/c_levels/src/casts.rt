@@ -2,14 +2,13 @@
 
 ghost use Rattle.std.specs.Prelude.{◌≡◌, map};
 ghost use Rattle.c_values.specs.CodeTypes.{type_of};
-ghost use Rattle.c_typed.specs.Cast as rules;
-ghost use Rattle.c_typed.specs.View as typed;
+ghost use Rattle.c_lang.specs.Cast as rules;
+ghost use Rattle.c_lang.specs.CodeTyped as typed;
 ghost use Rattle.c_meaning.specs.Levels as levels;
 
-use ac_expr::same_type;
-use c_typed::tree::{Destination, Expr, Groups, Statement, Statements, Test, TypedFn, Use};
-use c_typing::casts::{has_cast, place_has_cast};
+use c_lang::tree::{Destination, Expr, Groups, Statement, Statements, Test, TypedFn, Use};
 use c_values::CType;
+use typing_rules::casts::{has_cast, place_has_cast};
 
 /// Whether a function does.
 pub(crate) fn casts(f: &TypedFn) -> bool
@@ -27,9 +26,7 @@ fn casts_to(to: &CType, from: &CType) -> bool
     };
     match &**object {
         CType::Void => false,
-        CType::Int(_) | CType::Ptr(_) | CType::Struct(_) | CType::Array(_, _) => {
-            !same_type(to, from)
-        }
+        CType::Int(_) | CType::Ptr(_) | CType::Struct(_) | CType::Array(_, _) => { to != from }
     }
 }
 

@@ -3,10 +3,10 @@
 ghost use Rattle.std.specs.Prelude.{◌≡◌, length, map, string_bytes, IfOk};
 ghost use Rattle.std.specs.HashSet.{contains_text};
 ghost use Rattle.c_values.specs.Name.{Name, is_among};
-ghost use Rattle.c_typed.specs.View as typed;
-ghost use Rattle.c_typed.specs.WellTyped.{IsWellTyped};
+ghost use Rattle.c_lang.specs.CodeTyped as typed;
+ghost use Rattle.c_lang.specs.WellTyped.{IsWellTyped};
 ghost use Rattle.ac_expr.specs.Sort as sorts;
-ghost use Rattle.ac_expr.specs.Code.{level_of};
+ghost use Rattle.ac_expr.specs.CodeExpression.{level_of};
 ghost use Rattle.c_meaning.specs.Levels.{AreDefaultLevels};
 ghost use Rattle.c_levels.specs.CodeCalls.{is_start};
 ghost use Rattle.c_levels.specs.CodeModes.{AreLevels, default_level, default_levels};
@@ -16,7 +16,7 @@ use crate::casts::casts;
 use crate::modes::Modes;
 use crate::spreading::spread;
 use ac_expr::Level;
-use c_typed::tree::{TypedFn, TypedUnit};
+use c_lang::tree::{TypedFn, TypedUnit};
 use std::alloc::{AllocError, Global};
 use std::collections::HashSet;
 
@@ -31,7 +31,8 @@ pub fn default_modes(
     ensures one_each { IfOk result (λ m. length m.levels.items ≡ length u.now.functions.items) }
     ensures defaults { IfOk result (λ m. (levels : Name → sorts.Level) →
         IsWellTyped (typed.unit_of u.now) → AreLevels (typed.unit_of u.now) m levels →
-        AreDefaultLevels (typed.unit_of u.now) (map string_bytes bytes.now) (map string_bytes words.now) levels) }
+        AreDefaultLevels (typed.unit_of u.now) (map string_bytes bytes.now)
+        (map string_bytes words.now) levels) }
 {
     let bytes = names(alloc, bytes)?;
     let words = names(alloc, words)?;
@@ -44,7 +45,8 @@ pub fn default_modes(
 
 // The names in a list, to be looked up.
 fn names(alloc: Global, list: &[String]) -> Result<HashSet<String>, AllocError>
-    ensures { IfOk result (λ s. (q : Name) → contains_text s q ≡ is_among q (map string_bytes list.now)) }
+    ensures { IfOk result
+        (λ s. (q : Name) → contains_text s q ≡ is_among q (map string_bytes list.now)) }
 {
     let mut names = HashSet::new(alloc);
     let mut rest = list;
@@ -61,7 +63,9 @@ fn own_marks(
     functions: &[TypedFn],
     chosen: &HashSet<String>,
 ) -> Result<Vec<bool>, AllocError>
-    ensures { IfOk result (λ ms. ms.items ≡ map (is_start (λ q. contains_text chosen.now q)) (map typed.function_of functions.now)) }
+    ensures { IfOk result
+        (λ ms. ms.items ≡ map (is_start (λ q. contains_text chosen.now q))
+        (map typed.function_of functions.now)) }
 {
     let mut marks = Vec::new(alloc);
     for f in functions {
@@ -84,7 +88,8 @@ fn levels(
     words: &HashSet<String>,
 ) -> Result<Modes, AllocError>
     ensures { IfOk result (λ m. map level_of m.levels.items
-        ≡ default_levels (λ q. contains_text words.now q) (map typed.function_of functions.now) marks.now) }
+        ≡ default_levels
+        (λ q. contains_text words.now q) (map typed.function_of functions.now) marks.now) }
 {
     let mut levels = Vec::new(alloc);
     let mut functions = functions;

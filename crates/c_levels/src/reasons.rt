@@ -2,11 +2,11 @@
 
 ghost use Rattle.std.specs.Prelude.{◌≡◌, ◌<◌, Some, None, length, map, min, if◌then◌else◌};
 ghost use Rattle.c_values.specs.Name.{Name};
-ghost use Rattle.c_typed.specs.Typed as C;
-ghost use Rattle.c_typed.specs.View as typed;
-ghost use Rattle.c_typed.specs.WellTyped.{IsWellTyped};
+ghost use Rattle.c_lang.specs.Typed as C;
+ghost use Rattle.c_lang.specs.CodeTyped as typed;
+ghost use Rattle.c_lang.specs.WellTyped.{IsWellTyped};
 ghost use Rattle.ac_expr.specs.Sort as sorts;
-ghost use Rattle.ac_expr.specs.Code.{level_of};
+ghost use Rattle.ac_expr.specs.CodeExpression.{level_of};
 ghost use Rattle.c_meaning.specs.Levels.{is_on_bytes};
 ghost use Rattle.c_meaning.specs.Levels as rules;
 ghost use Rattle.c_levels.specs.CodeCalls.{function_names};
@@ -16,14 +16,15 @@ ghost use Rattle.c_levels.specs.CodeReason.{IsReason, position_from, first_posit
 use crate::casts::casts;
 use crate::modes::{Modes, Reason};
 use ac_expr::Level;
-use c_typed::tree::{Groups, Statement, Statements, TypedFn, TypedUnit};
+use c_lang::tree::{Groups, Statement, Statements, TypedFn, TypedUnit};
 
 /// The first of the reasons that holds of the function at a position. Of the functions that it calls, the first in its
 /// text that works on bytes counts.
 pub fn reason(u: &TypedUnit, modes: &Modes, f: u32) -> Reason
     requires position { f < length u.now.functions.items }
     ensures { (levels : Name → sorts.Level) (g : C.TypedFn) →
-        IsWellTyped (typed.unit_of u.now) → AreLevels (typed.unit_of u.now) modes.now levels → IsAt (typed.unit_of u.now).functions f g →
+        IsWellTyped (typed.unit_of u.now) → AreLevels (typed.unit_of u.now) modes.now levels →
+        IsAt (typed.unit_of u.now).functions f g →
         IsReason (function_names (typed.unit_of u.now)) result (rules.reason levels g) }
 {
     let function = &u.functions[f as usize];
@@ -47,7 +48,8 @@ fn told(k: usize) -> u32
 #[cycle(first)]
 #[tactic(auto, using(crate::proofs::FirstPosition::of_both))]
 fn first(s: &Statement, functions: &[TypedFn], levels: &[Level]) -> Option<usize>
-    ensures { result ≡ first_position (map typed.function_of functions.now) (map level_of levels.now) (rules.callees (typed.statement_of s.now)) }
+    ensures { result ≡ first_position (map typed.function_of functions.now)
+        (map level_of levels.now) (rules.callees (typed.statement_of s.now)) }
 {
     match s {
         Statement::Empty
@@ -84,7 +86,8 @@ fn first(s: &Statement, functions: &[TypedFn], levels: &[Level]) -> Option<usize
 #[cycle(first)]
 #[tactic(auto, using(crate::proofs::FirstPosition::of_both))]
 fn first_in(statements: &Statements, functions: &[TypedFn], levels: &[Level]) -> Option<usize>
-    ensures { result ≡ first_position (map typed.function_of functions.now) (map level_of levels.now) (rules.callees_in (typed.statements_of statements.now)) }
+    ensures { result ≡ first_position (map typed.function_of functions.now)
+        (map level_of levels.now) (rules.callees_in (typed.statements_of statements.now)) }
 {
     match statements {
         Statements::None => None,
@@ -100,7 +103,8 @@ fn first_in(statements: &Statements, functions: &[TypedFn], levels: &[Level]) ->
 #[cycle(first)]
 #[tactic(auto, using(crate::proofs::FirstPosition::of_both))]
 fn first_of(groups: &Groups, functions: &[TypedFn], levels: &[Level]) -> Option<usize>
-    ensures { result ≡ first_position (map typed.function_of functions.now) (map level_of levels.now) (rules.callees_of (typed.groups_of groups.now)) }
+    ensures { result ≡ first_position (map typed.function_of functions.now)
+        (map level_of levels.now) (rules.callees_of (typed.groups_of groups.now)) }
 {
     match groups {
         Groups::None => None,
@@ -115,7 +119,8 @@ fn first_of(groups: &Groups, functions: &[TypedFn], levels: &[Level]) -> Option<
 
 // The position of the function of a name, where it works on bytes.
 fn position(name: &str, functions: &[TypedFn], levels: &[Level]) -> Option<usize>
-    ensures { result ≡ position_from 0 (map typed.function_of functions.now) (map level_of levels.now) name.now }
+    ensures { result ≡ position_from 0 (map typed.function_of functions.now)
+        (map level_of levels.now) name.now }
 {
     let mut k = 0;
     let mut functions = functions;

@@ -2,9 +2,9 @@
 
 ghost use Rattle.std.specs.Prelude.{◌≡◌, map, string_bytes, OnOk, IfOk};
 ghost use Rattle.std.specs.HashMap.{get_by_text};
-ghost use Rattle.c_levels.specs.Spread.{marked, all_marked, positions_from, listed, leads_by, IsSpread};
+ghost use Rattle.c_levels.specs.CodeSpread.{marked, all_marked, positions_from, listed, leads_by, IsSpread};
 
-use c_typed::tree::TypedFn;
+use c_lang::tree::TypedFn;
 use std::alloc::{AllocError, Global};
 use std::collections::HashMap;
 
@@ -56,7 +56,8 @@ fn marked_positions(alloc: Global, marks: &[bool]) -> Result<Vec<usize>, AllocEr
 
 // Where a position leads to.
 fn leads<'a>(k: usize, functions: &[TypedFn], table: &'a HashMap<String, Vec<usize>>) -> &'a [usize]
-    ensures { result.now ≡ leads_by (map (λ f. string_bytes f.name) functions.now) (λ q. listed (get_by_text table.now q)) k }
+    ensures { result.now ≡ leads_by (map (λ f. string_bytes f.name) functions.now)
+        (λ q. listed (get_by_text table.now q)) k }
 {
     if k >= functions.len() {
         return &[];
@@ -75,7 +76,9 @@ pub(crate) fn spread(
     table: &HashMap<String, Vec<usize>>,
     start: Vec<bool>,
 ) -> Result<Vec<bool>, AllocError>
-    ensures { IfOk result (λ end. IsSpread (leads_by (map (λ f. string_bytes f.name) functions.now) (λ q. listed (get_by_text table.now q))) start.items end.items) }
+    ensures { IfOk result
+        (λ end. IsSpread (leads_by (map (λ f. string_bytes f.name) functions.now)
+        (λ q. listed (get_by_text table.now q))) start.items end.items) }
 {
     let mut marks = start;
     let mut work = marked_positions(alloc, &marks)?;

@@ -5,15 +5,15 @@ use Rattle.std.specs.List.{filter_map}
 use Rattle.c_values.specs.Name.{Name, is_among}
 use Rattle.c_values.specs.Types.{Target}
 use Rattle.c_grammar.specs.Tree as tree
-use Rattle.c_typing.specs.declared.fault.TypeFault.{TypeFault}
-use Rattle.c_typing.specs.declared.fault.TypeFault.TheVariants.{Bad as BadNode, Memory}
-use Rattle.c_typing.specs.Answers.{IsFaultOf}
-use Rattle.c_typing.specs.Checked.{Good}
-use Rattle.c_typing.specs.Scope.{Scope}
-use Rattle.c_typing.specs.Unit.{IsTyped, at_beginning, body_name, externals, unit_in, whole}
-use Rattle.c_typed.specs.Typed as C
+use Rattle.typing_rules.specs.declared.fault.TypeFault.{TypeFault}
+use Rattle.typing_rules.specs.declared.fault.TypeFault.TheVariants.{Bad as BadNode, Memory}
+use Rattle.typing_rules.specs.CodeAnswers.{IsFaultOf}
+use Rattle.typing_rules.specs.Checked.{Good}
+use Rattle.typing_rules.specs.Scope.{Scope}
+use Rattle.typing_rules.specs.Unit.{IsTyped, at_beginning, body_name, externals, unit_in, whole}
+use Rattle.c_lang.specs.Typed as C
 use Rattle.c_types.specs.CodeUnit.{IsBadText}
-use Rattle.c_scope.specs.InFront.{in_front}
+use Rattle.typing_scope.specs.CodeInFront.{in_front}
 
 -- in front of a text, with the names of its functions
 begun : (t : Target) (xs : List tree.External) (w : Name → Bool) → ((x : Name) → w x ≡ is_among x (filter_map body_name xs)) → in_front t w ≡ at_beginning t xs

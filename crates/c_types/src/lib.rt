@@ -4,6 +4,6 @@
 mod functions;
 mod unit;
 
-pub use c_typed::tree::{TypedFn, TypedUnit};
-pub use c_typing::fault::{TypeFault, TypeKind};
+pub use c_lang::tree::{TypedFn, TypedUnit};
+pub use typing_rules::fault::{TypeFault, TypeKind};
 pub use unit::check_unit;

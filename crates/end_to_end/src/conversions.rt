@@ -72,10 +72,7 @@ fn usual_conversions(rt: HostRuntime) {
         let expected = table(target);
         for first in TYPES {
             for second in TYPES {
-                assert_eq!(rt;
-                    usual(target, first, second),
-                    expected[class(first)][class(second)]
-                );
+                assert!(rt; usual(target, first, second) == expected[class(first)][class(second)]);
             }
         }
     }
@@ -84,11 +81,11 @@ fn usual_conversions(rt: HostRuntime) {
 #[test]
 fn numbers(rt: HostRuntime) {
     let long = number_type(Target::Lp64, 2_147_483_648, true, false, 0);
-    assert_eq!(rt; long, Some(IntType::Long));
+    assert!(rt; long == Some(IntType::Long));
     let llong = number_type(Target::Ilp32, 2_147_483_648, true, false, 0);
-    assert_eq!(rt; llong, Some(IntType::LLong));
+    assert!(rt; llong == Some(IntType::LLong));
     let uint = number_type(Target::Ilp32, 2_147_483_648, false, false, 0);
-    assert_eq!(rt; uint, Some(IntType::UInt));
+    assert!(rt; uint == Some(IntType::UInt));
     let none = number_type(Target::Lp64, 9_223_372_036_854_775_808, true, false, 0);
-    assert_eq!(rt; none, None);
+    assert!(rt; none == None);
 }

@@ -130,10 +130,10 @@ fn tells_forms(rt: HostRuntime) -> Result<(), Fail> {
     ] {
         let words = words_of(rt.alloc(), line)?;
         let (status, _) = answer(rt.alloc(), &words)?;
-        assert_eq!(rt; status != Status::Words, want, "{line}");
+        assert!(rt; (status != Status::Words) == want, "{line}");
     }
     let (status, _) = answer(rt.alloc(), &[])?;
-    assert_eq!(rt; status, Status::Words);
+    assert!(rt; status == Status::Words);
     Ok(())
 }
 
@@ -151,7 +151,7 @@ fn shows_plain_files(rt: HostRuntime) -> Result<(), Fail> {
     ] {
         let words = words_of(rt.alloc(), line)?;
         let (_, taken) = answer(rt.alloc(), &words)?;
-        assert_eq!(rt; taken.as_slice(), want.as_bytes(), "{line}");
+        assert!(rt; taken.as_slice() == want.as_bytes(), "{line}");
     }
     Ok(())
 }

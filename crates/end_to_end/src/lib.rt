@@ -8,6 +8,6 @@ mod conversions;
 #[cfg(test)]
 mod forms;
 #[cfg(test)]
-mod generation;
+mod generated;
 #[cfg(test)]
 mod type_rows;

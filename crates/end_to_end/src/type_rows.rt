@@ -23,6 +23,7 @@ int x;int x(void); => source: twice at 10
 struct s{int a;};struct s{int b;}; => source: twice at 17
 struct s{int a;int a;}; => source: twice at 19
 enum{A,A}; => source: twice at 7
+typedef int t,u[sizeof(enum{t})]; => source: twice at 28
 enum e{A};enum e{B}; => source: twice at 10
 struct e{int a;};enum e{B}; => source: twice at 17
 void f(int a){switch(a){case 1:break;case 1:break;}} => source: twice at 37
@@ -47,7 +48,8 @@ int n;int a[n]; => source: mismatch at 12
 int n;int a[1||n]; => source: mismatch at 12
 int a[1/0]; => source: mismatch at 6
 enum{A=1/0}; => source: mismatch at 7
-enum{A=2147483648}; => source: mismatch at 5
+enum{A=2147483648}; => source: mismatch at 7
+int A;enum{A=4294967295}; => source: mismatch at 13
 enum{A=2147483647,B}; => source: mismatch at 18
 int x=1/0; => source: mismatch at 6
 int x=-2147483647-2; => source: mismatch at 6
@@ -91,12 +93,14 @@ int f(void){return sizeof(void);} => source: incomplete at 19
 struct s;int f(void){return sizeof(struct s);} => source: incomplete at 28
 int f(const void); => source: incomplete at 6
 int f(int,void); => source: incomplete at 10
+int f(void[]); => source: incomplete at 10
 int f(struct t x); => source: incomplete at 15
 void*f(void*p){return p+1;} => source: incomplete at 22
 struct s;struct s*f(struct s*p){return p-1;} => source: incomplete at 39
 struct s{struct s x;}; => source: incomplete at 18
 void f(void){void x;} => source: incomplete at 18
 void x[3]; => source: incomplete at 5
+void a[3](void); => source: incomplete at 5
 typedef void t[3]; => source: incomplete at 13
 int g(int);int f(void){return g(1);} => source: no body at 30
 int g(void);void f(void){g();} => source: no body at 25
@@ -116,6 +120,7 @@ void f(void){break;} => source: out of subset at 13
 void f(void){continue;} => source: out of subset at 13
 void f(int a){switch(a){default:continue;}} => source: out of subset at 32
 void f(int){} => source: out of subset at 7
+void f(int[3]){} => source: out of subset at 10
 int f(void){int x=x;return 0;} => source: out of subset at 18
 void f(int a){switch(a){case 1:;int y;y=1;break;case 2:y=2;break;}} => source: out of subset at 55
 struct s{int a;};void f(void){struct s x;} => source: out of subset at 39
@@ -134,6 +139,7 @@ int a[-1]; => source: too large at 4
 char a[4096][17]; => source: too large at 5
 struct s{char a[4096][16];char b;}; => source: too large at 0
 int f(char a[4097]); => source: too large at 11
+int f(int[0]); => source: too large at 9
 typedef int t[4096][5]; => source: too large at 12
 struct s{int a[4097];}; => source: too large at 13
 int f(void){return 0;} => not yet

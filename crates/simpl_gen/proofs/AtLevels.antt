@@ -2,8 +2,8 @@
 use Rattle.std.proofs.Common.{◌≡◌, List, [], ◌∷◌, map, refl, sym, ap, ◌∙◌}
 use Rattle.c_values.specs.Name.{Name}
 use Rattle.ac_expr.specs.Sort.{Level}
-use Rattle.c_typed.specs.Typed.{TypedFn}
-use Rattle.simpl_gen.specs.AtLevels.{at_levels}
+use Rattle.c_lang.specs.Typed.{TypedFn}
+use Rattle.simpl_gen.specs.CodeAtLevels.{at_levels}
 
 at_own_levels : {A : Type 0} (make : Level → TypedFn → A) (levels : Name → Level) (fs : List TypedFn) →
     at_levels make fs (map (λ f. levels f.name) fs) ≡ map (λ f. make (levels f.name) f) fs

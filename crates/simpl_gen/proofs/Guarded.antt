@@ -3,7 +3,7 @@ use Rattle.std.proofs.Common.{◌≡◌, List, [], ◌∷◌, ◌++◌, map, ref
 use Rattle.simpl_lang.specs.declared.command.Condition.{Condition}
 use Rattle.simpl_lang.specs.Command.{Simpl, Guard}
 use Rattle.simpl_lang.specs.CodeCommand.{condition_of}
-use Rattle.c_meaning.specs.Generate.{guarded}
+use Rattle.generation.specs.Generate.{guarded}
 
 pub one_guard_put : (gs : List Condition) (g : Condition) (s : Simpl) → guarded (map condition_of (gs ++ g ∷ [])) s ≡ guarded (map condition_of gs) (Guard (condition_of g) s)
 one_guard_put [] g s = refl

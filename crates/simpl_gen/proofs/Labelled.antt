@@ -2,8 +2,8 @@
 use Rattle.std.proofs.Common.{◌≡◌, ℕ, zero, suc, ◌+◌, ◌<◌, List, [], ◌∷◌, length, get_or, drop, ℤ, sym, ap, ◌∙◌, arith}
 use Rattle.c_values.specs.Types.{Target, IntType}
 use Rattle.ac_expr.specs.Expression.{Or, Eq, Var}
-use Rattle.c_meaning.specs.Guards.{word_of}
-use Rattle.c_meaning.specs.Generate.{is_one_of, switch_local}
+use Rattle.generation.specs.Guards.{word_of}
+use Rattle.generation.specs.Generate.{is_one_of, switch_local}
 
 pub one_label_more : (t : Target) (i : IntType) (n : ℕ) (ks : List ℤ) (j : ℕ) (k : ℤ) → j + 1 < length ks → k ≡ get_or ks j k →
     is_one_of t i n (drop j ks) ≡ Or (Eq (Var (switch_local n)) (word_of t i k)) (is_one_of t i n (drop (j + 1) ks))

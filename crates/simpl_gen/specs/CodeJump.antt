@@ -1,7 +1,7 @@
 -- What the code's jumps are told apart by.
 use Rattle.std.specs.Prelude.{ℤ}
 use Rattle.simpl_gen.specs.declared.jumps.Jump as J
-use Rattle.c_meaning.specs.Generate.{returned, broken, continued}
+use Rattle.generation.specs.Generate.{returned, broken, continued}
 
 abbrev pub exception_of : J.Jump → ℤ
 exception_of J.TheVariants.Return = returned

@@ -1,3 +1,3 @@
-pub mod AtLevels
+pub mod CodeAtLevels
 pub mod CodeJump
 pub mod CodeAdded

@@ -1,18 +1,18 @@
 //! Assignments: a value goes to its target.
 
 ghost use Rattle.std.specs.Prelude.{◌≡◌, ◌++◌, map, OnOk, IfOk};
-ghost use Rattle.c_typed.specs.Typed as C;
-ghost use Rattle.c_typed.specs.View as typed;
-ghost use Rattle.ac_expr.specs.Code.{exp_of, level_of};
+ghost use Rattle.c_lang.specs.Typed as C;
+ghost use Rattle.c_lang.specs.CodeTyped as typed;
+ghost use Rattle.ac_expr.specs.CodeExpression.{exp_of, level_of};
 ghost use Rattle.simpl_lang.specs.CodeCommand.{condition_of, simpl_of};
-ghost use Rattle.c_meaning.specs.Guards.{guards, exp};
-ghost use Rattle.c_meaning.specs.Generate as rules;
+ghost use Rattle.generation.specs.Guards.{guards, exp};
+ghost use Rattle.generation.specs.Generate as rules;
 
-use crate::commands::{guarded, set};
-use ac_expr::{Exp, Level, copy_of};
-use c_typed::tree::{Destination, Expr, Place};
-use c_values::Layout;
-use simpl_guards::{add_accesses, add_guards, add_place_guards, path_to, value};
+use crate::commands::{set, with_guards};
+use ac_expr::{Exp, Level};
+use c_lang::tree::{Destination, Expr, Place};
+use c_values::{Layout, copy_of};
+use simpl_expressions::{add_accesses, add_guards, add_place_guards, path_to, value};
 use simpl_lang::{Condition, Simpl};
 use std::alloc::{AllocError, Global};
 
@@ -25,14 +25,16 @@ pub(crate) fn assign(
     e: &Expr,
 ) -> Result<Box<Simpl>, AllocError>
     ensures { IfOk result (λ s. simpl_of s.value ≡ rules.guarded
-        (guards l.now (level_of level) (typed.expr_of e.now) ++ rules.target_guards l.now (level_of level) (typed.destination_of target.now))
-        (rules.assignment l.now (typed.destination_of target.now) (exp l.now (typed.expr_of e.now)))) }
+        (guards l.now (level_of level) (typed.expr_of e.now) ++ rules.target_guards l.now
+        (level_of level) (typed.destination_of target.now))
+        (rules.assignment l.now (typed.destination_of target.now)
+        (exp l.now (typed.expr_of e.now)))) }
 {
     let mut guards = Vec::new(alloc);
     add_guards(alloc, l, level, e, &mut guards)?;
     add_target_guards(alloc, l, level, target, &mut guards)?;
     let assignment = assignment(alloc, l, target, value(alloc, l, e)?)?;
-    guarded(alloc, guards, assignment)
+    with_guards(alloc, guards, assignment)
 }
 
 /// A value that has been computed goes to its target.
@@ -42,17 +44,21 @@ pub(crate) fn assignment(
     target: &Destination,
     value: Box<Exp>,
 ) -> Result<Box<Simpl>, AllocError>
-    ensures { IfOk result (λ s. simpl_of s.value ≡ rules.assignment l.now (typed.destination_of target.now) (exp_of value.value)) }
+    ensures { IfOk result
+        (λ s. simpl_of s.value ≡ rules.assignment l.now (typed.destination_of target.now)
+        (exp_of value.value)) }
 {
     match target {
         Destination::ToLocal(name, _) => set(alloc, name.clone()?, value),
-        Destination::ToPlace(place) => stored(alloc, l, place, value),
+        Destination::ToPlace(place) => store(alloc, l, place, value),
     }
 }
 
 // A value goes to a place.
-fn stored(alloc: Global, l: &Layout, place: &Place, e: Box<Exp>) -> Result<Box<Simpl>, AllocError>
-    ensures { IfOk result (λ s. simpl_of s.value ≡ rules.assignment l.now (C.ToPlace (typed.place_of place.now)) (exp_of e.value)) }
+fn store(alloc: Global, l: &Layout, place: &Place, e: Box<Exp>) -> Result<Box<Simpl>, AllocError>
+    ensures { IfOk result
+        (λ s. simpl_of s.value ≡ rules.assignment l.now (C.ToPlace (typed.place_of place.now))
+        (exp_of e.value)) }
 {
     let e = Box::into_inner(e);
     match place {
@@ -79,7 +85,8 @@ pub(crate) fn add_target_guards(
     out: &mut Vec<Condition>,
 ) -> Result<(), AllocError>
     ensures { OnOk result (map condition_of out.new.items
-        ≡ map condition_of out.old.items ++ rules.target_guards l.now (level_of level) (typed.destination_of target.now)) }
+        ≡ map condition_of out.old.items ++ rules.target_guards l.now (level_of level)
+        (typed.destination_of target.now)) }
 {
     match target {
         Destination::ToLocal(_, _) => Ok(()),

@@ -2,26 +2,26 @@
 
 ghost use Rattle.std.specs.Prelude.{◌≡◌, ◌++◌, Some, map, string_bytes, OnOk, IfOk};
 ghost use Rattle.c_values.specs.CodeTypes.{type_of};
-ghost use Rattle.c_typed.specs.Typed as C;
-ghost use Rattle.c_typed.specs.View as typed;
+ghost use Rattle.c_lang.specs.Typed as C;
+ghost use Rattle.c_lang.specs.CodeTyped as typed;
 ghost use Rattle.ac_expr.specs.Expression.{Var};
-ghost use Rattle.ac_expr.specs.Code.{exp_of, level_of};
+ghost use Rattle.ac_expr.specs.CodeExpression.{exp_of, level_of};
 ghost use Rattle.simpl_lang.specs.Command.{Set, Seq, Call};
 ghost use Rattle.simpl_lang.specs.Exec.{result_local};
 ghost use Rattle.simpl_lang.specs.CodeCommand.{condition_of, simpl_of};
-ghost use Rattle.c_meaning.specs.Guards as values;
-ghost use Rattle.c_meaning.specs.Generate as rules;
+ghost use Rattle.generation.specs.Guards as values;
+ghost use Rattle.generation.specs.Generate as rules;
 
 use crate::assignments::{add_target_guards, assignment};
-use crate::commands::{guarded, sequence, set};
+use crate::commands::{sequence, set, with_guards};
 use crate::jumps::{Jump, jump_out};
 use crate::names::{call_local, result_local};
 use ac_expr::{Exp, Level};
-use c_typed::tree::{Destination, Expr, Use};
+use c_lang::tree::{Destination, Expr, Use};
 use c_values::{CType, Layout};
-use simpl_guards::scalars::bits_of_type;
-use simpl_guards::terms::{cast_to, variable};
-use simpl_guards::{add_guards, value};
+use simpl_expressions::scalars::bits_of_type;
+use simpl_expressions::terms::{cast_to, variable};
+use simpl_expressions::{add_guards, value};
 use simpl_lang::{Condition, Simpl};
 use std::alloc::{AllocError, Global};
 
@@ -36,13 +36,14 @@ pub(crate) fn call(
     used: &Use,
 ) -> Result<Box<Simpl>, AllocError>
     ensures { IfOk result (λ s. simpl_of s.value
-        ≡ rules.call_of l.now (level_of level) n (string_bytes function.now) (map typed.expr_of arguments.now) (typed.use_of used.now)) }
+        ≡ rules.call_of l.now (level_of level) n (string_bytes function.now)
+        (map typed.expr_of arguments.now) (typed.use_of used.now)) }
 {
     let mut guards = Vec::new(alloc);
     add_argument_guards(alloc, l, level, arguments, &mut guards)?;
     let values = values(alloc, l, arguments)?;
     let call = used_call(alloc, l, level, n, function.clone()?, values, used)?;
-    guarded(alloc, guards, call)
+    with_guards(alloc, guards, call)
 }
 
 // The same, the arguments being values.
@@ -56,7 +57,8 @@ fn used_call(
     used: &Use,
 ) -> Result<Box<Simpl>, AllocError>
     ensures { IfOk result (λ s. simpl_of s.value
-        ≡ rules.call l.now (level_of level) n (string_bytes function) (map exp_of arguments.items) (typed.use_of used.now)) }
+        ≡ rules.call l.now (level_of level) n (string_bytes function) (map exp_of arguments.items)
+        (typed.use_of used.now)) }
 {
     match used {
         Use::NoResult => Ok(Box::new(alloc, Simpl::Call(None, function, arguments))?),
@@ -98,15 +100,17 @@ fn assigned_result(
     target: &Destination,
 ) -> Result<Box<Simpl>, AllocError>
     ensures { IfOk result (λ s. simpl_of s.value
-        ≡ rules.guarded (rules.target_guards l.now (level_of level) (typed.destination_of target.now))
+        ≡ rules.guarded
+        (rules.target_guards l.now (level_of level) (typed.destination_of target.now))
         (rules.assignment l.now (typed.destination_of target.now)
-        (values.conversion l.now.target (C.target_type (typed.destination_of target.now)) (type_of from.now) (Var (rules.call_local n))))) }
+        (values.conversion l.now.target (C.target_type (typed.destination_of target.now))
+        (type_of from.now) (Var (rules.call_local n))))) }
 {
     let mut guards = Vec::new(alloc);
     add_target_guards(alloc, l, level, target, &mut guards)?;
     let value = converted_result(alloc, l, n, from, target.ty())?;
     let assignment = assignment(alloc, l, target, value)?;
-    guarded(alloc, guards, assignment)
+    with_guards(alloc, guards, assignment)
 }
 
 // A call's result is the function's.
@@ -118,7 +122,8 @@ fn returned_result(
     to: &CType,
 ) -> Result<Box<Simpl>, AllocError>
     ensures { IfOk result (λ s. simpl_of s.value
-        ≡ Seq (Set result_local (values.conversion l.now.target (type_of to.now) (type_of from.now) (Var (rules.call_local n)))) (rules.jump rules.returned)) }
+        ≡ Seq (Set result_local (values.conversion l.now.target (type_of to.now) (type_of from.now)
+        (Var (rules.call_local n)))) (rules.jump rules.returned)) }
 {
     let value = converted_result(alloc, l, n, from, to)?;
     let result = set(alloc, result_local(alloc)?, value)?;
@@ -134,7 +139,8 @@ fn converted_result(
     to: &CType,
 ) -> Result<Box<Exp>, AllocError>
     ensures { IfOk result (λ e. exp_of e.value
-        ≡ values.conversion l.now.target (type_of to.now) (type_of from.now) (Var (rules.call_local n))) }
+        ≡ values.conversion l.now.target (type_of to.now) (type_of from.now)
+        (Var (rules.call_local n))) }
 {
     let value = variable(alloc, call_local(alloc, n)?)?;
     let width = bits_of_type(l.target(), to).width;
@@ -143,7 +149,8 @@ fn converted_result(
 
 // The values of arguments.
 fn values(alloc: Global, l: &Layout, arguments: &[Expr]) -> Result<Vec<Exp>, AllocError>
-    ensures { IfOk result (λ es. map exp_of es.items ≡ values.exps l.now (map typed.expr_of arguments.now)) }
+    ensures { IfOk result
+        (λ es. map exp_of es.items ≡ values.exps l.now (map typed.expr_of arguments.now)) }
 {
     let mut values = Vec::new(alloc);
     let mut rest = arguments;
@@ -163,7 +170,8 @@ fn add_argument_guards(
     out: &mut Vec<Condition>,
 ) -> Result<(), AllocError>
     ensures { OnOk result (map condition_of out.new.items
-        ≡ map condition_of out.old.items ++ values.argument_guards l.now (level_of level) (map typed.expr_of arguments.now)) }
+        ≡ map condition_of out.old.items ++ values.argument_guards l.now (level_of level)
+        (map typed.expr_of arguments.now)) }
 {
     let mut rest = arguments;
     'rest: while let Some((first, others)) = rest.split_first() {

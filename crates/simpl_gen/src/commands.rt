@@ -1,10 +1,10 @@
 //! Commands that generation puts together from others. Each is boxed where it is made.
 
 ghost use Rattle.std.specs.Prelude.{◌≡◌, map, string_bytes, IfOk};
-ghost use Rattle.ac_expr.specs.Code.{exp_of};
+ghost use Rattle.ac_expr.specs.CodeExpression.{exp_of};
 ghost use Rattle.simpl_lang.specs.Command.{Skip, Set, Pick, Seq, Cond};
 ghost use Rattle.simpl_lang.specs.CodeCommand.{condition_of, simpl_of};
-ghost use Rattle.c_meaning.specs.Generate.{guarded};
+ghost use Rattle.generation.specs.Generate.{guarded};
 
 use ac_expr::Exp;
 use simpl_lang::{Condition, Simpl};
@@ -32,13 +32,14 @@ pub(crate) fn pick(alloc: Global, name: String) -> Result<Box<Simpl>, AllocError
 }
 
 /// The first where a test is true, else the second.
-pub(crate) fn chosen(
+pub(crate) fn conditional(
     alloc: Global,
     test: Box<Exp>,
     a: Box<Simpl>,
     b: Box<Simpl>,
 ) -> Result<Box<Simpl>, AllocError>
-    ensures { IfOk result (λ s. simpl_of s.value ≡ Cond (exp_of test.value) (simpl_of a.value) (simpl_of b.value)) }
+    ensures { IfOk result
+        (λ s. simpl_of s.value ≡ Cond (exp_of test.value) (simpl_of a.value) (simpl_of b.value)) }
 {
     Ok(Box::new(alloc, Simpl::Cond(Box::into_inner(test), a, b))?)
 }
@@ -56,12 +57,13 @@ pub(crate) fn sequence(
 
 /// A command behind its guards, the first outermost.
 #[tactic(auto, using(crate::proofs::Guarded::one_guard_put))]
-pub(crate) fn guarded(
+pub(crate) fn with_guards(
     alloc: Global,
     guards: Vec<Condition>,
     s: Box<Simpl>,
 ) -> Result<Box<Simpl>, AllocError>
-    ensures { IfOk result (λ t. simpl_of t.value ≡ guarded (map condition_of guards.items) (simpl_of s.value)) }
+    ensures { IfOk result
+        (λ t. simpl_of t.value ≡ guarded (map condition_of guards.items) (simpl_of s.value)) }
 {
     let mut guards = guards;
     let mut guarded = s;

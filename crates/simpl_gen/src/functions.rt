@@ -5,17 +5,17 @@ ghost use Rattle.std.specs.Option.{option_map};
 ghost use Rattle.c_values.specs.Name.{Name};
 ghost use Rattle.c_values.specs.Layout as layouts;
 ghost use Rattle.c_values.specs.CodeTypes.{target_of, type_of};
-ghost use Rattle.c_typed.specs.View as typed;
-ghost use Rattle.c_typed.specs.WellTyped.{IsWellTyped};
+ghost use Rattle.c_lang.specs.CodeTyped as typed;
+ghost use Rattle.c_lang.specs.WellTyped.{IsWellTyped};
 ghost use Rattle.ac_expr.specs.Sort as sorts;
-ghost use Rattle.ac_expr.specs.Code.{level_of};
+ghost use Rattle.ac_expr.specs.CodeExpression.{level_of};
 ghost use Rattle.ac_expr.specs.CodeSignature.{signature_of};
 ghost use Rattle.simpl_lang.specs.Command.{Catch, Skip};
 ghost use Rattle.simpl_lang.specs.CodeCommand.{simpl_of, simpl_fn_of, simpl_unit_of};
-ghost use Rattle.c_meaning.specs.Generate as rules;
-ghost use Rattle.c_meaning.specs.SameEnds.{HasEndsOf};
+ghost use Rattle.generation.specs.Generate as rules;
+ghost use Rattle.generation.specs.SameEnds.{HasEndsOf};
 ghost use Rattle.c_levels.specs.CodeModes.{AreLevels};
-ghost use Rattle.simpl_gen.specs.AtLevels.{at_levels};
+ghost use Rattle.simpl_gen.specs.CodeAtLevels.{at_levels};
 
 use crate::commands::{sequence, skip};
 use crate::kinds::result_kind;
@@ -23,8 +23,8 @@ use crate::layout_copies::{copy_of_globals, copy_of_layout};
 use crate::locals::{add_variables, locals};
 use crate::statements::commands;
 use ac_expr::{Exp, Level, Signature};
+use c_lang::tree::{TypedFn, TypedUnit};
 use c_levels::Modes;
-use c_typed::tree::{TypedFn, TypedUnit};
 use c_values::{CType, Layout, Target};
 use simpl_lang::{Condition, GuardKind, Simpl, SimplFn, SimplUnit};
 use std::alloc::{AllocError, Global};
@@ -33,10 +33,13 @@ use std::alloc::{AllocError, Global};
 /// functions, each watched by its level.
 pub fn generate(alloc: Global, u: &TypedUnit, modes: &Modes) -> Result<SimplUnit, AllocError>
     requires { length modes.now.levels.items ≡ length u.now.functions.items }
-    ensures generated { IfOk result (λ s. (levels : Name → sorts.Level) → AreLevels (typed.unit_of u.now) modes.now levels →
+    ensures generated { IfOk result
+        (λ s. (levels : Name → sorts.Level) → AreLevels (typed.unit_of u.now) modes.now levels →
         simpl_unit_of s ≡ rules.generated (typed.unit_of u.now) levels) }
-    ensures exact { IfOk result (λ s. (levels : Name → sorts.Level) → AreLevels (typed.unit_of u.now) modes.now levels →
-        IsWellTyped (typed.unit_of u.now) → HasEndsOf (typed.unit_of u.now) levels (simpl_unit_of s)) }
+    ensures exact { IfOk result
+        (λ s. (levels : Name → sorts.Level) → AreLevels (typed.unit_of u.now) modes.now levels →
+        IsWellTyped (typed.unit_of u.now) →
+        HasEndsOf (typed.unit_of u.now) levels (simpl_unit_of s)) }
 {
     Ok(SimplUnit {
         layout: copy_of_layout(alloc, &u.layout)?,
@@ -54,7 +57,8 @@ fn functions(
     levels: &[Level],
 ) -> Result<Vec<SimplFn>, AllocError>
     ensures { IfOk result (λ fs. map simpl_fn_of fs.items
-        ≡ at_levels (rules.function_of l.now) (map typed.function_of functions.now) (map level_of levels.now)) }
+        ≡ at_levels (rules.function_of l.now) (map typed.function_of functions.now)
+        (map level_of levels.now)) }
 {
     let mut generated = Vec::new(alloc);
     let mut functions = functions;
@@ -72,7 +76,8 @@ fn functions(
 
 // The function at its level.
 fn function(alloc: Global, l: &Layout, level: Level, f: &TypedFn) -> Result<SimplFn, AllocError>
-    ensures { IfOk result (λ g. simpl_fn_of g ≡ rules.function_of l.now (level_of level) (typed.function_of f.now)) }
+    ensures { IfOk result
+        (λ g. simpl_fn_of g ≡ rules.function_of l.now (level_of level) (typed.function_of f.now)) }
 {
     let name = f.name.clone()?;
     let body = commands(alloc, l, level, &f.body)?;
@@ -91,7 +96,9 @@ fn whole_body(
     result_type: &Option<CType>,
     s: Box<Simpl>,
 ) -> Result<Box<Simpl>, AllocError>
-    ensures { IfOk result (λ b. simpl_of b.value ≡ rules.whole_body (option_map type_of result_type.now) (simpl_of s.value)) }
+    ensures { IfOk result
+        (λ b. simpl_of b.value ≡ rules.whole_body (option_map type_of result_type.now)
+        (simpl_of s.value)) }
 {
     match result_type {
         None => caught(alloc, s),
@@ -122,7 +129,8 @@ fn signatures(
     levels: &[Level],
 ) -> Result<Vec<Signature>, AllocError>
     ensures { IfOk result (λ ss. map signature_of ss.items
-        ≡ at_levels (rules.signature_of l.now) (map typed.function_of functions.now) (map level_of levels.now)) }
+        ≡ at_levels (rules.signature_of l.now) (map typed.function_of functions.now)
+        (map level_of levels.now)) }
 {
     let mut signatures = Vec::new(alloc);
     let mut functions = functions;

@@ -1,16 +1,16 @@
 //! Jumps: return, break and continue, which are exceptions that `$exn` tells apart.
 
 ghost use Rattle.std.specs.Prelude.{◌≡◌, pos, map, IfOk};
-ghost use Rattle.ac_expr.specs.Code.{exp_of};
+ghost use Rattle.ac_expr.specs.CodeExpression.{exp_of};
 ghost use Rattle.simpl_lang.specs.Command.{Catch};
 ghost use Rattle.simpl_lang.specs.CodeCommand.{condition_of, simpl_of};
-ghost use Rattle.c_meaning.specs.Generate as rules;
+ghost use Rattle.generation.specs.Generate as rules;
 ghost use Rattle.simpl_gen.specs.CodeJump.{exception_of};
 
-use crate::commands::{chosen, sequence, set, skip};
+use crate::commands::{conditional, sequence, set, skip};
 use crate::names::exception_local;
 use ac_expr::Exp;
-use simpl_guards::terms::{equal, int_literal, variable};
+use simpl_expressions::terms::{equal, int_literal, variable};
 use simpl_lang::{Condition, Simpl};
 use std::alloc::{AllocError, Global};
 
@@ -49,12 +49,13 @@ fn stops_at(alloc: Global, jump: Jump) -> Result<Box<Simpl>, AllocError>
     let found = variable(alloc, exception_local(alloc)?)?;
     let test = equal(alloc, found, int_literal(alloc, exception(jump))?)?;
     let throw = Box::new(alloc, Simpl::Throw)?;
-    chosen(alloc, test, skip(alloc)?, throw)
+    conditional(alloc, test, skip(alloc)?, throw)
 }
 
 /// A command that a break ends.
 pub(crate) fn until_break(alloc: Global, s: Box<Simpl>) -> Result<Box<Simpl>, AllocError>
-    ensures { IfOk result (λ t. simpl_of t.value ≡ Catch (simpl_of s.value) (rules.stops_at rules.broken)) }
+    ensures { IfOk result
+        (λ t. simpl_of t.value ≡ Catch (simpl_of s.value) (rules.stops_at rules.broken)) }
 {
     let stop = stops_at(alloc, Jump::Break)?;
     Ok(Box::new(alloc, Simpl::Catch(s, stop))?)
@@ -69,13 +70,15 @@ pub(crate) fn body_of_loop(alloc: Global, s: Box<Simpl>) -> Result<Box<Simpl>, A
 }
 
 /// A loop, which a break ends.
-pub(crate) fn looped(
+pub(crate) fn loop_with_breaks(
     alloc: Global,
     guards: Vec<Condition>,
     test: Box<Exp>,
     s: Box<Simpl>,
 ) -> Result<Box<Simpl>, AllocError>
-    ensures { IfOk result (λ t. simpl_of t.value ≡ rules.looped (map condition_of guards.items) (exp_of test.value) (simpl_of s.value)) }
+    ensures { IfOk result
+        (λ t. simpl_of t.value ≡ rules.looped (map condition_of guards.items) (exp_of test.value)
+        (simpl_of s.value)) }
 {
     let turns = Box::new(alloc, Simpl::While(guards, Box::into_inner(test), s))?;
     until_break(alloc, turns)

@@ -4,12 +4,12 @@ ghost use Rattle.std.specs.Prelude.{◌≡◌};
 ghost use Rattle.std.specs.Option.{option_map};
 ghost use Rattle.c_values.specs.CodeTypes.{target_of, type_of};
 ghost use Rattle.ac_expr.specs.Sort.{Numbers};
-ghost use Rattle.ac_expr.specs.Code.{kind_of, level_of};
-ghost use Rattle.c_meaning.specs.Generate as rules;
+ghost use Rattle.ac_expr.specs.CodeExpression.{kind_of, level_of};
+ghost use Rattle.ac_expr.specs.Signature as rules;
 
 use ac_expr::{Kind, Level};
 use c_values::{CType, Target, is_signed, width_of};
-use simpl_guards::scalars::bits_of_type;
+use simpl_expressions::scalars::bits_of_type;
 
 /// The kind of a name of a type.
 pub(crate) fn kind_at(target: Target, level: Level, ty: &CType) -> Kind
@@ -42,7 +42,8 @@ fn number_kind(target: Target, ty: &CType) -> Kind
 
 /// The kind of a result of a type, or none.
 pub(crate) fn result_kind(target: Target, level: Level, ty: &Option<CType>) -> Option<Kind>
-    ensures { option_map kind_of result ≡ rules.result_kind (target_of target) (level_of level) (option_map type_of ty.now) }
+    ensures { option_map kind_of result ≡ rules.result_kind (target_of target) (level_of level)
+        (option_map type_of ty.now) }
 {
     match ty {
         None => None,

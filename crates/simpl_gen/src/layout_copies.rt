@@ -4,8 +4,7 @@ ghost use Rattle.std.specs.Prelude.{◌≡◌, map, IfOk};
 ghost use Rattle.c_values.specs.CodeLayout.{member_of, struct_def_of};
 ghost use Rattle.c_values.specs.CodeValue.{global_of};
 
-use ac_expr::{copy_of, copy_value};
-use c_values::{CType, GlobalVar, Layout, LayoutFault, StructDef};
+use c_values::{CType, GlobalVar, Layout, LayoutFault, StructDef, copy_of, copy_value};
 use std::alloc::{AllocError, Global};
 
 /// A copy of a layout.

@@ -5,10 +5,12 @@ ghost use Rattle.std.specs.Option.{option_map};
 ghost use Rattle.c_values.specs.CodeTypes.{target_of, int_type_of, type_of};
 ghost use Rattle.c_values.specs.Types.{Integer};
 ghost use Rattle.ac_expr.specs.Sort.{BoolKind};
-ghost use Rattle.c_typed.specs.View as typed;
-ghost use Rattle.ac_expr.specs.Code.{kind_of, level_of};
+ghost use Rattle.c_lang.specs.CodeTyped as typed;
+ghost use Rattle.ac_expr.specs.CodeExpression.{kind_of, level_of};
 ghost use Rattle.ac_expr.specs.CodeSignature.{binder_of};
-ghost use Rattle.c_meaning.specs.Generate as rules;
+ghost use Rattle.ac_expr.specs.Signature.{kind_at, binder};
+ghost use Rattle.c_meaning.specs.Kinds as kinds;
+ghost use Rattle.generation.specs.Generate as rules;
 ghost use Rattle.simpl_gen.specs.CodeAdded.{added_of};
 
 use crate::kinds::kind_at;
@@ -16,7 +18,7 @@ use crate::names::{
     call_local, exception_local, first_local, result_local, switch_local, thrown_local,
 };
 use ac_expr::{Binder, Kind, Level};
-use c_typed::tree::{Groups, Statement, Statements, TypedFn, Use, Variable};
+use c_lang::tree::{Groups, Statement, Statements, TypedFn, Use, Variable};
 use c_values::{CType, IntType, Target};
 use std::alloc::{AllocError, Global};
 
@@ -35,7 +37,9 @@ pub(crate) fn locals(
     level: Level,
     f: &TypedFn,
 ) -> Result<Vec<Binder>, AllocError>
-    ensures { IfOk result (λ bs. map binder_of bs.items ≡ rules.locals (target_of target) (level_of level) (typed.function_of f.now)) }
+    ensures { IfOk result
+        (λ bs. map binder_of bs.items ≡ rules.locals (target_of target) (level_of level)
+        (typed.function_of f.now)) }
 {
     let mut added = Added {
         calls: Vec::new(alloc),
@@ -62,13 +66,14 @@ pub(crate) fn locals(
 
 fn add_binder(name: String, kind: Kind, out: &mut Vec<Binder>) -> Result<(), AllocError>
     ensures { OnOk result (map binder_of out.new.items
-        ≡ map binder_of out.old.items ++ (rules.binder (string_bytes name) (kind_of kind) ∷ [])) }
+        ≡ map binder_of out.old.items ++ (binder (string_bytes name) (kind_of kind) ∷ [])) }
 {
     Ok(out.push(Binder { name, kind })?)
 }
 
 fn add_all(binders: Vec<Binder>, out: &mut Vec<Binder>) -> Result<(), AllocError>
-    ensures { OnOk result (map binder_of out.new.items ≡ map binder_of out.old.items ++ map binder_of binders.items) }
+    ensures { OnOk result (map binder_of out.new.items ≡ map binder_of out.old.items
+        ++ map binder_of binders.items) }
 {
     let mut binders = binders;
     out.append(&mut binders)
@@ -82,7 +87,8 @@ pub(crate) fn add_variables(
     out: &mut Vec<Binder>,
 ) -> Result<(), AllocError>
     ensures { OnOk result (map binder_of out.new.items
-        ≡ map binder_of out.old.items ++ rules.variables (target_of target) (level_of level) (map typed.variable_of variables.now)) }
+        ≡ map binder_of out.old.items ++ kinds.variables (target_of target) (level_of level)
+        (map typed.variable_of variables.now)) }
 {
     let mut rest = variables;
     'rest: while let Some((first, others)) = rest.split_first() {
@@ -102,7 +108,8 @@ fn add_result(
     out: &mut Vec<Binder>,
 ) -> Result<(), AllocError>
     ensures { OnOk result (map binder_of out.new.items
-        ≡ map binder_of out.old.items ++ rules.result_binder (target_of target) (level_of level) (option_map type_of ty.now)) }
+        ≡ map binder_of out.old.items ++ rules.result_binder (target_of target) (level_of level)
+        (option_map type_of ty.now)) }
 {
     match ty {
         None => Ok(()),
@@ -120,7 +127,8 @@ fn add_of(
     added: &mut Added,
 ) -> Result<(), AllocError>
     ensures { OnOk result (added_of added.new
-        ≡ rules.both_added (added_of added.old) (rules.added (target_of target) (level_of level) (typed.statement_of s.now))) }
+        ≡ rules.both_added (added_of added.old)
+        (rules.added (target_of target) (level_of level) (typed.statement_of s.now))) }
 {
     match s {
         Statement::Empty
@@ -162,7 +170,9 @@ fn add_in(
     added: &mut Added,
 ) -> Result<(), AllocError>
     ensures { OnOk result (added_of added.new
-        ≡ rules.both_added (added_of added.old) (rules.added_in (target_of target) (level_of level) (typed.statements_of statements.now))) }
+        ≡ rules.both_added (added_of added.old)
+        (rules.added_in (target_of target) (level_of level)
+        (typed.statements_of statements.now))) }
 {
     match statements {
         Statements::None => Ok(()),
@@ -182,7 +192,8 @@ fn add_groups(
     added: &mut Added,
 ) -> Result<(), AllocError>
     ensures { OnOk result (added_of added.new
-        ≡ rules.both_added (added_of added.old) (rules.added_of (target_of target) (level_of level) (typed.groups_of groups.now))) }
+        ≡ rules.both_added (added_of added.old)
+        (rules.added_of (target_of target) (level_of level) (typed.groups_of groups.now))) }
 {
     match groups {
         Groups::None => Ok(()),
@@ -203,7 +214,12 @@ fn add_call(
     added: &mut Added,
 ) -> Result<(), AllocError>
     ensures { OnOk result (added_of added.new ≡ rules.both_added (added_of added.old)
-        (record { calls = rules.use_binder (target_of target) (level_of level) n (typed.use_of used.now); switches = []; firsts = [] })) }
+        (record {
+          calls = rules.use_binder (target_of target) (level_of level) n
+              (typed.use_of used.now);
+          switches = [];
+          firsts = [];
+        })) }
 {
     match used {
         Use::NoResult => Ok(()),
@@ -224,7 +240,12 @@ fn add_switch(
     added: &mut Added,
 ) -> Result<(), AllocError>
     ensures { OnOk result (added_of added.new ≡ rules.both_added (added_of added.old)
-        (record { calls = []; switches = rules.binder (rules.switch_local n) (rules.kind_at (target_of target) (level_of level) (Integer (int_type_of ty))) ∷ []; firsts = [] })) }
+        (record {
+          calls = [];
+          switches = binder (rules.switch_local n)
+              (kind_at (target_of target) (level_of level) (Integer (int_type_of ty))) ∷ [];
+          firsts = [];
+        })) }
 {
     let kind = kind_at(target, level, &CType::Int(ty));
     add_binder(switch_local(alloc, n)?, kind, &mut added.switches)
@@ -233,7 +254,11 @@ fn add_switch(
 // The local of a do-while.
 fn add_first(alloc: Global, n: u64, added: &mut Added) -> Result<(), AllocError>
     ensures { OnOk result (added_of added.new ≡ rules.both_added (added_of added.old)
-        (record { calls = []; switches = []; firsts = rules.binder (rules.first_local n) BoolKind ∷ [] })) }
+        (record {
+          calls = [];
+          switches = [];
+          firsts = binder (rules.first_local n) BoolKind ∷ [];
+        })) }
 {
     add_binder(first_local(alloc, n)?, Kind::Bool, &mut added.firsts)
 }

@@ -1,21 +1,21 @@
 //! Loops around bodies that are generated already.
 
 ghost use Rattle.std.specs.Prelude.{◌≡◌, ◌++◌, map, OnOk, IfOk};
-ghost use Rattle.c_typed.specs.View as typed;
-ghost use Rattle.ac_expr.specs.Code.{exp_of, level_of};
+ghost use Rattle.c_lang.specs.CodeTyped as typed;
+ghost use Rattle.ac_expr.specs.CodeExpression.{exp_of, level_of};
 ghost use Rattle.simpl_lang.specs.Command.{Seq};
 ghost use Rattle.simpl_lang.specs.CodeCommand.{condition_of, simpl_of};
-ghost use Rattle.c_meaning.specs.Guards.{guards, truth};
-ghost use Rattle.c_meaning.specs.Generate as rules;
+ghost use Rattle.generation.specs.Guards.{guards, truth};
+ghost use Rattle.generation.specs.Generate as rules;
 
 use crate::commands::{sequence, set};
-use crate::jumps::{body_of_loop, looped};
+use crate::jumps::{body_of_loop, loop_with_breaks};
 use crate::names::first_local;
 use ac_expr::{Exp, Level};
-use c_typed::tree::{Expr, Test};
+use c_lang::tree::{Expr, Test};
 use c_values::Layout;
-use simpl_guards::terms::{implied, not, or, truth_literal, variable};
-use simpl_guards::{add_guards, truth};
+use simpl_expressions::terms::{implication, not, or, truth_literal, variable};
+use simpl_expressions::{add_guards, truth};
 use simpl_lang::{Condition, Simpl};
 use std::alloc::{AllocError, Global};
 
@@ -27,14 +27,15 @@ pub(crate) fn while_loop(
     e: &Expr,
     body: Box<Simpl>,
 ) -> Result<Box<Simpl>, AllocError>
-    ensures { IfOk result (λ s. simpl_of s.value ≡ rules.looped (guards l.now (level_of level) (typed.expr_of e.now))
+    ensures { IfOk result
+        (λ s. simpl_of s.value ≡ rules.looped (guards l.now (level_of level) (typed.expr_of e.now))
         (truth l.now (typed.expr_of e.now)) (rules.body_of_loop (simpl_of body.value))) }
 {
     let mut guards = Vec::new(alloc);
     add_guards(alloc, l, level, e, &mut guards)?;
     let test = truth(alloc, l, e)?;
     let body = body_of_loop(alloc, body)?;
-    looped(alloc, guards, test, body)
+    loop_with_breaks(alloc, guards, test, body)
 }
 
 /// `do body while (e);` with its number.
@@ -46,7 +47,9 @@ pub(crate) fn do_while(
     e: &Expr,
     body: Box<Simpl>,
 ) -> Result<Box<Simpl>, AllocError>
-    ensures { IfOk result (λ s. simpl_of s.value ≡ rules.do_while n (guards l.now (level_of level) (typed.expr_of e.now))
+    ensures { IfOk result
+        (λ s. simpl_of s.value
+        ≡ rules.do_while n (guards l.now (level_of level) (typed.expr_of e.now))
         (truth l.now (typed.expr_of e.now)) (simpl_of body.value)) }
 {
     let mut guards = Vec::new(alloc);
@@ -57,21 +60,22 @@ pub(crate) fn do_while(
     let body = body_of_loop(alloc, body)?;
     let later = set(alloc, first_local(alloc, n)?, truth_literal(alloc, false)?)?;
     let body = sequence(alloc, later, body)?;
-    let turns = looped(alloc, guards, test, body)?;
+    let turns = loop_with_breaks(alloc, guards, test, body)?;
     let first = set(alloc, first_local(alloc, n)?, truth_literal(alloc, true)?)?;
     sequence(alloc, first, turns)
 }
 
 // Each condition, but not in front of the first turn.
 fn after_first(alloc: Global, n: u64, guards: Vec<Condition>) -> Result<Vec<Condition>, AllocError>
-    ensures { IfOk result (λ gs. map condition_of gs.items ≡ rules.after_first n (map condition_of guards.items)) }
+    ensures { IfOk result
+        (λ gs. map condition_of gs.items ≡ rules.after_first n (map condition_of guards.items)) }
 {
     let mut later = Vec::new(alloc);
     for guard in guards {
         let Condition { kind, exp } = guard;
         let is_first = variable(alloc, first_local(alloc, n)?)?;
         let premise = not(alloc, is_first)?;
-        let exp = implied(alloc, premise, exp)?;
+        let exp = implication(alloc, premise, exp)?;
         later.push(Condition { kind, exp })?;
     }
     Ok(later)
@@ -86,15 +90,18 @@ pub(crate) fn for_loop(
     step: Box<Simpl>,
     body: Box<Simpl>,
 ) -> Result<Box<Simpl>, AllocError>
-    ensures { IfOk result (λ s. simpl_of s.value ≡ rules.looped (rules.test_guards l.now (level_of level) (typed.test_of test.now))
-        (rules.test_truth l.now (typed.test_of test.now)) (Seq (rules.body_of_loop (simpl_of body.value)) (simpl_of step.value))) }
+    ensures { IfOk result
+        (λ s. simpl_of s.value
+        ≡ rules.looped (rules.test_guards l.now (level_of level) (typed.test_of test.now))
+        (rules.test_truth l.now (typed.test_of test.now))
+        (Seq (rules.body_of_loop (simpl_of body.value)) (simpl_of step.value))) }
 {
     let mut guards = Vec::new(alloc);
     add_test_guards(alloc, l, level, test, &mut guards)?;
     let test = test_truth(alloc, l, test)?;
     let body = body_of_loop(alloc, body)?;
     let turn = sequence(alloc, body, step)?;
-    looped(alloc, guards, test, turn)
+    loop_with_breaks(alloc, guards, test, turn)
 }
 
 fn add_test_guards(
@@ -105,7 +112,8 @@ fn add_test_guards(
     out: &mut Vec<Condition>,
 ) -> Result<(), AllocError>
     ensures { OnOk result (map condition_of out.new.items
-        ≡ map condition_of out.old.items ++ rules.test_guards l.now (level_of level) (typed.test_of test.now)) }
+        ≡ map condition_of out.old.items ++ rules.test_guards l.now (level_of level)
+        (typed.test_of test.now)) }
 {
     match test {
         Test::Always => Ok(()),

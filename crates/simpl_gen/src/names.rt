@@ -2,7 +2,8 @@
 
 ghost use Rattle.std.specs.Prelude.{◌≡◌, IfOk, string_bytes};
 ghost use Rattle.simpl_lang.specs.Exec.{result_local};
-ghost use Rattle.c_meaning.specs.Generate as rules;
+ghost use Rattle.simpl_lang.specs.Flag.{thrown_local};
+ghost use Rattle.generation.specs.Generate as rules;
 
 use std::alloc::{AllocError, Global};
 
@@ -22,7 +23,7 @@ pub(crate) fn exception_local(alloc: Global) -> Result<String, AllocError>
 
 /// Whether a command ended abruptly, once there are no exceptions.
 pub(crate) fn thrown_local(alloc: Global) -> Result<String, AllocError>
-    ensures { IfOk result (λ x. string_bytes x ≡ rules.thrown_local) }
+    ensures { IfOk result (λ x. string_bytes x ≡ thrown_local) }
 {
     String::from_str(alloc, "$thrown")
 }

@@ -2,25 +2,25 @@
 
 ghost use Rattle.std.specs.Prelude.{◌≡◌, IfOk};
 ghost use Rattle.c_values.specs.CodeTypes.{int_type_of};
-ghost use Rattle.c_typed.specs.View as typed;
-ghost use Rattle.ac_expr.specs.Code.{level_of};
+ghost use Rattle.c_lang.specs.CodeTyped as typed;
+ghost use Rattle.ac_expr.specs.CodeExpression.{level_of};
 ghost use Rattle.simpl_lang.specs.Command.{Set, Seq, Cond};
 ghost use Rattle.simpl_lang.specs.Exec.{result_local};
 ghost use Rattle.simpl_lang.specs.CodeCommand.{simpl_of};
-ghost use Rattle.c_meaning.specs.Guards.{guards, truth, exp};
-ghost use Rattle.c_meaning.specs.Generate as rules;
+ghost use Rattle.generation.specs.Guards.{guards, truth, exp};
+ghost use Rattle.generation.specs.Generate as rules;
 
 use crate::assignments::assign;
 use crate::calls::call;
-use crate::commands::{chosen, guarded, pick, sequence, set, skip};
+use crate::commands::{conditional, pick, sequence, set, skip, with_guards};
 use crate::jumps::{Jump, jump_out};
 use crate::loops::{do_while, for_loop, while_loop};
 use crate::names::result_local;
 use crate::switches::{is_one_of, switch};
 use ac_expr::Level;
-use c_typed::tree::{Expr, Groups, Statement, Statements};
+use c_lang::tree::{Expr, Groups, Statement, Statements};
 use c_values::{IntType, Layout};
-use simpl_guards::{add_guards, truth, value};
+use simpl_expressions::{add_guards, truth, value};
 use simpl_lang::Simpl;
 use std::alloc::{AllocError, Global};
 
@@ -31,7 +31,8 @@ pub(crate) fn command(
     level: Level,
     s: &Statement,
 ) -> Result<Box<Simpl>, AllocError>
-    ensures { IfOk result (λ c. simpl_of c.value ≡ rules.command l.now (level_of level) (typed.statement_of s.now)) }
+    ensures { IfOk result
+        (λ c. simpl_of c.value ≡ rules.command l.now (level_of level) (typed.statement_of s.now)) }
 {
     match s {
         Statement::Empty => skip(alloc),
@@ -81,19 +82,21 @@ fn choice(
     a: Box<Simpl>,
     b: Box<Simpl>,
 ) -> Result<Box<Simpl>, AllocError>
-    ensures { IfOk result (λ c. simpl_of c.value ≡ rules.guarded (guards l.now (level_of level) (typed.expr_of e.now))
+    ensures { IfOk result
+        (λ c. simpl_of c.value ≡ rules.guarded (guards l.now (level_of level) (typed.expr_of e.now))
         (Cond (truth l.now (typed.expr_of e.now)) (simpl_of a.value) (simpl_of b.value))) }
 {
     let mut guards = Vec::new(alloc);
     add_guards(alloc, l, level, e, &mut guards)?;
     let test = truth(alloc, l, e)?;
-    let choice = chosen(alloc, test, a, b)?;
-    guarded(alloc, guards, choice)
+    let choice = conditional(alloc, test, a, b)?;
+    with_guards(alloc, guards, choice)
 }
 
 // `return e;`
 fn return_value(alloc: Global, l: &Layout, level: Level, e: &Expr) -> Result<Box<Simpl>, AllocError>
-    ensures { IfOk result (λ c. simpl_of c.value ≡ rules.guarded (guards l.now (level_of level) (typed.expr_of e.now))
+    ensures { IfOk result
+        (λ c. simpl_of c.value ≡ rules.guarded (guards l.now (level_of level) (typed.expr_of e.now))
         (Seq (Set result_local (exp l.now (typed.expr_of e.now))) (rules.jump rules.returned))) }
 {
     let mut guards = Vec::new(alloc);
@@ -101,7 +104,7 @@ fn return_value(alloc: Global, l: &Layout, level: Level, e: &Expr) -> Result<Box
     let result = set(alloc, result_local(alloc)?, value(alloc, l, e)?)?;
     let jump = jump_out(alloc, Jump::Return)?;
     let returned = sequence(alloc, result, jump)?;
-    guarded(alloc, guards, returned)
+    with_guards(alloc, guards, returned)
 }
 
 /// The commands of statements in their order.
@@ -112,7 +115,9 @@ pub(crate) fn commands(
     level: Level,
     statements: &Statements,
 ) -> Result<Box<Simpl>, AllocError>
-    ensures { IfOk result (λ c. simpl_of c.value ≡ rules.commands l.now (level_of level) (typed.statements_of statements.now)) }
+    ensures { IfOk result
+        (λ c. simpl_of c.value
+        ≡ rules.commands l.now (level_of level) (typed.statements_of statements.now)) }
 {
     match statements {
         Statements::None => skip(alloc),
@@ -138,7 +143,9 @@ fn before(
     init: &Statements,
     turns: Box<Simpl>,
 ) -> Result<Box<Simpl>, AllocError>
-    ensures { IfOk result (λ c. simpl_of c.value ≡ rules.before l.now (level_of level) (typed.statements_of init.now) (simpl_of turns.value)) }
+    ensures { IfOk result
+        (λ c. simpl_of c.value ≡ rules.before l.now (level_of level) (typed.statements_of init.now)
+        (simpl_of turns.value)) }
 {
     match init {
         Statements::None => Ok(turns),
@@ -173,7 +180,7 @@ fn cases(
             }
             let test = is_one_of(alloc, l.target(), ty, n, labels)?;
             let body = commands(alloc, l, level, body)?;
-            chosen(alloc, test, body, others)
+            conditional(alloc, test, body, others)
         }
     }
 }
@@ -186,7 +193,9 @@ fn default_of(
     level: Level,
     groups: &Groups,
 ) -> Result<Box<Simpl>, AllocError>
-    ensures { IfOk result (λ c. simpl_of c.value ≡ rules.default_of l.now (level_of level) (typed.groups_of groups.now)) }
+    ensures { IfOk result
+        (λ c. simpl_of c.value ≡ rules.default_of l.now (level_of level)
+        (typed.groups_of groups.now)) }
 {
     match groups {
         Groups::None => skip(alloc),

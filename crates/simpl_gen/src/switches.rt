@@ -2,22 +2,22 @@
 
 ghost use Rattle.std.specs.Prelude.{◌≡◌, map, IfOk};
 ghost use Rattle.c_values.specs.CodeTypes.{target_of, int_type_of};
-ghost use Rattle.c_typed.specs.View as typed;
-ghost use Rattle.ac_expr.specs.Code.{exp_of, level_of};
+ghost use Rattle.c_lang.specs.CodeTyped as typed;
+ghost use Rattle.ac_expr.specs.CodeExpression.{exp_of, level_of};
 ghost use Rattle.simpl_lang.specs.Command.{Set, Seq, Catch};
 ghost use Rattle.simpl_lang.specs.CodeCommand.{simpl_of};
 ghost use Rattle.ac_expr.specs.Expression.{Eq, Var};
-ghost use Rattle.c_meaning.specs.Guards as values;
-ghost use Rattle.c_meaning.specs.Generate as rules;
+ghost use Rattle.generation.specs.Guards as values;
+ghost use Rattle.generation.specs.Generate as rules;
 
-use crate::commands::{guarded, sequence, set};
+use crate::commands::{sequence, set, with_guards};
 use crate::jumps::until_break;
 use crate::names::switch_local;
 use ac_expr::{Exp, Level};
-use c_typed::tree::Expr;
+use c_lang::tree::Expr;
 use c_values::{IntType, Layout, Number, Target};
-use simpl_guards::terms::{equal, or, truth_literal, variable, word_of};
-use simpl_guards::{add_guards, value};
+use simpl_expressions::terms::{equal, or, truth_literal, variable, word_of};
+use simpl_expressions::{add_guards, value};
 use simpl_lang::Simpl;
 use std::alloc::{AllocError, Global};
 
@@ -30,15 +30,18 @@ pub(crate) fn switch(
     e: &Expr,
     groups: Box<Simpl>,
 ) -> Result<Box<Simpl>, AllocError>
-    ensures { IfOk result (λ s. simpl_of s.value ≡ rules.guarded (values.guards l.now (level_of level) (typed.expr_of e.now))
-        (Seq (Set (rules.switch_local n) (values.exp l.now (typed.expr_of e.now))) (Catch (simpl_of groups.value) (rules.stops_at rules.broken)))) }
+    ensures { IfOk result
+        (λ s. simpl_of s.value
+        ≡ rules.guarded (values.guards l.now (level_of level) (typed.expr_of e.now))
+        (Seq (Set (rules.switch_local n) (values.exp l.now (typed.expr_of e.now)))
+        (Catch (simpl_of groups.value) (rules.stops_at rules.broken)))) }
 {
     let mut guards = Vec::new(alloc);
     add_guards(alloc, l, level, e, &mut guards)?;
     let operand = set(alloc, switch_local(alloc, n)?, value(alloc, l, e)?)?;
     let groups = until_break(alloc, groups)?;
     let switch = sequence(alloc, operand, groups)?;
-    guarded(alloc, guards, switch)
+    with_guards(alloc, guards, switch)
 }
 
 /// Whether the operand is one of the labels. It goes over the labels by a loop, since a text may have many.
@@ -50,7 +53,8 @@ pub(crate) fn is_one_of(
     n: u64,
     labels: &[Number],
 ) -> Result<Box<Exp>, AllocError>
-    ensures { IfOk result (λ e. exp_of e.value ≡ rules.is_one_of (target_of target) (int_type_of ty) n labels.now) }
+    ensures { IfOk result
+        (λ e. exp_of e.value ≡ rules.is_one_of (target_of target) (int_type_of ty) n labels.now) }
 {
     if labels.is_empty() {
         return truth_literal(alloc, false);
@@ -73,7 +77,10 @@ fn is_label(
     n: u64,
     label: Number,
 ) -> Result<Box<Exp>, AllocError>
-    ensures { IfOk result (λ e. exp_of e.value ≡ Eq (Var (rules.switch_local n)) (values.word_of (target_of target) (int_type_of ty) label)) }
+    ensures { IfOk result
+        (λ e. exp_of e.value
+        ≡ Eq (Var (rules.switch_local n))
+        (values.word_of (target_of target) (int_type_of ty) label)) }
 {
     let operand = variable(alloc, switch_local(alloc, n)?)?;
     equal(alloc, operand, word_of(alloc, target, ty, label)?)

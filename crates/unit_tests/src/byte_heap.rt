@@ -94,11 +94,11 @@ fn misaligned_tags(rt: HostRuntime) -> Result<(), Fail> {
     let alloc = rt.alloc();
     for target in [Target::Ilp32, Target::Lp64] {
         let fault = fault_of(alloc, target, (4096, UINT), (4102, UINT))?;
-        assert_eq!(rt; fault, Some(HeapFault::Misaligned(1)));
+        assert!(rt; fault == Some(HeapFault::Misaligned(1)));
     }
     // The end of the space is no multiple of a size.
     let fault = fault_of(alloc, Target::Lp64, (u64::MAX, UINT), (4096, UINT))?;
-    assert_eq!(rt; fault, Some(HeapFault::Misaligned(0)));
+    assert!(rt; fault == Some(HeapFault::Misaligned(0)));
     Ok(())
 }
 
@@ -107,7 +107,7 @@ fn null_tags(rt: HostRuntime) -> Result<(), Fail> {
     let alloc = rt.alloc();
     for target in [Target::Ilp32, Target::Lp64] {
         let fault = fault_of(alloc, target, (4096, UINT), (0, named(alloc)?))?;
-        assert_eq!(rt; fault, Some(HeapFault::Null(1)));
+        assert!(rt; fault == Some(HeapFault::Null(1)));
     }
     Ok(())
 }
@@ -118,9 +118,9 @@ fn tags_past_the_end(rt: HostRuntime) -> Result<(), Fail> {
     for target in [Target::Ilp32, Target::Lp64] {
         let end = last_address(target) - 3;
         let fault = fault_of(alloc, target, (end, UINT), (4096, UINT))?;
-        assert_eq!(rt; fault, None);
+        assert!(rt; fault == None);
         let fault = fault_of(alloc, target, (4096, UINT), (end, named(alloc)?))?;
-        assert_eq!(rt; fault, Some(HeapFault::Past(1)));
+        assert!(rt; fault == Some(HeapFault::Past(1)));
     }
     Ok(())
 }
@@ -140,9 +140,15 @@ fn overlapping_tags(rt: HostRuntime) -> Result<(), Fail> {
         ] {
             let want = overlaps.then_some(HeapFault::Overlap(1));
             let (first, second) = ((struct_at, named(alloc)?), (word_at, UINT));
-            assert_eq!(rt; fault_of(alloc, target, first, second)?, want, "{word_at}");
+            assert!(rt;
+                fault_of(alloc, target, first, second)? == want,
+                "{word_at}"
+            );
             let (first, second) = ((word_at, UINT), (struct_at, named(alloc)?));
-            assert_eq!(rt; fault_of(alloc, target, first, second)?, want, "{word_at}");
+            assert!(rt;
+                fault_of(alloc, target, first, second)? == want,
+                "{word_at}"
+            );
         }
     }
     Ok(())
@@ -156,12 +162,12 @@ fn numbers_of_pages(rt: HostRuntime) -> Result<(), Fail> {
     let second = (8192, [9, 0, 0, 0, 0, 0, 0, 0]);
     let tags = [(4096, named(alloc)?), (12288, UINT)];
     let mut h = heap_of(alloc, &l, first, second, tags)?;
-    assert_eq!(rt; h.pages(), 2);
-    assert_eq!(rt; word_at(&h, &l, &UINT, 4100, &[]), Some(8192));
+    assert!(rt; h.pages() == 2);
+    assert!(rt; word_at(&h, &l, &UINT, 4100, &[]) == Some(8192));
     put_word(alloc, &mut h, &l, &UINT, 12288, &[], 1)?;
-    assert_eq!(rt; h.pages(), 3);
-    assert_eq!(rt; word_at(&h, &l, &UINT, 16384, &[]), Some(0));
-    assert_eq!(rt; h.pages(), 3);
+    assert!(rt; h.pages() == 3);
+    assert!(rt; word_at(&h, &l, &UINT, 16384, &[]) == Some(0));
+    assert!(rt; h.pages() == 3);
     Ok(())
 }
 
@@ -190,7 +196,7 @@ fn words_of_each_width(rt: HostRuntime) -> Result<(), Fail> {
     ];
     for (i, address, want, pages) in rows {
         let found = written(rt.alloc(), i, address, all)?;
-        assert_eq!(rt; found, (want, pages), "{address}");
+        assert!(rt; found == (want, pages), "{address}");
     }
     Ok(())
 }
@@ -205,12 +211,12 @@ fn words_over_the_end_of_the_space(rt: HostRuntime) -> Result<(), Fail> {
         let second = (last - 7, [0, 0, 0, 0, 0, 0, 1, 2]);
         let tags = [(4096, UINT), (8192, UINT)];
         let mut h = heap_of(alloc, &l, first, second, tags)?;
-        assert_eq!(rt; word_at(&h, &l, &UINT, last - 1, &[]), Some(0x0403_0201));
-        assert_eq!(rt; h.pages(), 2);
+        assert!(rt; word_at(&h, &l, &UINT, last - 1, &[]) == Some(0x0403_0201));
+        assert!(rt; h.pages() == 2);
         put_word(alloc, &mut h, &l, &UINT, last - 1, &[], 0x0807_0605)?;
-        assert_eq!(rt; bytes_at(&h, 0), [7, 8, 0, 0, 0, 0, 0, 0]);
-        assert_eq!(rt; (h.byte(last - 1), h.byte(last)), (5, 6));
-        assert_eq!(rt; h.pages(), 2);
+        assert!(rt; bytes_at(&h, 0) == [7, 8, 0, 0, 0, 0, 0, 0]);
+        assert!(rt; (h.byte(last - 1), h.byte(last)) == (5, 6));
+        assert!(rt; h.pages() == 2);
     }
     Ok(())
 }
@@ -224,8 +230,8 @@ fn padding_of_a_copy(rt: HostRuntime) -> Result<(), Fail> {
     let tags = [(4096, named(alloc)?), (4104, named(alloc)?)];
     let mut h = heap_of(alloc, &l, first, second, tags)?;
     copy_value(alloc, &mut h, &l, &named(alloc)?, 4104, 4096)?;
-    assert_eq!(rt; bytes_at(&h, 4096), first.1);
-    assert_eq!(rt; bytes_at(&h, 4104), [1, 0xbb, 0xbb, 0xbb, 2, 0, 0, 0]);
+    assert!(rt; bytes_at(&h, 4096) == first.1);
+    assert!(rt; bytes_at(&h, 4104) == [1, 0xbb, 0xbb, 0xbb, 2, 0, 0, 0]);
     Ok(())
 }
 
@@ -233,7 +239,7 @@ fn padding_of_a_copy(rt: HostRuntime) -> Result<(), Fail> {
 fn ten_thousand_tags(rt: HostRuntime) -> Result<(), Fail> {
     let l = layout(rt.alloc(), Target::Ilp32)?;
     let h = heap_of_row(rt.alloc(), &l, 10000)?;
-    assert_eq!(rt; h.tags().len(), 10000);
+    assert!(rt; h.tags().len() == 10000);
     for k in 0..10000u64 {
         assert!(rt; h.tagged(&l, &UINT, 4096 + 4 * k), "{k}");
     }

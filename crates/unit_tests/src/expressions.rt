@@ -1,8 +1,6 @@
 //! Sorts and values of expressions that are known from elsewhere.
 
-use ac_expr::{
-    Binder, Env, EvalFault, Exp, Kind, Names, Path, Scalar, Sort, eval, same_value, sort_of,
-};
+use ac_expr::{Binder, Env, EvalFault, Exp, Kind, Names, Path, Scalar, Sort, eval, sort_of};
 use c_memory::ByteHeap;
 use c_values::{CType, IntType, Layout, Number, NumberOp, Target, Value, Word};
 use std::alloc::{AllocError, Global};
@@ -53,7 +51,7 @@ fn operations_at_the_limit(rt: HostRuntime) -> Result<(), Fail> {
     ];
     for (op, a, b, wide) in rows {
         let e = operation(rt.alloc(), op, a, b)?;
-        assert_eq!(rt; is_wide(rt.alloc(), &e)?, wide, "{op:?}");
+        assert!(rt; is_wide(rt.alloc(), &e)? == wide, "{op:?}");
     }
     Ok(())
 }
@@ -63,13 +61,13 @@ fn operands_that_are_left_open(rt: HostRuntime) -> Result<(), Fail> {
     let alloc = rt.alloc();
     for left in [false, true] {
         let and = Exp::And(truth(alloc, left)?, wide_test(alloc)?);
-        assert_eq!(rt; is_wide(alloc, &and)?, left);
+        assert!(rt; is_wide(alloc, &and)? == left);
         let or = Exp::Or(truth(alloc, left)?, wide_test(alloc)?);
-        assert_eq!(rt; is_wide(alloc, &or)?, !left);
+        assert!(rt; is_wide(alloc, &or)? == !left);
         let imp = Exp::Imp(truth(alloc, left)?, wide_test(alloc)?);
-        assert_eq!(rt; is_wide(alloc, &imp)?, left);
+        assert!(rt; is_wide(alloc, &imp)? == left);
         let choice = Exp::If(truth(alloc, left)?, wide_test(alloc)?, truth(alloc, true)?);
-        assert_eq!(rt; is_wide(alloc, &choice)?, left);
+        assert!(rt; is_wide(alloc, &choice)? == left);
     }
     Ok(())
 }
@@ -108,10 +106,7 @@ fn indices_of_any_size(rt: HostRuntime) -> Result<(), Fail> {
         let padd = Exp::Padd(CType::Int(IntType::UInt), pointer, Box::new(alloc, index)?);
         for (e, want) in [(&load, bits), (&at, address), (&padd, address)] {
             let value = value_of(alloc, e)?.ok().ok_or("no value")?;
-            assert!(rt;
-                same_value(&value, &Value::Word(Word::new(32, want))),
-                "{magnitude}"
-            );
+            assert!(rt; value == Value::Word(Word::new(32, want)), "{magnitude}");
         }
     }
     Ok(())
@@ -160,10 +155,10 @@ fn names_of_binders(rt: HostRuntime) -> Result<(), Fail> {
     let outer = outer.push("y", Scalar::Truth);
     let outer = outer.push("z", Scalar::Num);
     let inner = outer.push_all(&binders);
-    assert_eq!(rt; inner.get("x"), Some(Scalar::Word(16)));
-    assert_eq!(rt; inner.get("y"), Some(Scalar::Word(32)));
-    assert_eq!(rt; inner.get("z"), Some(Scalar::Num));
-    assert_eq!(rt; inner.get("w"), None);
+    assert!(rt; inner.get("x") == Some(Scalar::Word(16)));
+    assert!(rt; inner.get("y") == Some(Scalar::Word(32)));
+    assert!(rt; inner.get("z") == Some(Scalar::Num));
+    assert!(rt; inner.get("w") == None);
     Ok(())
 }
 
@@ -189,8 +184,9 @@ fn deep_expressions(rt: HostRuntime) -> Result<(), Fail> {
         e = Box::new(alloc, Exp::Not(e))?;
     }
     let copy = e.copy(alloc)?;
+    assert!(rt; copy.same(&e));
     let value = value_of(alloc, &copy)?.ok().ok_or("no value")?;
-    assert!(rt; same_value(&value, &Value::Truth(true)));
+    assert!(rt; value == Value::Truth(true));
     Ok(())
 }
 
@@ -204,6 +200,6 @@ fn long_disjunctions(rt: HostRuntime) -> Result<(), Fail> {
     }
     let copy = e.copy(alloc)?;
     let value = value_of(alloc, &copy)?.ok().ok_or("no value")?;
-    assert!(rt; same_value(&value, &Value::Truth(true)));
+    assert!(rt; value == Value::Truth(true));
     Ok(())
 }

@@ -1,5 +1,5 @@
-//! The tests of each crate by itself, through its public calls: words, heaps, expressions, tokens, trees, levels and forms
-//! at values that are known from elsewhere. They stand in a crate of their own, since a crate with tests is proved twice.
+//! The tests of the crates below generation, each by itself, through its public calls: words, heaps, expressions, levels and
+//! forms at values that are known from elsewhere. They stand in a crate of their own, since a crate with tests is proved twice.
 #![tactic(auto)]
 
 #[cfg(test)]
@@ -7,15 +7,11 @@ mod byte_heap;
 #[cfg(test)]
 mod expressions;
 #[cfg(test)]
-mod files;
-#[cfg(test)]
-mod grammar;
-#[cfg(test)]
 mod heaps;
 #[cfg(test)]
 mod levels;
 #[cfg(test)]
-mod lexing;
+mod program_sequences;
 #[cfg(test)]
 mod simpl_forms;
 #[cfg(test)]

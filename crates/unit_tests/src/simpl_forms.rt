@@ -80,13 +80,14 @@ fn add_global(
     Ok(())
 }
 
-// unsigned g; struct pair pair; unsigned many[100000]; struct none none;
+// unsigned g; struct pair pair; unsigned many[16384]; unsigned vast[16385]; struct none none;
+// `many` is the largest array that is an object.
 fn globals(alloc: Global) -> Result<Vec<GlobalVar>, AllocError> {
     let mut globals = Vec::new(alloc);
     add_global(alloc, "g", uint(), &mut globals)?;
     add_global(alloc, "pair", struct_named(alloc, "pair")?, &mut globals)?;
-    let many = array(alloc, uint(), 100_000)?;
-    add_global(alloc, "many", many, &mut globals)?;
+    add_global(alloc, "many", array(alloc, uint(), 16_384)?, &mut globals)?;
+    add_global(alloc, "vast", array(alloc, uint(), 16_385)?, &mut globals)?;
     add_global(alloc, "none", struct_named(alloc, "none")?, &mut globals)?;
     Ok(globals)
 }
@@ -259,7 +260,7 @@ fn long_sequences_have_an_answer(rt: HostRuntime) -> Result<(), Fail> {
         for _ in 0..length {
             body = seq(alloc, Simpl::Skip, body)?;
         }
-        assert_eq!(rt; fits(alloc, body)?, fits_last);
+        assert!(rt; fits(alloc, body)? == fits_last);
     }
     Ok(())
 }
@@ -294,7 +295,7 @@ fn many_locals_and_long_tests_have_an_answer(rt: HostRuntime) -> Result<(), Fail
         let set = Simpl::Set(text(alloc, last)?, word(1));
         f.body = cond(alloc, any_of(alloc, 32_767)?, set, Simpl::Skip)?;
         let s = signature(alloc, "h", &[], None)?;
-        assert_eq!(rt; fits_one_more(alloc, f, s)?, fits_last);
+        assert!(rt; fits_one_more(alloc, f, s)? == fits_last);
     }
     Ok(())
 }
@@ -327,12 +328,15 @@ fn values_go_to_globals_of_their_sort(rt: HostRuntime) -> Result<(), Fail> {
 }
 
 #[test]
-fn globals_may_be_large(rt: HostRuntime) -> Result<(), Fail> {
+fn globals_are_objects(rt: HostRuntime) -> Result<(), Fail> {
     let alloc = rt.alloc();
     assert!(rt; fits_global(alloc, "many", element(alloc, number(5))?, word(1))?);
     assert!(rt; !fits_global(alloc, "many", element(alloc, word(5))?, word(1))?);
-    let whole = Exp::Global(text(alloc, "many")?, Path::Here);
-    assert!(rt; !fits_global(alloc, "many", Path::Here, whole)?);
+    assert!(rt; !fits_global(alloc, "vast", element(alloc, number(5))?, word(1))?);
+    for (name, is_object) in [("many", true), ("vast", false)] {
+        let whole = Exp::Global(text(alloc, name)?, Path::Here);
+        assert!(rt; fits_global(alloc, name, Path::Here, whole)? == is_object);
+    }
     assert!(rt; !fits_global(alloc, "none", Path::Here, pointed_pair(alloc)?)?);
     let index = Exp::ToNat(Box::new(alloc, part_of_value(alloc)?)?);
     assert!(rt; !fits_global(alloc, "many", element(alloc, index)?, word(1))?);
@@ -366,11 +370,11 @@ fn both_parts_of_a_command_are_asked(rt: HostRuntime) -> Result<(), Fail> {
     for (first, last) in [(true, true), (true, false), (false, true)] {
         let expected = first && last;
         let body = seq(alloc, part(alloc, first)?, part(alloc, last)?)?;
-        assert_eq!(rt; fits(alloc, body)?, expected, "seq");
+        assert!(rt; fits(alloc, body)? == expected, "seq");
         let body = catch(alloc, part(alloc, first)?, part(alloc, last)?)?;
-        assert_eq!(rt; fits(alloc, body)?, expected, "catch");
+        assert!(rt; fits(alloc, body)? == expected, "catch");
         let body = cond(alloc, test(true), part(alloc, first)?, part(alloc, last)?)?;
-        assert_eq!(rt; fits(alloc, body)?, expected, "cond");
+        assert!(rt; fits(alloc, body)? == expected, "cond");
     }
     Ok(())
 }
@@ -381,13 +385,13 @@ fn tests_are_truth_values(rt: HostRuntime) -> Result<(), Fail> {
     for (is_test, is_body) in [(true, true), (true, false), (false, true)] {
         let expected = is_test && is_body;
         let body = guard(alloc, test(is_test), part(alloc, is_body)?)?;
-        assert_eq!(rt; fits(alloc, body)?, expected, "guard");
+        assert!(rt; fits(alloc, body)? == expected, "guard");
         let body = cond(alloc, test(is_test), part(alloc, is_body)?, Simpl::Throw)?;
-        assert_eq!(rt; fits(alloc, body)?, expected, "cond");
+        assert!(rt; fits(alloc, body)? == expected, "cond");
         let body = repeat(alloc, test(is_test), test(true), part(alloc, is_body)?)?;
-        assert_eq!(rt; fits(alloc, body)?, expected, "condition of a while");
+        assert!(rt; fits(alloc, body)? == expected, "condition of a while");
         let body = repeat(alloc, test(true), test(is_test), part(alloc, is_body)?)?;
-        assert_eq!(rt; fits(alloc, body)?, expected, "while");
+        assert!(rt; fits(alloc, body)? == expected, "while");
     }
     Ok(())
 }
@@ -408,7 +412,7 @@ fn calls_have_arguments_and_targets_of_their_kinds(rt: HostRuntime) -> Result<()
     ];
     for (to, name, count, expected) in rows {
         let body = call(rt.alloc(), to, name, count)?;
-        assert_eq!(rt; fits(rt.alloc(), body)?, expected, "{name} {count}");
+        assert!(rt; fits(rt.alloc(), body)? == expected, "{name} {count}");
     }
     Ok(())
 }
@@ -449,7 +453,7 @@ fn locals_are_distinct_and_of_kinds_that_are(rt: HostRuntime) -> Result<(), Fail
     for (name, kind, expected) in rows {
         let f = function(alloc, "h", &[("y", Kind::Bool), (name, kind)], Simpl::Skip)?;
         let s = signature(alloc, "h", &[], None)?;
-        assert_eq!(rt; fits_one_more(alloc, f, s)?, expected, "{name} {kind:?}");
+        assert!(rt; fits_one_more(alloc, f, s)? == expected, "{name} {kind:?}");
     }
     Ok(())
 }

@@ -1,6 +1,5 @@
 //! Tests of long sequences.
 
-use command_trees::{copy_of_command, same_command};
 use simpl_lang::{Simpl, commands, is_flat};
 use std::alloc::{AllocError, Global};
 use std::test::Fail;
@@ -20,12 +19,12 @@ fn long_sequences_are_walked_copied_compared_and_dropped(rt: HostRuntime) -> Res
     let alloc = rt.alloc();
     let flat = skips(alloc, 1_000_000, Simpl::Skip)?;
     assert!(rt; is_flat(&flat));
-    assert_eq!(rt; commands(&flat), 2_000_001);
-    let copy = copy_of_command(alloc, &flat)?;
-    assert!(rt; same_command(&flat, &copy));
+    assert!(rt; commands(&flat) == 2_000_001);
+    let copy = flat.copy(alloc)?;
+    assert!(rt; flat.same(&copy));
     let thrown = skips(alloc, 1_000_000, Simpl::Throw)?;
     assert!(rt; !is_flat(&thrown));
-    assert_eq!(rt; commands(&thrown), 2_000_001);
-    assert!(rt; !same_command(&copy, &thrown));
+    assert!(rt; commands(&thrown) == 2_000_001);
+    assert!(rt; !copy.same(&thrown));
     Ok(())
 }

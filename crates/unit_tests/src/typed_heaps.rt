@@ -165,10 +165,10 @@ fn padding_stays(rt: HostRuntime) -> Result<(), Fail> {
     h.put(alloc, &BYTE, 4104, &[], 3)?;
     h.put(alloc, &UINT, 4108, &[], 4)?;
     h.copy(alloc, &p, 4104, 4096)?;
-    assert_eq!(rt; h.words(&UINT, 4104, &[]), (Some(0xbbbb_bb01), Some(0)));
+    assert!(rt; h.words(&UINT, 4104, &[]) == (Some(0xbbbb_bb01), Some(0)));
     for (address, k, want) in [(4096, 0, 1), (4096, 1, 2), (4104, 0, 1), (4104, 1, 2)] {
         let words = h.words(&p, address, &[Step::Field(k)]);
-        assert_eq!(rt; words, (Some(want), Some(want)), "{address}");
+        assert!(rt; words == (Some(want), Some(want)), "{address}");
     }
     Ok(())
 }
@@ -193,7 +193,7 @@ fn indices_of_elements(rt: HostRuntime) -> Result<(), Fail> {
     ];
     for (negative, magnitude, in_bytes, in_cells) in rows {
         let words = h.words(&q, 4096, &element(negative, magnitude));
-        assert_eq!(rt; words, (Some(in_bytes), Some(in_cells)), "{magnitude}");
+        assert!(rt; words == (Some(in_bytes), Some(in_cells)), "{magnitude}");
     }
     h.put(alloc, &q, 4096, &element(false, 2), 99)?;
     h.put(alloc, &q, 4096, &element(true, 1), 99)?;
@@ -205,7 +205,7 @@ fn indices_of_elements(rt: HostRuntime) -> Result<(), Fail> {
         (4092, 99, 0),
     ] {
         let words = h.words(&UINT, address, &[]);
-        assert_eq!(rt; words, (Some(in_bytes), Some(in_cells)), "{address}");
+        assert!(rt; words == (Some(in_bytes), Some(in_cells)), "{address}");
     }
     Ok(())
 }
@@ -230,15 +230,15 @@ fn roots_of_two_types(rt: HostRuntime) -> Result<(), Fail> {
         (&UINT, 8196, false),
     ];
     for (t, address, want) in roots {
-        assert_eq!(rt; h.covers(t, address), (want, want), "{address}");
+        assert!(rt; h.covers(t, address) == (want, want), "{address}");
     }
     h.put(alloc, &UINT, 4108, &[], 5)?;
     h.put(alloc, &p, 4104, &[Step::Field(0)], 6)?;
     h.put(alloc, &UINT, 8196, &[], 7)?;
-    assert_eq!(rt; h.words(&q, 4096, &element(false, 1)), (Some(5), Some(5)));
-    assert_eq!(rt; h.words(&BYTE, 4104, &[]), (Some(6), Some(6)));
-    assert_eq!(rt; h.words(&UINT, 8196, &[]), (Some(7), Some(0)));
-    assert_eq!(rt; h.words(&UINT, 8192, &[]), (Some(0), Some(0)));
+    assert!(rt; h.words(&q, 4096, &element(false, 1)) == (Some(5), Some(5)));
+    assert!(rt; h.words(&BYTE, 4104, &[]) == (Some(6), Some(6)));
+    assert!(rt; h.words(&UINT, 8196, &[]) == (Some(7), Some(0)));
+    assert!(rt; h.words(&UINT, 8192, &[]) == (Some(0), Some(0)));
     Ok(())
 }
 
@@ -251,8 +251,8 @@ fn views_of_many_tags(rt: HostRuntime) -> Result<(), Fail> {
         let last = 4092 + 4 * u64::from(count);
         put_word(alloc, &mut h, &l, &UINT, last, &[], 7)?;
         let cells = typed(alloc, &l, &h)?;
-        assert_eq!(rt; word_at(&cells, &l, &UINT, last, &[]), Some(7));
-        assert_eq!(rt; word_at(&cells, &l, &UINT, last + 4, &[]), Some(0));
+        assert!(rt; word_at(&cells, &l, &UINT, last, &[]) == Some(7));
+        assert!(rt; word_at(&cells, &l, &UINT, last + 4, &[]) == Some(0));
     }
     Ok(())
 }

@@ -48,9 +48,8 @@ fn operations_on_words(rt: HostRuntime) {
         (WordOp::Wxor, 12, 10, 6),
     ];
     for (op, a, b, want) in rows {
-        assert_eq!(rt;
-            word_op(op, int_word(a), int_word(b)),
-            int_word(want),
+        assert!(rt;
+            word_op(op, int_word(a), int_word(b)) == int_word(want),
             "{op:?} {a} {b}"
         );
     }
@@ -65,14 +64,13 @@ fn operations_on_words(rt: HostRuntime) {
         (ShiftOp::Wsshr, 8, 32, 0),
     ];
     for (op, a, n, want) in shifts {
-        assert_eq!(rt;
-            word_shift(op, int_word(a), number(n)),
-            int_word(want),
+        assert!(rt;
+            word_shift(op, int_word(a), number(n)) == int_word(want),
             "{op:?} {a} {n}"
         );
     }
-    assert_eq!(rt; word_unary(UnaryOp::Wneg, int_word(LEAST)), int_word(LEAST));
-    assert_eq!(rt; word_unary(UnaryOp::Wnot, int_word(5)), int_word(-6));
+    assert!(rt; word_unary(UnaryOp::Wneg, int_word(LEAST)) == int_word(LEAST));
+    assert!(rt; word_unary(UnaryOp::Wnot, int_word(5)) == int_word(-6));
     let tests = [
         (WordTest::Wult, -1, 1, false),
         (WordTest::Wule, 1, 1, true),
@@ -80,9 +78,8 @@ fn operations_on_words(rt: HostRuntime) {
         (WordTest::Wsle, 1, -1, false),
     ];
     for (test, a, b, want) in tests {
-        assert_eq!(rt;
-            word_test(test, int_word(a), int_word(b)),
-            want,
+        assert!(rt;
+            word_test(test, int_word(a), int_word(b)) == want,
             "{test:?} {a} {b}"
         );
     }
@@ -92,14 +89,14 @@ fn operations_on_words(rt: HostRuntime) {
 fn words_as_numbers(rt: HostRuntime) {
     // 255 and 1 as ints, and their sum as an unsigned char.
     let sum = word_op(WordOp::Wadd, int_word(255), int_word(1));
-    assert_eq!(rt; cast(false, 8, sum).bits(), 0);
-    assert_eq!(rt; cast(true, 64, int_word(-2)).bits(), u64::MAX - 1);
-    assert_eq!(rt; cast(false, 64, int_word(-2)).bits(), 4294967294);
-    assert_eq!(rt; nat(int_word(-1)), number(4294967295));
-    assert_eq!(rt; int(int_word(-1)), number(-1));
-    assert_eq!(rt; word(16, number(-1)).bits(), 65535);
-    assert_eq!(rt; word(64, Number::new(true, u128::MAX)).bits(), 1);
-    assert_eq!(rt; word(16, number(7)).width(), 16);
+    assert!(rt; cast(false, 8, sum).bits() == 0);
+    assert!(rt; cast(true, 64, int_word(-2)).bits() == u64::MAX - 1);
+    assert!(rt; cast(false, 64, int_word(-2)).bits() == 4294967294);
+    assert!(rt; nat(int_word(-1)) == number(4294967295));
+    assert!(rt; int(int_word(-1)) == number(-1));
+    assert!(rt; word(16, number(-1)).bits() == 65535);
+    assert!(rt; word(64, Number::new(true, u128::MAX)).bits() == 1);
+    assert!(rt; word(16, number(7)).width() == 16);
 }
 
 #[test]
@@ -116,22 +113,17 @@ fn operations_on_numbers(rt: HostRuntime) {
         (NumberOp::Neg, 0, 9, 0),
     ];
     for (op, a, b, want) in rows {
-        assert_eq!(rt;
-            number_op(op, number(a), number(b)),
-            Some(number(want)),
+        assert!(rt;
+            number_op(op, number(a), number(b)) == Some(number(want)),
             "{op:?} {a} {b}"
         );
     }
     let greatest = Number::new(false, u128::MAX);
-    assert_eq!(rt; number_op(NumberOp::Add, greatest, number(1)), None);
-    assert_eq!(rt;
-        number_op(NumberOp::Mul, greatest, number(-1)),
-        Some(Number::new(true, u128::MAX))
+    assert!(rt; number_op(NumberOp::Add, greatest, number(1)) == None);
+    assert!(rt;
+        number_op(NumberOp::Mul, greatest, number(-1)) == Some(Number::new(true, u128::MAX))
     );
-    assert_eq!(rt;
-        number_op(NumberOp::Neg, greatest, greatest).map(|n| n.negative()),
-        Some(true)
-    );
+    assert!(rt; number_op(NumberOp::Neg, greatest, greatest).map(|n| n.negative()) == Some(true));
 }
 
 #[test]
@@ -151,14 +143,13 @@ fn exact_results(rt: HostRuntime) {
     for (op, ty, a, b, want) in rows {
         let width = width_of(Target::Ilp32, ty);
         let (first, second) = (word(width, number(a)), word(width, number(b)));
-        assert_eq!(rt;
-            fits(Target::Ilp32, op, ty, first, second),
-            want,
+        assert!(rt;
+            fits(Target::Ilp32, op, ty, first, second) == want,
             "{op:?} {a} {b}"
         );
     }
     let long = width_of(Target::Lp64, IntType::Long);
-    assert_eq!(rt; long, 64);
+    assert!(rt; long == 64);
     let (most, one) = (word(long, number(2147483647)), word(long, number(1)));
     assert!(rt; fits(Target::Lp64, NumberOp::Add, IntType::Long, most, one));
 }
@@ -203,10 +194,10 @@ fn measured(l: &Layout, t: &CType) -> Option<(u32, u32)> {
 fn places_in_structs(rt: HostRuntime) -> Result<(), Fail> {
     let alloc = rt.alloc();
     let layout = Layout::build(Target::Ilp32, structs(alloc, 16384)?)?;
-    assert_eq!(rt; layout.target(), Target::Ilp32);
-    assert_eq!(rt; layout.structs().len(), 2);
+    assert!(rt; layout.target() == Target::Ilp32);
+    assert!(rt; layout.structs().len() == 2);
     let small = CType::Struct(String::from_str(alloc, "p")?);
-    assert_eq!(rt; measured(&layout, &small), Some((8, 4)));
+    assert!(rt; measured(&layout, &small) == Some((8, 4)));
     let row = CType::Array(Box::new(alloc, small)?, 3);
     assert!(rt; is_object(&layout, &row));
     let paths = [
@@ -219,7 +210,7 @@ fn places_in_structs(rt: HostRuntime) -> Result<(), Fail> {
         ([PathStep::Field(0), PathStep::Index(0)], None),
     ];
     for (path, want) in paths {
-        assert_eq!(rt; offset_of(&layout, &row, &path), want, "{path:?}");
+        assert!(rt; offset_of(&layout, &row, &path) == want, "{path:?}");
     }
     Ok(())
 }
@@ -230,12 +221,12 @@ fn sizes_of_types(rt: HostRuntime) -> Result<(), Fail> {
     for (target, bytes) in [(Target::Ilp32, 4), (Target::Lp64, 8)] {
         let layout = Layout::build(target, structs(alloc, 16384)?)?;
         let large = CType::Struct(String::from_str(alloc, "q")?);
-        assert_eq!(rt; measured(&layout, &large), Some((65536, 4)));
+        assert!(rt; measured(&layout, &large) == Some((65536, 4)));
         let pointer = CType::Ptr(Box::new(alloc, large)?);
-        assert_eq!(rt; measured(&layout, &pointer), Some((bytes, bytes)));
+        assert!(rt; measured(&layout, &pointer) == Some((bytes, bytes)));
         let unknown = CType::Struct(String::from_str(alloc, "r")?);
-        assert_eq!(rt; measured(&layout, &unknown), None);
-        assert_eq!(rt; measured(&layout, &CType::Void), None);
+        assert!(rt; measured(&layout, &unknown) == None);
+        assert!(rt; measured(&layout, &CType::Void) == None);
     }
     Ok(())
 }
@@ -245,7 +236,7 @@ fn structs_too_large(rt: HostRuntime) -> Result<(), Fail> {
     let alloc = rt.alloc();
     match Layout::build(Target::Ilp32, structs(alloc, 16385)?) {
         Ok(_) => assert!(rt; false, "65,540 bytes have a layout"),
-        Err(fault) => assert_eq!(rt; fault, LayoutFault::Large(1)),
+        Err(fault) => assert!(rt; fault == LayoutFault::Large(1)),
     }
     Ok(())
 }

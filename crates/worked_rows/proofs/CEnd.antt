@@ -10,10 +10,10 @@ use Rattle.c_values.specs.Layout.{Layout}
 use Rattle.c_values.specs.Choice.{Choice, Fill, picked}
 use Rattle.ac_expr.specs.Sort.{Level}
 use Rattle.ac_expr.specs.Signature.{Invocation, bound}
-use Rattle.simpl_lang.specs.Command as K
-use Rattle.simpl_lang.specs.Exec.{Machine, machine_with, with_local, Returned}
-use Rattle.c_typed.specs.Typed as C
-use Rattle.c_typed.specs.Labels.{is_label, has_label}
+use Rattle.ac_expr.specs.GuardKind as K
+use Rattle.ac_expr.specs.Machine.{Machine, machine_with, with_local, Returned}
+use Rattle.c_lang.specs.Typed as C
+use Rattle.c_lang.specs.Labels.{is_label, has_label}
 use Rattle.c_meaning.specs.CValue.{◌>>=◌, value, values, located, accessible, converted, is_true, number_at}
 use Rattle.c_meaning.specs.CRun as R
 use Rattle.c_meaning.specs.CRun.{Flow, Next, Broken, Continued, Returning, Runs, Setting, Ended, context, stored, result_value, local_width}

@@ -6,9 +6,9 @@ use Rattle.c_values.specs.Types.{CType}
 use Rattle.c_values.specs.Value.{Value, nothing}
 use Rattle.c_memory.specs.Heap.{read_heap, OnBytes}
 use Rattle.ac_expr.specs.Sort.{Level}
-use Rattle.simpl_lang.specs.Command.{GuardKind}
-use Rattle.simpl_lang.specs.Exec.{Returned}
-use Rattle.c_meaning.specs.Generate.{generated}
+use Rattle.ac_expr.specs.GuardKind.{GuardKind}
+use Rattle.ac_expr.specs.Machine.{Returned}
+use Rattle.generation.specs.Generate.{generated}
 use Rattle.worked_rows.specs.Claims.{Case, no_memory, invocation, ends, simpl_ends, bytes_at, heap_bytes, Returns, Leaves, Holds, Undefined, Stops, ReturnsInC, StopsInC}
 use Rattle.worked_rows.proofs.CEnd.{c_end, c_ends}
 use Rattle.worked_rows.proofs.SimplEnd as S

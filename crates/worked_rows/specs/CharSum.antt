@@ -1,7 +1,7 @@
 -- unsigned char g(unsigned char a, unsigned char b){return a+b;}
 use Rattle.std.specs.Prelude.{[], ◌∷◌, Some, pos, codes}
 use Rattle.c_values.specs.Types.{Int, UChar, CType, Integer}
-use Rattle.c_typed.specs.Typed.{Local, Convert, Compute, Add, Return, TypedUnit}
+use Rattle.c_lang.specs.Typed.{Local, Convert, Compute, Add, Return, TypedUnit}
 use Rattle.worked_rows.specs.Trees.{int, char_value, variable, function, unit_of}
 use Rattle.worked_rows.specs.Claims.{Case, call, no_memory}
 

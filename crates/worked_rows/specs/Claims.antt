@@ -11,11 +11,12 @@ use Rattle.c_memory.specs.Memory.{Tag, Memory}
 use Rattle.c_memory.specs.Heap.{Heap, OnBytes, OnTypes, read_heap}
 use Rattle.ac_expr.specs.Sort.{Level, Words, Numbers}
 use Rattle.ac_expr.specs.Signature.{Invocation}
-use Rattle.simpl_lang.specs.Command.{GuardKind}
-use Rattle.simpl_lang.specs.Exec.{Returned, simpl_runs}
-use Rattle.c_typed.specs.Typed.{TypedUnit}
+use Rattle.ac_expr.specs.GuardKind.{GuardKind}
+use Rattle.ac_expr.specs.Machine.{Returned}
+use Rattle.simpl_lang.specs.Exec.{simpl_runs}
+use Rattle.c_lang.specs.Typed.{TypedUnit}
 use Rattle.c_meaning.specs.CRun.{c_runs}
-use Rattle.c_meaning.specs.Generate.{generated}
+use Rattle.generation.specs.Generate.{generated}
 
 pub record Case : Type 0 where
   pub unit : TypedUnit

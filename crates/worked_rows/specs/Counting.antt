@@ -4,7 +4,7 @@ use Rattle.std.specs.Prelude.{ℕ, [], ◌∷◌, Some, pos, codes}
 use Rattle.c_values.specs.Name.{Name}
 use Rattle.c_values.specs.Types.{UInt}
 use Rattle.c_memory.specs.Memory.{Memory}
-use Rattle.c_typed.specs.Typed.{Expr, Local, Value, Compute, Add, Subtract, Compare, Less, Greater, Equate, Equal, ToLocal, Statement, Empty, Block, Assign, If, While, DoWhile, Continue, Return, TypedFn, TypedUnit}
+use Rattle.c_lang.specs.Typed.{Expr, Local, Value, Compute, Add, Subtract, Compare, Less, Greater, Equate, Equal, ToLocal, Statement, Empty, Block, Assign, If, While, DoWhile, Continue, Return, TypedFn, TypedUnit}
 use Rattle.worked_rows.specs.Trees.{uint, value, unsigned_literal, body, variable, function, unit_of}
 use Rattle.worked_rows.specs.Nodes.{node, pointer, node_struct, to_node, v_of, next_of}
 use Rattle.worked_rows.specs.Claims.{Case, call, bytes_from, zeros, no_memory, tag}

@@ -2,7 +2,7 @@
 use Rattle.std.specs.Prelude.{[], ◌∷◌, Some, ℤ, codes}
 use Rattle.c_values.specs.Name.{Name}
 use Rattle.c_values.specs.Types.{Int}
-use Rattle.c_typed.specs.Typed.{Arithmetic, Local, Compute, Divide, Remainder, Return, TypedFn, TypedUnit}
+use Rattle.c_lang.specs.Typed.{Arithmetic, Local, Compute, Divide, Remainder, Return, TypedFn, TypedUnit}
 use Rattle.worked_rows.specs.Trees.{int, value, variable, function, unit_of}
 use Rattle.worked_rows.specs.Claims.{Case, call, no_memory}
 

@@ -8,10 +8,11 @@ use Rattle.ac_expr.specs.Sort.{Level}
 use Rattle.ac_expr.specs.Evaluation as E
 use Rattle.ac_expr.specs.Evaluation.{holds}
 use Rattle.ac_expr.specs.Signature.{no_env}
-use Rattle.simpl_lang.specs.Command.{GuardKind, Condition}
-use Rattle.c_typed.specs.Typed.{Expr}
+use Rattle.ac_expr.specs.GuardKind.{GuardKind}
+use Rattle.simpl_lang.specs.Command.{Condition}
+use Rattle.c_lang.specs.Typed.{Expr}
 use Rattle.c_meaning.specs.CValue.{Context, value}
-use Rattle.c_meaning.specs.Guards.{exp, guards}
+use Rattle.generation.specs.Guards.{exp, guards}
 use Rattle.worked_rows.specs.Claims.{no_memory}
 
 -- without locals, memory and globals

@@ -6,9 +6,10 @@ use Rattle.c_values.specs.Word.{word, Wadd, Wsub, Wmul, Wand, Wor, Wxor, Wudiv, 
 use Rattle.c_values.specs.Number as N
 use Rattle.ac_expr.specs.Expression.{Exp, Var, WordLit, WordBinary, WordShift, WordUnary, WordCompare, Cast, Zext, Sext, Trunc, ToNat, ToInt, Arith, Negate as Minus, Le, Between, Eq, And, Or, Imp, Not, If, Padd, At, Load, Tagged, PtrOk, Global, Here, IntoField, IntoElement}
 use Rattle.ac_expr.specs.Sort.{Level, Bytes, Words, Numbers}
-use Rattle.simpl_lang.specs.Command.{Condition, Div, Signed, Shift, Pointer, Bounds, Tag, Wrap}
-use Rattle.c_typed.specs.Typed as C
-use Rattle.c_meaning.specs.Guards.{when, exp, truth, guards}
+use Rattle.ac_expr.specs.GuardKind.{Div, Signed, Shift, Pointer, Bounds, Tag, Wrap}
+use Rattle.simpl_lang.specs.Command.{Condition}
+use Rattle.c_lang.specs.Typed as C
+use Rattle.generation.specs.Guards.{when, exp, truth, guards}
 use Rattle.worked_rows.specs.Trees.{int, uint, minus, literal, layout}
 
 -- struct s { unsigned x; unsigned char a[4]; };

@@ -2,7 +2,7 @@
 use Rattle.std.specs.Prelude.{ℕ, [], ◌∷◌, Some, pos, codes}
 use Rattle.c_values.specs.Types.{Int, Ptr}
 use Rattle.c_memory.specs.Memory.{Memory}
-use Rattle.c_typed.specs.Typed.{Expr, Local, Value, Through, Here, Negate, Compute, Add, Compare, Less, Equate, Equal, Move, Plus, ToLocal, Tested, Empty, Block, Declare, Assign, If, For, Return, TypedUnit}
+use Rattle.c_lang.specs.Typed.{Expr, Local, Value, Through, Here, Negate, Compute, Add, Compare, Less, Equate, Equal, Move, Plus, ToLocal, Tested, Empty, Block, Declare, Assign, If, For, Return, TypedUnit}
 use Rattle.worked_rows.specs.Trees.{int, uint, value, literal, body, variable, function, unit_of}
 use Rattle.worked_rows.specs.Claims.{Case, bytes_from, zeros, tag}
 

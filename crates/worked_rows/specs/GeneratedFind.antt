@@ -4,9 +4,10 @@ use Rattle.c_values.specs.Word.{Wadd, Wneg, Wslt}
 use Rattle.c_values.specs.Number as N
 use Rattle.ac_expr.specs.Expression.{Exp, Var, TruthLit, WordBinary, WordUnary, WordCompare, ToInt, Arith, Negate, Eq, Padd, Load, Tagged, PtrOk, Here}
 use Rattle.ac_expr.specs.Sort.{Numbers}
-use Rattle.simpl_lang.specs.Command.{Simpl, Skip, Throw, Set, Pick, Seq, Cond, Guard, Catch, While, Signed, Pointer, Tag, Unreached}
-use Rattle.c_meaning.specs.Guards.{when}
-use Rattle.c_meaning.specs.Generate.{function_of}
+use Rattle.ac_expr.specs.GuardKind.{Signed, Pointer, Tag, Unreached}
+use Rattle.simpl_lang.specs.Command.{Simpl, Skip, Throw, Set, Pick, Seq, Cond, Guard, Catch, While}
+use Rattle.generation.specs.Guards.{when}
+use Rattle.generation.specs.Generate.{function_of}
 use Rattle.worked_rows.specs.Trees.{uint}
 use Rattle.worked_rows.specs.ExpressionRows.{word32, is_int}
 use Rattle.worked_rows.specs.Find as find

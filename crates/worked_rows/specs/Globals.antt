@@ -2,7 +2,7 @@
 use Rattle.std.specs.Prelude.{[], ◌∷◌, Some, ℤ, pos, codes}
 use Rattle.c_values.specs.Types.{Array}
 use Rattle.c_values.specs.Value.{Parts, more, no_values}
-use Rattle.c_typed.specs.Typed.{Local, Value, Place, InGlobal, Element, Here, ToPlace, Assign, Return, TypedUnit}
+use Rattle.c_lang.specs.Typed.{Local, Value, Place, InGlobal, Element, Here, ToPlace, Assign, Return, TypedUnit}
 use Rattle.worked_rows.specs.Trees.{int, value, variable, function, layout}
 use Rattle.worked_rows.specs.Claims.{Case, call, no_memory}
 

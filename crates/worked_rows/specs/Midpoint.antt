@@ -1,7 +1,7 @@
 -- unsigned mid(unsigned l, unsigned r){return (l + r) / 2;} and the same with l + (r - l) / 2
 use Rattle.std.specs.Prelude.{[], ◌∷◌, Some, pos, codes}
 use Rattle.c_values.specs.Types.{UInt}
-use Rattle.c_typed.specs.Typed.{Expr, Local, Compute, Add, Subtract, Divide, Return, TypedUnit}
+use Rattle.c_lang.specs.Typed.{Expr, Local, Compute, Add, Subtract, Divide, Return, TypedUnit}
 use Rattle.worked_rows.specs.Trees.{uint, value, unsigned_literal, variable, function, unit_of}
 use Rattle.worked_rows.specs.Claims.{Case, call, no_memory}
 

@@ -4,7 +4,7 @@ use Rattle.c_values.specs.Name.{Name}
 use Rattle.c_values.specs.Types.{CType, Ptr, Struct}
 use Rattle.c_values.specs.Value.{Value, Parts, more, no_values}
 use Rattle.c_values.specs.Layout.{StructDef}
-use Rattle.c_typed.specs.Typed.{Expr, Local, Place, Through, Member, Here}
+use Rattle.c_lang.specs.Typed.{Expr, Local, Place, Through, Member, Here}
 use Rattle.worked_rows.specs.Trees.{uint, value}
 
 abbrev pub node : CType

@@ -3,7 +3,7 @@ use Rattle.std.specs.Prelude.{List, [], ◌∷◌, Some, pos, codes}
 use Rattle.c_values.specs.Types.{Int, CType, Ptr, Struct}
 use Rattle.c_values.specs.Layout.{StructDef}
 use Rattle.c_memory.specs.Memory.{Tag, Memory}
-use Rattle.c_typed.specs.Typed.{Expr, Local, Value, Through, Member, Here, Compare, Greater, And, Return, TypedUnit}
+use Rattle.c_lang.specs.Typed.{Expr, Local, Value, Through, Member, Here, Compare, Greater, And, Return, TypedUnit}
 use Rattle.worked_rows.specs.Trees.{int, value, literal, variable, function, unit_of}
 use Rattle.worked_rows.specs.Claims.{Case, call, bytes_from, zeros, tag, no_memory}
 

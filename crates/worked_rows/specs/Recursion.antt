@@ -3,7 +3,7 @@
 use Rattle.std.specs.Prelude.{ℕ, [], ◌∷◌, Some, pos, codes}
 use Rattle.c_values.specs.Name.{Name}
 use Rattle.c_values.specs.Types.{UInt}
-use Rattle.c_typed.specs.Typed.{Expr, Local, Compute, Subtract, Equate, Equal, ToLocal, Assigned, Empty, Declare, Call, If, Return, TypedFn, TypedUnit}
+use Rattle.c_lang.specs.Typed.{Expr, Local, Compute, Subtract, Equate, Equal, ToLocal, Assigned, Empty, Declare, Call, If, Return, TypedFn, TypedUnit}
 use Rattle.worked_rows.specs.Trees.{uint, value, unsigned_literal, variable, function, unit_of}
 use Rattle.worked_rows.specs.Claims.{Case, no_memory}
 

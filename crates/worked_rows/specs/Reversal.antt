@@ -2,7 +2,7 @@
 use Rattle.std.specs.Prelude.{[], ◌∷◌, Some, pos, codes}
 use Rattle.c_values.specs.Name.{Name}
 use Rattle.c_memory.specs.Memory.{Memory}
-use Rattle.c_typed.specs.Typed.{Expr, Value, ConvertNull, ToLocal, ToPlace, Statement, Block, Assign, While, Return, TypedUnit}
+use Rattle.c_lang.specs.Typed.{Expr, Value, ConvertNull, ToLocal, ToPlace, Statement, Block, Assign, While, Return, TypedUnit}
 use Rattle.worked_rows.specs.Trees.{value, literal, body, variable, function, unit_of}
 use Rattle.worked_rows.specs.Nodes.{node, pointer, node_struct, to_node, next_of}
 use Rattle.worked_rows.specs.Claims.{Case, call, bytes_from, zeros, tag}

@@ -1,6 +1,6 @@
 -- unsigned st(struct node *p){p->next->v=1; p->next=0; return p->next->v;}
 use Rattle.std.specs.Prelude.{[], ◌∷◌, Some, pos, codes}
-use Rattle.c_typed.specs.Typed.{Expr, Value, ConvertNull, ToPlace, Assign, Return, TypedUnit}
+use Rattle.c_lang.specs.Typed.{Expr, Value, ConvertNull, ToPlace, Assign, Return, TypedUnit}
 use Rattle.worked_rows.specs.Trees.{uint, value, literal, unsigned_literal, variable, function, unit_of}
 use Rattle.worked_rows.specs.Nodes.{pointer, node_struct, to_node, v_of, next_of}
 use Rattle.worked_rows.specs.Reversal.{memory}

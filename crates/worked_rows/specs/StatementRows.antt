@@ -5,11 +5,12 @@ use Rattle.c_values.specs.Word.{Wudiv}
 use Rattle.ac_expr.specs.Expression.{Exp, Var, TruthLit, WordBinary, Cast, Zext, Trunc, ToNat, Eq, Or, Imp, Not, Load, Here, IntoField, IntoElement}
 use Rattle.ac_expr.specs.Sort.{Level, Bytes, Words, Numbers, Kind, WordKind, NatKind, IntKind, BoolKind}
 use Rattle.ac_expr.specs.Signature.{Binder}
-use Rattle.simpl_lang.specs.Command.{Condition, Simpl, Skip, Throw, Set, SetGlobal, Store, Pick, Seq, Cond, Guard, Catch, While, Call, Div, Unreached}
+use Rattle.ac_expr.specs.GuardKind.{Div, Unreached}
+use Rattle.simpl_lang.specs.Command.{Condition, Simpl, Skip, Throw, Set, SetGlobal, Store, Pick, Seq, Cond, Guard, Catch, While, Call}
 use Rattle.simpl_lang.specs.Form as forms
-use Rattle.c_typed.specs.Typed as C
-use Rattle.c_meaning.specs.Guards.{when}
-use Rattle.c_meaning.specs.Generate.{command, function_of, guarded, locals, call_local, switch_local, first_local}
+use Rattle.c_lang.specs.Typed as C
+use Rattle.generation.specs.Guards.{when}
+use Rattle.generation.specs.Generate.{command, function_of, guarded, locals, call_local, switch_local, first_local}
 use Rattle.worked_rows.specs.Trees.{int, uint, body, variable, function}
 use Rattle.worked_rows.specs.ExpressionRows.{s, l, a, u, v, p, q, U, V, P, Q, word32, quotient, divisor_is_not_zero, is_not_zero, is_root, in_bounds, target_of_q, element, global_element}
 

@@ -1,7 +1,7 @@
 -- Statements that leave loops, switches and functions.
 use Rattle.std.specs.Prelude.{ℕ, true, false, List, [], ◌∷◌, Some, None, pos, codes}
 use Rattle.c_values.specs.Types.{Int}
-use Rattle.c_typed.specs.Typed.{Expr, Local, Compute, Add, Compare, Less, Equate, Equal, ToLocal, Tested, Always, Statement, Empty, Block, Assign, If, While, DoWhile, For, Switch, Break, Continue, ReturnNothing, Return, no_groups, group, TypedUnit}
+use Rattle.c_lang.specs.Typed.{Expr, Local, Compute, Add, Compare, Less, Equate, Equal, ToLocal, Tested, Always, Statement, Empty, Block, Assign, If, While, DoWhile, For, Switch, Break, Continue, ReturnNothing, Return, no_groups, group, TypedUnit}
 use Rattle.worked_rows.specs.Trees.{int, value, literal, body, variable, function, unit_of}
 use Rattle.worked_rows.specs.Claims.{Case, no_memory}
 

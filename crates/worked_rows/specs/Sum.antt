@@ -1,7 +1,7 @@
 -- unsigned f(unsigned a, unsigned b){return a+b;}
 use Rattle.std.specs.Prelude.{[], ◌∷◌, Some, pos, codes}
 use Rattle.c_values.specs.Types.{UInt}
-use Rattle.c_typed.specs.Typed.{Local, Compute, Add, Return, TypedUnit}
+use Rattle.c_lang.specs.Typed.{Local, Compute, Add, Return, TypedUnit}
 use Rattle.worked_rows.specs.Trees.{uint, value, variable, function, unit_of}
 use Rattle.worked_rows.specs.Claims.{Case, call, no_memory}
 

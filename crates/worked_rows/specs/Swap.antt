@@ -3,7 +3,7 @@ use Rattle.std.specs.Prelude.{ℕ, [], ◌∷◌, None, pos, codes}
 use Rattle.c_values.specs.Name.{Name}
 use Rattle.c_values.specs.Types.{CType, Ptr}
 use Rattle.c_memory.specs.Memory.{Memory}
-use Rattle.c_typed.specs.Typed.{Local, Value, Place, Through, Here, ToLocal, ToPlace, Assign, TypedUnit}
+use Rattle.c_lang.specs.Typed.{Local, Value, Place, Through, Here, ToLocal, ToPlace, Assign, TypedUnit}
 use Rattle.worked_rows.specs.Trees.{uint, value, variable, function, unit_of}
 use Rattle.worked_rows.specs.Claims.{Case, call, bytes_from, zeros, tag}
 

@@ -5,7 +5,7 @@ use Rattle.c_values.specs.Types.{Ilp32, Int, UInt, CType, Integer}
 use Rattle.c_values.specs.Word.{word}
 use Rattle.c_values.specs.Value.{Value as V, Bits}
 use Rattle.c_values.specs.Layout.{Layout, StructDef}
-use Rattle.c_typed.specs.Typed.{Expr, Constant, Convert, Statement, Statements, no_statements, next, Variable, TypedFn, TypedUnit}
+use Rattle.c_lang.specs.Typed.{Expr, Constant, Convert, Statement, Statements, no_statements, next, Variable, TypedFn, TypedUnit}
 
 abbrev pub int : CType
 int = Integer Int

@@ -1,6 +1,6 @@
 -- unsigned u0(void){unsigned x; return x;}
 use Rattle.std.specs.Prelude.{ℕ, [], ◌∷◌, Some, codes}
-use Rattle.c_typed.specs.Typed.{Local, Declare, Return, TypedUnit}
+use Rattle.c_lang.specs.Typed.{Local, Declare, Return, TypedUnit}
 use Rattle.worked_rows.specs.Trees.{uint, variable, function, unit_of}
 use Rattle.worked_rows.specs.Claims.{Case, no_memory}
 

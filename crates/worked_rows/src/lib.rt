@@ -6,7 +6,7 @@
 
 mod calls;
 mod expressions;
-mod generation;
+mod generated;
 pub mod generation_rows;
 mod programs;
 mod statements;
@@ -19,6 +19,6 @@ pub use expressions::{
     arithmetic_at_its_limits, conversions, division_at_its_limits, evaluation_order, places,
     shifts_at_their_limits,
 };
-pub use generation::{guards_of_null_test, reasons, returned_constant};
+pub use generated::{guards_of_null_test, reasons, returned_constant};
 pub use programs::{midpoints, sums};
 pub use statements::{ends_of_functions, loops, switches};

@@ -1,9 +1,13 @@
 use Rattle.std.proofs.Common.{subst}
 use Rattle.c_lex.specs.Lexeme.{lexemes_of}
-use Rattle.c_grammar.specs.View.{unit_of}
+use Rattle.c_grammar.specs.CodeTree.{unit_of}
 use Rattle.c_parse.specs.Answer.{IsFaultOf}
+use Rattle.typing_laws.proofs.SpelledTexts.{texts_are_written}
 use Rattle.ac_core.proofs.Told.{tree_answer, no_tree_answer, of_result}
 use Rattle.ac_core.proofs.answer.show_tokens.Goals as goal
+
+pub show_tree-requires : goal.show_tree-requires
+show_tree-requires c = texts_are_written c.requires.0 (lexemes_of c.args.tokens.now) (unit_of c.in-Ok.tree) c.requires.1 c.requires.2 c.in-Ok.ensures.found.0
 
 pub returns-in-Ok : goal.returns-in-Ok
 returns-in-Ok c =

@@ -1,6 +1,6 @@
 use Rattle.std.proofs.Common.{◌≡◌, ◌+◌, ◌<◌, ◌≤◌, [], ◌∷◌, ◌++◌, length, map, drop, sym, ap, ◌∙◌, arith, string_bytes, rules}
 use Rattle.std.proofs.lemmas.List.{map-append}
-use Rattle.c_typed.specs.View.{variable_of}
+use Rattle.c_lang.specs.CodeTyped.{variable_of}
 use Rattle.ac_core.specs.Class.{unsigned_name, unsigned_names}
 use Rattle.ac_core.proofs.ParameterNames.{joined, joined-nil, joined-step, joined-none, joined-end}
 use Rattle.ac_core.proofs.class.unsigned_names.Goals as goal

@@ -1,5 +1,5 @@
 use Rattle.std.proofs.Common.{◌≡◌, map, drop, string_bytes}
-use Rattle.c_typed.specs.View.{variable_of}
+use Rattle.c_lang.specs.CodeTyped.{variable_of}
 use Rattle.ac_core.specs.Class.{unsigned_names}
 use Rattle.ac_core.proofs.ParameterNames.{joined}
 use Rattle.ac_core.proofs.class.unsigned_names.Given as goal

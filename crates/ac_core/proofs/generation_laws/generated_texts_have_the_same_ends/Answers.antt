@@ -1,6 +1,6 @@
-use Rattle.c_meaning.proofs.ExactUnits.{generated_has_same_ends}
-use Rattle.well_typed.proofs.SpelledTexts.{texts_are_written}
-use Rattle.well_typed.proofs.Whole.{typed_units_are_well_typed}
+use Rattle.generation.proofs.ExactUnits.{generated_has_same_ends}
+use Rattle.typing_laws.proofs.SpelledTexts.{texts_are_written}
+use Rattle.typing_laws.proofs.Whole.{typed_units_are_well_typed}
 use Rattle.ac_core.proofs.generation_laws.generated_texts_have_the_same_ends.Goals as goal
 
 pub returns : goal.returns

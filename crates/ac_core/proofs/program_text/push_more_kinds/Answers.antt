@@ -1,5 +1,5 @@
 use Rattle.std.proofs.Common.{◌++◌, sym, ap, ◌∙◌}
-use Rattle.ac_expr.specs.Code.{kind_of}
+use Rattle.ac_expr.specs.CodeExpression.{kind_of}
 use Rattle.ac_expr.specs.declared.sort.Kind.TheVariants as K
 use Rattle.ac_core.specs.ProgramText.{kind_text}
 use Rattle.ac_core.proofs.Spaced.{spaced_next_seen, written_more}

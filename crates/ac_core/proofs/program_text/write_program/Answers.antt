@@ -1,6 +1,6 @@
 use Rattle.std.proofs.Common.{◌++◌, map, take, sym, ap, ◌∙◌}
 use Rattle.std.specs.Prelude.{codes}
-use Rattle.monad_lang.specs.Code.{final_fn_of}
+use Rattle.monad_lang.specs.CodeProgram.{final_fn_of}
 use Rattle.ac_core.specs.ProgramText.{spaced, function_text}
 use Rattle.ac_core.proofs.Spaced.{spaced_more_seen, written_more}
 use Rattle.ac_core.proofs.program_text.write_program.Goals as goal

@@ -1,7 +1,7 @@
 use Rattle.std.proofs.Common.{◌≡◌, map, take}
-use Rattle.monad_lang.specs.Code.{final_fn_of as seen}
+use Rattle.monad_lang.specs.CodeProgram.{final_fn_of as seen}
 use Rattle.ac_core.specs.Sum.{final_fn_of}
-use Rattle.ac_core.specs.SumCode.{function_of}
+use Rattle.ac_core.specs.CodeSum.{function_of}
 use Rattle.ac_core.proofs.sum.final_functions.Given as goal
 
 abbrev pub invariant-loop-function : goal.invariant-loop-function

@@ -1,7 +1,7 @@
 -- The callers so far.
 use Rattle.std.proofs.Common.{◌≡◌, take}
 use Rattle.std.specs.HashMap.{get_by_text}
-use Rattle.c_levels.specs.Spread.{listed}
+use Rattle.c_levels.specs.CodeSpread.{listed}
 use Rattle.c_levels.specs.CodeCalls.{callers_of}
 use Rattle.c_values.specs.Name.{Name}
 use Rattle.c_levels.proofs.called.callers.Given as goal

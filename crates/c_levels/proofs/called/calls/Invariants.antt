@@ -1,6 +1,6 @@
 -- The calls so far, and then those of the functions that are left.
 use Rattle.std.proofs.Common.{◌≡◌, ◌+◌, ◌++◌, map, length}
-use Rattle.c_typed.specs.View.{function_of}
+use Rattle.c_lang.specs.CodeTyped.{function_of}
 use Rattle.c_levels.specs.CodeCalls.{call_of, calls_from}
 use Rattle.c_levels.proofs.called.calls.Given as goal
 

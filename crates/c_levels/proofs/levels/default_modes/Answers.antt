@@ -4,10 +4,10 @@ use Rattle.std.specs.Prelude.{string_bytes}
 use Rattle.std.specs.HashMap.{get_by_text}
 use Rattle.std.specs.HashSet.{contains_text}
 use Rattle.std.proofs.lemmas.Result.{IfOk-weaker}
-use Rattle.ac_expr.specs.Code.{level_of}
-use Rattle.c_typed.specs.View.{function_of}
-use Rattle.c_typed.specs.declared.tree.TypedFn as F
-use Rattle.c_levels.specs.Spread.{listed, leads_by, IsSpread}
+use Rattle.ac_expr.specs.CodeExpression.{level_of}
+use Rattle.c_lang.specs.CodeTyped.{function_of}
+use Rattle.c_lang.specs.declared.tree.TypedFn as F
+use Rattle.c_levels.specs.CodeSpread.{listed, leads_by, IsSpread}
 use Rattle.c_levels.specs.CodeCalls.{is_start}
 use Rattle.c_levels.specs.CodeModes.{default_levels}
 use Rattle.c_levels.proofs.DefaultLevels.{made_defaults, made_count}

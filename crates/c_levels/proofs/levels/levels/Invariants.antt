@@ -1,8 +1,8 @@
 -- The levels so far, and then those of the functions that are left.
 use Rattle.std.proofs.Common.{◌≡◌, ◌++◌, map, length}
 use Rattle.std.specs.HashSet.{contains_text}
-use Rattle.c_typed.specs.View.{function_of}
-use Rattle.ac_expr.specs.Code.{level_of}
+use Rattle.c_lang.specs.CodeTyped.{function_of}
+use Rattle.ac_expr.specs.CodeExpression.{level_of}
 use Rattle.c_levels.specs.CodeModes.{default_levels}
 use Rattle.c_levels.proofs.levels.levels.Given as goal
 

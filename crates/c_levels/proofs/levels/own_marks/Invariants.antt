@@ -1,7 +1,7 @@
 -- The marks so far.
 use Rattle.std.proofs.Common.{◌≡◌, map, take}
 use Rattle.std.specs.HashSet.{contains_text}
-use Rattle.c_typed.specs.View.{function_of}
+use Rattle.c_lang.specs.CodeTyped.{function_of}
 use Rattle.c_levels.specs.CodeCalls.{is_start}
 use Rattle.c_levels.proofs.levels.own_marks.Given as goal
 

@@ -1,6 +1,6 @@
 -- Those that are left, marked, are all of them marked.
 use Rattle.std.proofs.Common.{◌≡◌, length}
-use Rattle.c_levels.specs.Spread.{all_marked}
+use Rattle.c_levels.specs.CodeSpread.{all_marked}
 use Rattle.c_levels.proofs.spreading.mark_all.Given as goal
 
 abbrev pub invariant-rest : goal.invariant-rest

@@ -1,6 +1,6 @@
 -- The positions so far, and then those of the marks that are left.
 use Rattle.std.proofs.Common.{◌≡◌, ◌+◌, ◌++◌, length}
-use Rattle.c_levels.specs.Spread.{positions_from}
+use Rattle.c_levels.specs.CodeSpread.{positions_from}
 use Rattle.c_levels.proofs.spreading.marked_positions.Given as goal
 
 abbrev pub invariant-rest : goal.invariant-rest

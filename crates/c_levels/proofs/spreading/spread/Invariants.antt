@@ -1,7 +1,7 @@
 -- The marks spread.
 use Rattle.std.proofs.Common.{◌+◌, map, string_bytes, length}
 use Rattle.std.specs.HashMap.{get_by_text}
-use Rattle.c_levels.specs.Spread.{listed, leads_by}
+use Rattle.c_levels.specs.CodeSpread.{listed, leads_by}
 use Rattle.c_levels.proofs.Marking.{unmarked}
 use Rattle.c_levels.proofs.Spread.{Spreading}
 use Rattle.c_levels.proofs.spreading.spread.Given as goal

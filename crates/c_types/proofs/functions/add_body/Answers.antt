@@ -1,6 +1,6 @@
 -- The functions that had a body are one more.
 use Rattle.std.proofs.Common.{ap}
-use Rattle.c_scope.specs.CodeScope.{file_of, scope_of}
+use Rattle.typing_scope.specs.CodeScope.{file_of, scope_of}
 use Rattle.c_types.proofs.functions.add_body.Goals as goal
 
 pub returns : goal.returns

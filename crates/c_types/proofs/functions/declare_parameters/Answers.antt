@@ -1,11 +1,11 @@
 -- One more parameter behind those so far.
 use Rattle.std.proofs.Common.{◌≡◌, ◌+◌, [], ◌∷◌, ◌++◌, take, map, ap, sym, ◌∙◌, List}
 use Rattle.std.proofs.lemmas.List.{take_more}
-use Rattle.c_declarations.specs.declared.parameters.Parameter as P
-use Rattle.c_declarations.specs.CodeParameters.{parameter_of}
-use Rattle.c_scope.specs.CodeScope.{scope_of}
-use Rattle.c_typing.specs.Functions.{add_parameter, add_parameters}
-use Rattle.c_declarations.proofs.NamedParameters.{declared_behind}
+use Rattle.typing_declarations.specs.declared.parameters.Parameter as P
+use Rattle.typing_declarations.specs.CodeParameters.{parameter_of}
+use Rattle.typing_scope.specs.CodeScope.{scope_of}
+use Rattle.typing_rules.specs.Functions.{add_parameter, add_parameters}
+use Rattle.typing_declarations.proofs.NamedParameters.{declared_behind}
 use Rattle.c_types.proofs.functions.declare_parameters.Goals as goal
 
 pub loop-param-preserved : goal.loop-param-preserved

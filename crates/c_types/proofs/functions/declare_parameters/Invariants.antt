@@ -1,8 +1,8 @@
 -- The parameters so far are declared.
 use Rattle.std.proofs.Common.{◌≡◌, map, take}
-use Rattle.c_declarations.specs.CodeParameters.{parameter_of}
-use Rattle.c_scope.specs.CodeScope.{scope_of}
-use Rattle.c_typing.specs.Functions.{add_parameters}
+use Rattle.typing_declarations.specs.CodeParameters.{parameter_of}
+use Rattle.typing_scope.specs.CodeScope.{scope_of}
+use Rattle.typing_rules.specs.Functions.{add_parameters}
 use Rattle.c_types.proofs.functions.declare_parameters.Given as goal
 
 abbrev pub invariant-loop-param : goal.invariant-loop-param

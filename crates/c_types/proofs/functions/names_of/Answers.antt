@@ -1,7 +1,7 @@
 -- One more parameter behind those so far.
 use Rattle.std.proofs.Common.{take}
 use Rattle.std.proofs.lemmas.List.{take_more}
-use Rattle.c_declarations.proofs.NamedParameters.{names_behind}
+use Rattle.typing_declarations.proofs.NamedParameters.{names_behind}
 use Rattle.c_types.proofs.functions.names_of.Goals as goal
 
 pub loop-param-preserved : goal.loop-param-preserved

@@ -3,7 +3,7 @@ use Rattle.std.proofs.Common.{ap, sym, ◌∙◌, true, rules, string_bytes}
 use Rattle.std.specs.HashSet.{contains_text}
 use Rattle.std.specs.Option.{option_map}
 use Rattle.std.specs.Prelude.{Some}
-use Rattle.c_grammar.specs.View.{decl_of}
+use Rattle.c_grammar.specs.CodeTree.{decl_of}
 use Rattle.c_values.specs.Name.{with_name}
 use Rattle.c_types.proofs.BodyNames.{body_added}
 use Rattle.c_types.proofs.unit.add_body_name.Goals as goal

@@ -3,8 +3,8 @@ use Rattle.std.proofs.Common.{◌≡◌, ◌||◌, length, map}
 use Rattle.std.specs.List.{filter_map}
 use Rattle.std.specs.HashSet.{contains_text}
 use Rattle.c_values.specs.Name.{Name, is_among}
-use Rattle.c_grammar.specs.View.{decl_of}
-use Rattle.c_typing.specs.Unit.{body_name}
+use Rattle.c_grammar.specs.CodeTree.{decl_of}
+use Rattle.typing_rules.specs.Unit.{body_name}
 use Rattle.c_types.proofs.unit.bodies.Given as goal
 
 abbrev pub invariant-loop-external : goal.invariant-loop-external

@@ -5,13 +5,13 @@ use Rattle.std.specs.HashSet.{contains_text}
 use Rattle.std.specs.List.{filter_map}
 use Rattle.c_values.specs.CodeTypes.{target_of}
 use Rattle.c_values.specs.Name.{Name, is_among}
-use Rattle.c_grammar.specs.View.{decl_of, unit_of as text_of}
+use Rattle.c_grammar.specs.CodeTree.{decl_of, unit_of as text_of}
 use Rattle.c_grammar.specs.declared.tree.Decl.{Decl}
-use Rattle.c_typing.specs.Answers.{IsFaultOf}
-use Rattle.c_typing.specs.Checked.{Good}
-use Rattle.c_typing.specs.Unit.{body_name, externals}
-use Rattle.c_typed.specs.View.{function_of, unit_of}
-use Rattle.c_scope.specs.CodeScope.{scope_of}
+use Rattle.typing_rules.specs.CodeAnswers.{IsFaultOf}
+use Rattle.typing_rules.specs.Checked.{Good}
+use Rattle.typing_rules.specs.Unit.{body_name, externals}
+use Rattle.c_lang.specs.CodeTyped.{function_of, unit_of}
+use Rattle.typing_scope.specs.CodeScope.{scope_of}
 use Rattle.c_types.proofs.TextAnswer.{text_bad, text_typed}
 use Rattle.c_types.proofs.unit.check_unit.Goals as goal
 

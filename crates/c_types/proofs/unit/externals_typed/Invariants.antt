@@ -1,10 +1,10 @@
 -- What is left, behind the functions so far, is judged as all is.
 use Rattle.std.proofs.Common.{◌≡◌, length, map}
-use Rattle.c_grammar.specs.View.{decl_of}
-use Rattle.c_typing.specs.Unit.{externals}
-use Rattle.c_typed.specs.View.{function_of}
-use Rattle.c_scope.specs.CodeScope.{scope_of}
-use Rattle.c_expressions.specs.Behind.{behind}
+use Rattle.c_grammar.specs.CodeTree.{decl_of}
+use Rattle.typing_rules.specs.Unit.{externals}
+use Rattle.c_lang.specs.CodeTyped.{function_of}
+use Rattle.typing_scope.specs.CodeScope.{scope_of}
+use Rattle.typing_expressions.specs.CodeBehind.{behind}
 use Rattle.c_types.proofs.unit.externals_typed.Given as goal
 
 abbrev pub invariant-loop-external : goal.invariant-loop-external

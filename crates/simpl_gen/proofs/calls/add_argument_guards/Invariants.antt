@@ -1,9 +1,9 @@
 -- The guards so far, and then those of the arguments that are left.
 use Rattle.std.proofs.Common.{◌≡◌, ◌++◌, map, length}
-use Rattle.c_typed.specs.View.{expr_of}
-use Rattle.ac_expr.specs.Code.{level_of}
+use Rattle.c_lang.specs.CodeTyped.{expr_of}
+use Rattle.ac_expr.specs.CodeExpression.{level_of}
 use Rattle.simpl_lang.specs.CodeCommand.{condition_of}
-use Rattle.c_meaning.specs.Guards.{argument_guards}
+use Rattle.generation.specs.Guards.{argument_guards}
 use Rattle.simpl_gen.proofs.calls.add_argument_guards.Given as goal
 
 abbrev pub invariant-rest : goal.invariant-rest

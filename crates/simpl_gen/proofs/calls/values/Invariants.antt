@@ -1,8 +1,8 @@
 -- The values so far, and then those of the arguments that are left.
 use Rattle.std.proofs.Common.{◌≡◌, ◌++◌, map, length}
-use Rattle.c_typed.specs.View.{expr_of}
-use Rattle.ac_expr.specs.Code.{exp_of}
-use Rattle.c_meaning.specs.Guards.{exps}
+use Rattle.c_lang.specs.CodeTyped.{expr_of}
+use Rattle.ac_expr.specs.CodeExpression.{exp_of}
+use Rattle.generation.specs.Guards.{exps}
 use Rattle.simpl_gen.proofs.calls.values.Given as goal
 
 abbrev pub invariant-rest : goal.invariant-rest

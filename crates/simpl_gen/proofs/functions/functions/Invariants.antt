@@ -1,10 +1,10 @@
 -- What was generated, and then the functions that are left, are all of them.
 use Rattle.std.proofs.Common.{◌≡◌, ◌++◌, map, length}
-use Rattle.c_typed.specs.View.{function_of}
-use Rattle.ac_expr.specs.Code.{level_of}
+use Rattle.c_lang.specs.CodeTyped.{function_of}
+use Rattle.ac_expr.specs.CodeExpression.{level_of}
 use Rattle.simpl_lang.specs.CodeCommand.{simpl_fn_of}
-use Rattle.c_meaning.specs.Generate as rules
-use Rattle.simpl_gen.specs.AtLevels.{at_levels}
+use Rattle.generation.specs.Generate as rules
+use Rattle.simpl_gen.specs.CodeAtLevels.{at_levels}
 use Rattle.simpl_gen.proofs.functions.functions.Given as goal
 
 abbrev pub invariant-functions : goal.invariant-functions

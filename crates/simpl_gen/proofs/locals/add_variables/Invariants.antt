@@ -1,10 +1,10 @@
 -- What was added, and then the variables that are left, are all of them.
 use Rattle.std.proofs.Common.{◌≡◌, ◌++◌, map, length}
 use Rattle.c_values.specs.CodeTypes.{target_of}
-use Rattle.c_typed.specs.View.{variable_of}
-use Rattle.ac_expr.specs.Code.{level_of}
+use Rattle.c_lang.specs.CodeTyped.{variable_of}
+use Rattle.ac_expr.specs.CodeExpression.{level_of}
 use Rattle.ac_expr.specs.CodeSignature.{binder_of}
-use Rattle.c_meaning.specs.Generate.{variables}
+use Rattle.c_meaning.specs.Kinds.{variables}
 use Rattle.simpl_gen.proofs.locals.add_variables.Given as goal
 
 abbrev pub invariant-rest : goal.invariant-rest

@@ -1,10 +1,10 @@
 -- One condition more for later turns.
 use Rattle.std.proofs.Common.{ap, ◌∙◌}
 use Rattle.ac_expr.specs.Expression.{Imp, Not, Var}
-use Rattle.ac_expr.specs.Code.{exp_of}
+use Rattle.ac_expr.specs.CodeExpression.{exp_of}
 use Rattle.simpl_lang.specs.CodeCommand.{guard_kind_of}
-use Rattle.c_meaning.specs.Guards.{when}
-use Rattle.simpl_guards.proofs.Premises.{put_later}
+use Rattle.generation.specs.Guards.{when}
+use Rattle.simpl_expressions.proofs.Premises.{put_later}
 use Rattle.simpl_gen.proofs.loops.after_first.Goals as goal
 
 pub loop-guard-preserved : goal.loop-guard-preserved

@@ -1,4 +1,0 @@
-pub mod CodeScope
-pub mod CodeDeclared
-pub mod CodeFields
-pub mod InFront

@@ -1,9 +1,0 @@
-//! The typing of statements, with the calls, switches and locals among them.
-#![tactic(auto)]
-
-mod calls;
-mod labels;
-mod locals;
-mod simple;
-pub mod statements;
-mod switches;

@@ -1,8 +1,0 @@
--- As many stars stand around the type as were counted.
-use Rattle.std.proofs.Common.{◌≡◌}
-use Rattle.c_values.specs.CodeTypes.{type_of}
-use Rattle.c_typing.specs.Declarations.{pointers}
-use Rattle.c_typing.proofs.specifiers.pointers.Given as goal
-
-abbrev pub invariant-loop : goal.invariant-loop
-invariant-loop l = type_of l.pointer ≡ pointers l.counter (type_of l.fn.ty)

@@ -1,8 +1,0 @@
--- What is left begins its type where the whole does.
-use Rattle.std.proofs.Common.{◌≡◌}
-use Rattle.c_grammar.specs.View.{words_of}
-use Rattle.c_typing.specs.Expressions.{type_start}
-use Rattle.c_typing.proofs.specifiers.type_start.Given as goal
-
-abbrev pub invariant-loop-rest : goal.invariant-loop-rest
-invariant-loop-rest l = type_start (words_of l.rest) ≡ type_start (words_of l.fn.words)

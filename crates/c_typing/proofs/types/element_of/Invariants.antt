@@ -1,8 +1,0 @@
--- What is left has the element of the whole.
-use Rattle.std.proofs.Common.{◌≡◌}
-use Rattle.c_values.specs.CodeTypes.{type_of}
-use Rattle.c_typing.specs.Declarations.{element}
-use Rattle.c_typing.proofs.types.element_of.Given as goal
-
-abbrev pub invariant-loop-element : goal.invariant-loop-element
-invariant-loop-element l = element (type_of l.element) ≡ element (type_of l.t)

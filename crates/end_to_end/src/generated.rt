@@ -1,0 +1,93 @@
+//! Tests of generation, from texts. `worked_rows::generation_rows` has a row for each form of an expression and of a statement.
+
+use c_lex::tokens;
+use c_parse::parse;
+use c_types::check_unit;
+use c_values::Target;
+use simpl_gen::{default_modes, generate};
+use simpl_lang::{SimplUnit, commands};
+use std::alloc::{AllocError, Global};
+use std::test::Fail;
+
+// What is generated for a text, with these functions on bytes.
+fn generated(alloc: Global, text: &str, bytes: &[String]) -> Result<SimplUnit, Fail> {
+    let tokens = tokens(alloc, text.as_bytes())?;
+    let unit = check_unit(alloc, Target::Ilp32, &parse(alloc, &tokens)?)?;
+    let modes = default_modes(alloc, &unit, bytes, &[])?;
+    Ok(generate(alloc, &unit, &modes)?)
+}
+
+#[test]
+fn a_returned_constant(rt: HostRuntime) -> Result<(), Fail> {
+    let alloc = rt.alloc();
+    let u = generated(alloc, "unsigned f(void){return 7u;}", &[])?;
+    assert!(rt; u.functions.len() == 1);
+    let shown = format!(in alloc; "{:?}", u.functions[0].body)?;
+    assert!(rt;
+        shown.as_str()
+            == "Catch(Seq(Seq(Set(\"$ret\", Word(Word { width: 32, bits: 7 })), Seq(Set(\"$exn\", Word(Word { width: 32, bits: 1 })), Throw)), Guard(Condition { kind: Unreached, exp: Truth(false) }, Skip)), Skip)"
+    );
+    Ok(())
+}
+
+// A function of so many writes to where its parameter points.
+fn writes(alloc: Global, count: u32) -> Result<String, AllocError> {
+    let mut text = String::from_str(alloc, "void w(unsigned*p){")?;
+    for _ in 0..count {
+        text.push_str("*p=0u;")?;
+    }
+    text.push_str("}")?;
+    Ok(text)
+}
+
+// How many commands the only function has.
+fn count(alloc: Global, writes_made: u32, bytes: &[String]) -> Result<u64, Fail> {
+    let text = writes(alloc, writes_made)?;
+    let u = generated(alloc, text.as_str(), bytes)?;
+    match u.functions.first() {
+        Some(f) => Ok(commands(&f.body)),
+        None => Ok(0),
+    }
+}
+
+#[test]
+fn counts_of_commands(rt: HostRuntime) -> Result<(), Fail> {
+    let alloc = rt.alloc();
+    assert!(rt; count(alloc, 199, &[])? == 797);
+    assert!(rt; count(alloc, 200, &[])? == 801);
+    let mut on_bytes = Vec::new(alloc);
+    on_bytes.push(String::from_str(alloc, "w")?)?;
+    assert!(rt; count(alloc, 200, &on_bytes)? == 601);
+    Ok(())
+}
+
+// So many functions of 200 statements each.
+fn functions(alloc: Global, count: u32) -> Result<String, AllocError> {
+    let mut body = String::new(alloc);
+    for _ in 0..200u32 {
+        body.push_str("a=a+b*3u;")?;
+    }
+    let mut text = String::new(alloc);
+    for n in 0..count {
+        let head = format!(in alloc; "void f{n}(unsigned a,unsigned b)")?;
+        text.push_str(head.as_str())?;
+        text.push_str("{")?;
+        text.push_str(body.as_str())?;
+        text.push_str("}")?;
+    }
+    Ok(text)
+}
+
+#[test]
+fn units_at_the_limits(rt: HostRuntime) -> Result<(), Fail> {
+    let alloc = rt.alloc();
+    for count in [256u32, 512, 1024] {
+        let text = functions(alloc, count)?;
+        let u = generated(alloc, text.as_str(), &[])?;
+        assert!(rt; u.functions.len() as u64 == u64::from(count));
+        let last = u.functions.last().ok_or("no function")?;
+        // three for each statement, and 199 sequences; a catch with a skip around all
+        assert!(rt; commands(&last.body) == 801);
+    }
+    Ok(())
+}

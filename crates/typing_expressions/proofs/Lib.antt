@@ -1,0 +1,4 @@
+pub mod Steps
+pub mod Conversions
+pub mod Casts
+pub mod Enumerated

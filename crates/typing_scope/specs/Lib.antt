@@ -1,0 +1,4 @@
+pub mod CodeScope
+pub mod CodeDeclared
+pub mod CodeFields
+pub mod CodeInFront

@@ -1,8 +1,0 @@
-use Rattle.std.proofs.Common.{refl}
-use Rattle.worked_rows.proofs.generation.guards_of_null_test.Goals as goal
-
-pub returns : goal.returns
-returns c = record {
-  at_numbers = refl;
-  at_bytes = refl;
-}

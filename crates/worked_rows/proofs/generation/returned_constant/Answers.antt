@@ -1,8 +1,0 @@
-use Rattle.std.proofs.Common.{refl}
-use Rattle.worked_rows.proofs.generation.returned_constant.Goals as goal
-
-pub returns : goal.returns
-returns c = record {
-  body = refl;
-  same_at_bytes = refl;
-}
