@@ -1,7 +1,7 @@
 -- How tightly an expression binds (C99 6.5): its level, from the loosest.
 use Rattle.std.specs.Prelude.{ℕ}
 
--- an expression of any level, as `c ? a : b`
+-- an expression of any level, down to the choice between two
 abbrev pub any : ℕ
 any = 0
 
