@@ -30,3 +30,4 @@ pub mod Put
 pub mod Read
 pub mod Copied
 pub mod Written
+pub mod Lone

@@ -12,12 +12,32 @@ use crate::addresses::moved;
 use crate::pages::Pages;
 use crate::parts_of_values::with_parts;
 use crate::words::load_word;
-use c_values::{CType, Layout, Value, size_of};
+use c_values::{CType, Layout, Value, around, inside, size_of};
 use std::alloc::{AllocError, Global};
 
-/// The value of a type at an address. It goes down the type, so no deeper than the layout's types are nested.
+/// The value of a type at an address. A text may nest arrays of one element deeply, so loops go through those: the
+/// recursion is as deep as structs, and arrays of other lengths, nest.
 #[cycle(load)]
 pub(crate) fn load(
+    alloc: Global,
+    pages: &Pages,
+    l: &Layout,
+    t: &CType,
+    address: u64,
+) -> Result<Value, AllocError>
+    requires object { is_object l.now (type_of t.now) ≡ true }
+    requires address { address < space l.now }
+    requires bytes { AreBytes (byte_at pages.now) }
+    ensures { IfOk result
+        (λ v. value_of v ≡ load (space l.now) (byte_at pages.now)
+        (shape_of l.now (type_of t.now)) address) }
+{
+    let value = load_by_kind(alloc, pages, l, inside(t), address)?;
+    around(alloc, t, value)
+}
+
+#[cycle(load)]
+fn load_by_kind(
     alloc: Global,
     pages: &Pages,
     l: &Layout,

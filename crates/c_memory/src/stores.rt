@@ -13,11 +13,38 @@ ghost use Rattle.c_values.specs.CodeParts.{values_in};
 use crate::addresses::moved;
 use crate::pages::{Pages, put_bits};
 use crate::parts_of_values::{part, parts_of};
-use c_values::{CType, Layout, Value, size_of};
+use c_values::{CType, Layout, Value, lone_element, size_of};
 
-/// Puts a value of a type at an address. Its pages are there.
+/// Puts a value of a type at an address. Its pages are there. A text may nest arrays of one element deeply, so a loop goes
+/// through those: the recursion is as deep as structs, and arrays of other lengths, nest.
 #[cycle(store)]
 pub(crate) fn store(pages: &mut Pages, l: &Layout, t: &CType, address: u64, value: &Value)
+    requires layout { IsLayout l.now }
+    requires object { is_object l.now (type_of t.now) ≡ true }
+    requires address { address < space l.now }
+    requires pages { HasPages (space l.now) pages.old address (size_of l.now (type_of t.now)) }
+    ensures bytes { byte_at pages.new
+        ≡ store (space l.now) (shape_of l.now (type_of t.now)) address (value_of value.now)
+        (byte_at pages.old) }
+    ensures pages { KeepsPages pages.old pages.new }
+{
+    let mut whole = t;
+    let mut inner = value;
+    'inwards: while let Some(element) = lone_element(whole) {
+        let Some(parts) = parts_of(inner) else {
+            return;
+        };
+        let Some(first) = part(parts, 0) else {
+            return;
+        };
+        whole = element;
+        inner = first;
+    }
+    store_by_kind(pages, l, whole, address, inner);
+}
+
+#[cycle(store)]
+fn store_by_kind(pages: &mut Pages, l: &Layout, t: &CType, address: u64, value: &Value)
     requires layout { IsLayout l.now }
     requires object { is_object l.now (type_of t.now) ≡ true }
     requires address { address < space l.now }

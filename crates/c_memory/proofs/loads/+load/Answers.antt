@@ -1,17 +1,39 @@
-use Rattle.std.proofs.Common.{◌≡◌, ◌+◌, ◌*◌, ◌%◌, ◌^◌, ◌<◌, ◌∙◌, ap, ap₂, sym, subst, arith}
+use Rattle.std.proofs.Common.{◌≡◌, ◌+◌, ◌*◌, ◌%◌, ◌^◌, ◌<◌, ◌∙◌, ap, ap₂, sym, subst, arith, IfOk}
 use Rattle.c_values.specs.Types.{Struct, address_width}
 use Rattle.c_values.specs.Layout.{shape_of, size, space}
 use Rattle.c_values.specs.Path.{Field}
 use Rattle.std.proofs.lemmas.Nat.{mod_below, pow_pos}
 use Rattle.c_values.specs.CodeTypes.{target_of, type_of}
-use Rattle.c_memory.specs.Memory.{loaded_members}
+use Rattle.c_values.specs.CodeValue.{value_of}
+use Rattle.c_memory.specs.Memory.{load, loaded_members}
 use Rattle.c_values.specs.CodeParts.{values_in, joined}
+use Rattle.c_values.specs.CodeLone.{inside, around}
+use Rattle.c_values.proofs.Height.{height}
+use Rattle.c_values.proofs.Lone.{inside_lower}
+use Rattle.c_memory.proofs.Lone.{inside_object, load_around}
 use Rattle.c_memory.specs.CodePages.{byte_at}
 use Rattle.c_memory.proofs.Walks.{element_object, member_object}
 use Rattle.c_memory.proofs.Inside.{step_lower}
 use Rattle.c_memory.proofs.Rows.{member_number, fields_of, drop_fields}
 use Rattle.c_memory.proofs.Joined.{element_loaded, member_loaded, members_loaded}
 use Rattle.c_memory.proofs.loads.+load.Goals as goal
+
+pub load-load_by_kind-requires : goal.load-load_by_kind-requires
+load-load_by_kind-requires t c =
+    let l = c.args.l.now in
+    let ty = type_of c.args.t.now in
+    let low = inside_lower l ty in
+    let same : height (shape_of l (type_of c.inside.result.now)) ≡ height (shape_of l (inside ty)) = ap (λ u. height (shape_of l u)) c.inside.ensures in
+    (omega (arith, low, same, c.decreases), (rw c.inside.ensures (inside_object l ty c.requires.object), (c.requires.address, c.requires.bytes)))
+
+pub load-returns : goal.load-returns
+load-returns t c =
+    let l = c.args.l.now in
+    let ty = type_of c.args.t.now in
+    let bytes = byte_at c.args.pages.now in
+    subst (λ w. IfOk c.around.result (λ v. value_of v ≡ w))
+    (ap (λ w. around ty w) (c.in_ok-value.ensures ∙ ap (λ u. load (space l) bytes (shape_of l u) c.args.address) c.inside.ensures) ∙ load_around (space l) bytes c.args.address l ty)
+    c.around.ensures
 
 pub load_array-size_of-requires : goal.load_array-size_of-requires
 load_array-size_of-requires t c = element_object c.args.l.now (type_of c.args.element.now) c.args.length c.requires.object

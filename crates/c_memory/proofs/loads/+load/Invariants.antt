@@ -10,13 +10,16 @@ use Rattle.c_memory.proofs.Rows.{fields_of, drop_fields}
 use Rattle.c_memory.proofs.loads.+load.Given as goal
 
 abbrev pub decreases-load : goal.decreases-load
-decreases-load l = 2 * height (shape_of l.l.now (type_of l.t.now)) + 1
+decreases-load l = 3 * height (shape_of l.l.now (type_of l.t.now)) + 2
+
+abbrev pub decreases-load_by_kind : goal.decreases-load_by_kind
+decreases-load_by_kind l = 3 * height (shape_of l.l.now (type_of l.t.now)) + 1
 
 abbrev pub decreases-load_struct : goal.decreases-load_struct
-decreases-load_struct l = 2 * height (shape_of l.l.now (Struct l.name.now))
+decreases-load_struct l = 3 * height (shape_of l.l.now (Struct l.name.now))
 
 abbrev pub decreases-load_array : goal.decreases-load_array
-decreases-load_array l = 2 * height (shape_of l.l.now (type_of l.element.now)) + 2
+decreases-load_array l = 3 * height (shape_of l.l.now (type_of l.element.now)) + 3
 
 abbrev pub invariant-load_array-elements : goal.invariant-load_array-elements
 invariant-load_array-elements l =
