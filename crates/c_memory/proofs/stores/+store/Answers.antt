@@ -1,4 +1,4 @@
-use Rattle.std.proofs.Common.{◌≡◌, ◌+◌, ◌*◌, ◌%◌, ◌^◌, ◌<◌, ◌∙◌, Some, None, slice_get, ap, ap₂, sym, subst, arith}
+use Rattle.std.proofs.Common.{◌≡◌, suc, ◌+◌, ◌*◌, ◌%◌, ◌^◌, ◌<◌, ◌∙◌, Some, None, slice_get, refl, ap, ap₂, sym, subst, arith}
 use Rattle.std.proofs.lemmas.Nat.{mod_below, pow_pos}
 use Rattle.std.specs.Prelude.{string_bytes}
 use Rattle.c_values.specs.Types.{Struct, Array, address_width}
@@ -14,7 +14,51 @@ use Rattle.c_memory.proofs.Walks.{element_object, member_object}
 use Rattle.c_memory.proofs.Inside.{step_lower}
 use Rattle.c_memory.proofs.Rows.{member_number}
 use Rattle.c_memory.proofs.Put.{inner_pages, member_stored, members_ended, members_cut, struct_is_stored, element_stored, elements_cut, member_within, element_within, whole_stored}
+use Rattle.c_values.proofs.Height.{height}
+use Rattle.c_memory.proofs.Lone.{lone_stored, none_stored}
 use Rattle.c_memory.proofs.stores.+store.Goals as goal
+
+pub store-returns-in_default-parts_of-clause-bytes : goal.store-returns-in_default-parts_of-clause-bytes
+store-returns-in_default-parts_of-clause-bytes t c =
+    let l = c.args.l.now in
+    let u = type_of c.in-Some.element.now in
+    let v = value_of c.inwards.inner.now in
+    let bytes = byte_at c.args.pages.now in
+    let lone = c.in-Some.ensures.some in
+    sym (whole_stored l (Array u 1) (space l) c.args.address v bytes c.requires.layout (rw lone at c.inwards.invariant.object) refl c.in_default-parts_of.ensures.none)
+    ∙ ap (λ w. store (space l) (shape_of l w) c.args.address v bytes) (sym lone)
+    ∙ c.inwards.invariant.bytes
+
+pub store-returns-in_default-part-clause-bytes : goal.store-returns-in_default-part-clause-bytes
+store-returns-in_default-part-clause-bytes t c =
+    let l = c.args.l.now in
+    let u = type_of c.in-Some.element.now in
+    let bytes = byte_at c.args.pages.now in
+    let parts = c.in-Some-parts_of.parts.now in
+    let none : slice_get parts 0 ≡ None = cc c.in_default-part.ensures in
+    sym (none_stored (space l) l u c.args.address bytes parts none)
+    ∙ ap₂ (λ w v. store (space l) (shape_of l w) c.args.address v bytes) (sym c.in-Some.ensures.some) (sym c.in-Some-parts_of.ensures.some)
+    ∙ c.inwards.invariant.bytes
+
+pub store-inwards-preserved : goal.store-inwards-preserved
+store-inwards-preserved t c =
+    let l = c.args.l.now in
+    let u = type_of c.in-Some.element.now in
+    let bytes = byte_at c.args.pages.now in
+    let parts = c.in-Some-parts_of.parts.now in
+    let lone = c.in-Some.ensures.some in
+    let first : slice_get parts 0 ≡ Some c.in-Some-part.first.now = cc c.in-Some-part.ensures in
+    let same : size_of l (type_of c.inwards.whole.now) ≡ 1 * size_of l u = ap (λ w. size_of l w) lone in
+    let high : height (shape_of l (type_of c.inwards.whole.now)) ≡ suc (height (shape_of l u)) = ap (λ w. height (shape_of l w)) lone in
+    record {
+      object = element_object l u 1 (rw lone at c.inwards.invariant.object);
+      size = omega (arith, same, c.inwards.invariant.size);
+      lower = omega (arith, high, c.inwards.invariant.lower);
+      bytes =
+          sym (lone_stored (space l) l u c.args.address bytes parts c.in-Some-part.first.now first)
+          ∙ ap₂ (λ w v. store (space l) (shape_of l w) c.args.address v bytes) (sym lone) (sym c.in-Some-parts_of.ensures.some)
+          ∙ c.inwards.invariant.bytes;
+    }
 
 pub store_array-size_of-requires : goal.store_array-size_of-requires
 store_array-size_of-requires t c = element_object c.args.l.now (type_of c.args.element.now) c.args.length c.requires.object
