@@ -112,6 +112,18 @@ lies_in_element l u n offset bytes object e some lt = record {
   path = λ t. index_path (shape_of l u) n t offset bytes e lt;
 }
 
+no_index : (e : Shape) (n : ℕ) (t : CType) (offset bytes : ℕ) → bytes ≡ size e → n ≤ offset / bytes → inner_path (Row e n) t offset ≡ None
+no_index e n t offset bytes same le =
+    let past : n ≤ offset / size e = subst (λ b. n ≤ offset / b) same le in
+    cond-false (nat_lt (offset / size e) n) (prefixed (Index (pos (offset / size e))) (root_path e t (offset % size e))) None (out (offset / size e) past)
+  where
+    out : (i : ℕ) → n ≤ i → nat_lt i n ≡ false
+    out i h = grind (arith, nat_tests)
+
+-- an offset past an array lies in none
+pub lies_in_no_element : (l : Layout) (u : CType) (n offset bytes : ℕ) → bytes ≡ size_of l u → n ≤ offset / bytes → LiesInNone l (Array u n) offset
+lies_in_no_element l u n offset bytes e le = record { path = λ t. no_index (shape_of l u) n t offset bytes e le }
+
 -- the members of a struct's shape
 inner_members : (s : Shape) (x : Name) (t : CType) (d : ℕ) → type_of s ≡ Struct x → inner_path s t d ≡ member_path (fields_of s) 0 t d
 inner_members Incomplete x t d e = refl

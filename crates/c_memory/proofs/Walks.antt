@@ -1,5 +1,6 @@
 -- Where the steps of a path lead, one after the other.
-use Rattle.std.proofs.Common.{◌≡◌, ℕ, suc, ◌+◌, ◌*◌, ◌<◌, ◌≤◌, true, arith, ltb, leb, List, ◌∷◌, length, get_or, map, drop, add-one, drop-cons, Option, Some, None, ℤ, pos, refl, sym, ap, ap₂, ◌∙◌}
+use Rattle.std.proofs.Common.{◌≡◌, ℕ, suc, ◌+◌, ◌*◌, ◌/◌, ◌<◌, ◌≤◌, true, arith, ltb, leb, List, ◌∷◌, length, get_or, map, drop, add-one, drop-cons, Option, Some, None, ℤ, pos, refl, sym, ap, ap₂, ◌∙◌}
+use Rattle.std.proofs.Math.Nat.{mul-div_cancel_left}
 use Rattle.std.proofs.lemmas.Bool.{and_parts, and_from, ltb-true, leb-true, le-leb}
 use Rattle.c_values.specs.Types.{CType, Array, Struct}
 use Rattle.c_values.specs.Name.{Name}
@@ -26,6 +27,16 @@ element_object l u n object =
     let whole = and_parts (is_complete (shape_of l (Array u n))) (leb (size_of l (Array u n)) largest_size) object in
     let part = and_parts (ltb 0 n) (is_complete (shape_of l u)) whole.0 in
     and_from (is_complete (shape_of l u)) (leb (size_of l u) largest_size) part.1 (small_element n (size_of l u) largest_size (ltb-true 0 n part.0) whole.1)
+
+-- an array of an object has an element
+pub some_element : (l : Layout) (u : CType) (n : ℕ) → is_object l (Array u n) ≡ true → 0 < n
+some_element l u n object =
+    let whole = and_parts (is_complete (shape_of l (Array u n))) (leb (size_of l (Array u n)) largest_size) object in
+    ltb-true 0 n (and_parts (ltb 0 n) (is_complete (shape_of l u)) whole.0).0
+
+-- the size of an element, from that of the whole
+pub element_size : (l : Layout) (u : CType) (n bytes : ℕ) → is_object l (Array u n) ≡ true → bytes ≡ size_of l (Array u n) → bytes / n ≡ size_of l u
+element_size l u n bytes object e = ap (λ m. m / n) e ∙ mul-div_cancel_left (size_of l u) (some_element l u n object)
 
 -- a struct has no elements
 no_element : (s : Shape) (x : Name) (i : ℤ) → type_of s ≡ Struct x → step_spot s (Index i) ≡ None
