@@ -4,3 +4,4 @@ pub mod Steps
 pub mod Found
 pub mod Kept
 pub mod Heaps
+pub mod Turned

@@ -1,20 +1,17 @@
 -- The steps of ways, one after the other.
-use Rattle.std.proofs.Common.{◌≡◌, ℕ, ◌<◌, List, [], ◌∷◌, ◌++◌, length, Option, Some, None, IfSome, IfNone, refl, sym, ap, ◌∙◌, subst, arith}
+use Rattle.std.proofs.Common.{◌≡◌, ◌<◌, List, [], ◌∷◌, ◌++◌, Option, Some, None, IfSome, IfNone, refl, sym, ap, ◌∙◌, subst, arith}
 use Rattle.std.specs.Prelude.{IsSomeAnd}
 use Rattle.std.specs.Option.{option_map}
 use Rattle.c_values.specs.Value.{Value, nothing}
 use Rattle.c_values.specs.Path.{Step, sel}
 use Rattle.c_memory.specs.Tags.{prefixed}
 use Rattle.c_values.specs.CodeFollow.{CanFollow}
+use Rattle.typed_heap.specs.CodeWays.{many_steps}
 use Rattle.c_values.proofs.Follow.{sel_cons, follow_first, follow_rest}
 
 abbrev pub sel_found : Value → Option (List Step) → Value
 sel_found v None = nothing
 sel_found v (Some ps) = sel v ps
-
-abbrev pub many_steps : Option (List Step) → ℕ
-many_steps None = 0
-many_steps (Some ps) = length ps
 
 pub prefixed_mapped : (p : Step) (o : Option (List Step)) (qs : List Step) → option_map (λ ps. ps ++ qs) (prefixed p o) ≡ prefixed p (option_map (λ ps. ps ++ qs) o)
 prefixed_mapped p None qs = refl

@@ -1,2 +1,3 @@
 pub mod CodeCells
 pub mod CodeWays
+pub mod CodeTurned

@@ -19,7 +19,7 @@ use crate::heap::TypedHeap;
 use crate::selecting::{replace, select};
 use crate::ways::Way;
 use c_memory::{Step, TagTable};
-use c_values::{CType, Layout, Value};
+use c_values::{CType, Layout, Value, size_of};
 
 /// The value at a place, where its root is covered.
 pub(crate) fn value_at<'a>(
@@ -81,10 +81,10 @@ fn way_to<'a>(
     ensures object { IsWay l.now result }
     ensures layout { IsLayout l.now }
 {
-    let _ = l.target();
     let (start, whole) = &tags.tags()[k];
     Way::ToRoot {
         whole,
+        size: size_of(l, whole),
         root: t,
         offset: address - *start,
         path,

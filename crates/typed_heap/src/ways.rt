@@ -2,7 +2,7 @@
 
 ghost use Rattle.std.specs.Prelude.{◌≡◌, [], ◌++◌, true, false, map, None, Some, IfNone, IfSome};
 ghost use Rattle.std.specs.Option.{option_map};
-ghost use Rattle.c_values.specs.Layout.{Layout, IsLayout, shape_of, is_object};
+ghost use Rattle.c_values.specs.Layout.{Layout, IsLayout, shape_of, size_of, is_object};
 ghost use Rattle.c_values.specs.CodeTypes.{type_of};
 ghost use Rattle.c_memory.specs.CodeInner.{is_root_here, part_step};
 ghost use Rattle.c_memory.specs.CodeStep.{step_of};
@@ -15,9 +15,10 @@ use c_values::{CType, Layout, Number};
 /// The way from an object to a place in it.
 #[derive(Clone, Copy)]
 pub(crate) enum Way<'a> {
-    /// To the root of a type that lies at an offset, and along a path from there.
+    /// To the root of a type that lies at an offset into an object of a size in bytes, and along a path from there.
     ToRoot {
         whole: &'a CType,
+        size: u32,
         root: &'a CType,
         offset: u64,
         path: &'a [Step],
@@ -38,6 +39,7 @@ pub(crate) fn first_step<'a>(l: &'a Layout, way: Way<'a>) -> Option<(Step, Way<'
     match way {
         Way::ToRoot {
             whole,
+            size,
             root,
             offset,
             path,
@@ -45,7 +47,7 @@ pub(crate) fn first_step<'a>(l: &'a Layout, way: Way<'a>) -> Option<(Step, Way<'
             if is_root_here(whole, root, offset) {
                 first_along(path)
             } else {
-                first_to_root(l, whole, root, offset, path)
+                first_to_root(l, whole, size, root, offset, path)
             }
         }
         Way::Along(path) => first_along(path),
@@ -68,12 +70,14 @@ fn first_along<'a>(path: &'a [Step]) -> Option<(Step, Way<'a>)>
 fn first_to_root<'a>(
     l: &'a Layout,
     whole: &'a CType,
+    size: u32,
     root: &'a CType,
     offset: u64,
     path: &'a [Step],
 ) -> Option<(Step, Way<'a>)>
     requires layout { IsLayout l.now }
     requires object { is_object l.now (type_of whole.now) ≡ true }
+    requires size { size ≡ size_of l.now (type_of whole.now) }
     requires inner { is_root_here (type_of whole.now) (type_of root.now) offset ≡ false }
     ensures none { IfNone result
         (root_path (shape_of l.now (type_of whole.now)) (type_of root.now) offset ≡ None) }
@@ -82,10 +86,11 @@ fn first_to_root<'a>(
         ≡ prefixed (step_of r.0) (steps_of l.now r.1)) }
     ensures object { IfSome result (λ r. IsWay l.now r.1) }
 {
-    let part = part_at(l, whole, offset)?;
+    let part = part_at(l, whole, size, offset)?;
     let step = step_to(whole, part.index);
     let way = Way::ToRoot {
         whole: part.ty,
+        size: part.size,
         root,
         offset: part.offset,
         path,

@@ -11,7 +11,19 @@ use Rattle.c_values.proofs.Listed.{parts_value}
 use Rattle.typed_heap.specs.CodeWays.{steps_of}
 use Rattle.c_values.proofs.Follow.{set_in, part_in, place_below, upd_at, upd_nowhere}
 use Rattle.typed_heap.proofs.Steps.{if_some, each_some}
+use Rattle.typed_heap.specs.CodeTurned.{turned_back}
+use Rattle.typed_heap.proofs.Turned.{found, as_replaced}
 use Rattle.typed_heap.proofs.selecting.+replace.Goals as goal
+
+pub replace-returns : goal.replace-returns
+replace-returns t c =
+    let l = c.args.l.now in
+    let w = value_of c.args.value in
+    let there =
+    as_replaced (value_of c.take_out-way.new.whole) w (value_of c.replace_there.new.whole) (steps_of l c.take_out-way.result)
+    c.take_out-way.ensures.some c.replace_there.ensures in
+    found (value_of c.args.whole.now) w (value_of c.put_back.new.whole) (steps_of l c.args.way)
+    (c.put_back.ensures ∙ ap (λ v. turned_back (value_of c.take_out-way.new.outer) v) there ∙ c.take_out-way.ensures.whole w)
 
 pub replace_in-returns-in-Some : goal.replace_in-returns-in-Some
 replace_in-returns-in-Some t c =

@@ -4,8 +4,8 @@ use Rattle.std.specs.Prelude.{IsSomeAnd}
 use Rattle.c_values.specs.CodeValue.{value_of}
 use Rattle.c_memory.specs.CodeStep.{step_of}
 use Rattle.c_values.specs.CodeFollow.{CanFollow}
-use Rattle.typed_heap.specs.CodeWays.{steps_of}
-use Rattle.typed_heap.proofs.Steps.{sel_found, many_steps, first_follows, rest_follows, rest_selects, rest_shorter, end_selects, selected}
+use Rattle.typed_heap.specs.CodeWays.{steps_of, many_steps}
+use Rattle.typed_heap.proofs.Steps.{sel_found, first_follows, rest_follows, rest_selects, rest_shorter, end_selects, selected}
 use Rattle.typed_heap.proofs.selecting.select.Goals as goal
 
 pub part_by-part-requires : goal.part_by-part-requires

@@ -3,8 +3,8 @@ use Rattle.std.proofs.Common.{◌≡◌}
 use Rattle.std.specs.Prelude.{IsSomeAnd}
 use Rattle.c_values.specs.CodeValue.{value_of}
 use Rattle.c_values.specs.CodeFollow.{CanFollow}
-use Rattle.typed_heap.specs.CodeWays.{steps_of, IsWay}
-use Rattle.typed_heap.proofs.Steps.{sel_found, many_steps}
+use Rattle.typed_heap.specs.CodeWays.{steps_of, many_steps, IsWay}
+use Rattle.typed_heap.proofs.Steps.{sel_found}
 use Rattle.typed_heap.proofs.selecting.select.Given as goal
 
 abbrev pub invariant-steps : goal.invariant-steps

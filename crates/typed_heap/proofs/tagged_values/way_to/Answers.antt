@@ -22,7 +22,7 @@ overflow_sub-result c =
     let start : c.index-tags-k.result.0 ≡ u.tag.address = ap (λ t. t.address) same in
     let root = path_of_some (path_from l u.tag (type_of c.args.t.now) c.args.address) u.path in
     let tag = tag_at l c.args.tags.now c.args.k u.tag c.requires.tags u.is in
-    let within = root_within l c.target.ensures.layout u.tag (type_of c.args.t.now) c.args.address root.0 tag root.1 in
+    let within = root_within l c.size_of.ensures.layout u.tag (type_of c.args.t.now) c.args.address root.0 tag root.1 in
     omega (arith, start, within.0)
 
 pub returns-clause-steps : goal.returns-clause-steps
@@ -33,7 +33,7 @@ returns-clause-steps c v e =
     let same = item_at tag_of c.tags.result.now c.args.tags.now c.args.k c.index-tags-k.result u.tag c.tags.ensures u.is c.index-tags-k.is in
     let root = path_of_some (path_from l u.tag t c.args.address) u.path in
     let tag = tag_at l c.args.tags.now c.args.k u.tag c.requires.tags u.is in
-    let within = root_within l c.target.ensures.layout u.tag t c.args.address root.0 tag root.1 in
+    let within = root_within l c.size_of.ensures.layout u.tag t c.args.address root.0 tag root.1 in
     let path = map step_of c.args.path.now in
     ap (λ o. option_map (λ steps. steps ++ path) o)
     (ap (λ (w : Tag). root_path (shape_of l w.type) t (c.args.address - w.address)) same
@@ -42,6 +42,13 @@ returns-clause-steps c v e =
 
 pub returns-clause-object : goal.returns-clause-object
 returns-clause-object c =
+    let l = c.args.l.now in
+    let u = c.requires.covers in
+    let same = item_at tag_of c.tags.result.now c.args.tags.now c.args.k c.index-tags-k.result u.tag c.tags.ensures u.is c.index-tags-k.is in
+    (subst (λ (w : Tag). is_object l w.type ≡ true) (sym same) (tag_at l c.args.tags.now c.args.k u.tag c.requires.tags u.is).object, c.size_of.ensures.value)
+
+pub size_of-requires : goal.size_of-requires
+size_of-requires c =
     let l = c.args.l.now in
     let u = c.requires.covers in
     let same = item_at tag_of c.tags.result.now c.args.tags.now c.args.k c.index-tags-k.result u.tag c.tags.ensures u.is c.index-tags-k.is in

@@ -18,7 +18,7 @@ here c =
     let t = type_of c.in-ToRoot.root.now in
     ap (λ w. steps_of l w) c.in-ToRoot.is
     ∙ mapped_here (root_path (shape_of l u) t c.in-ToRoot.offset) (map step_of c.in-ToRoot.path.now)
-    (root_here l c.requires.layout u (subst (λ w. IsWay l w) c.in-ToRoot.is c.requires.object) t c.in-ToRoot.offset (sym c.is_root_here.ensures ∙ c.if-is_root_here.true))
+    (root_here l c.requires.layout u (subst (λ w. IsWay l w) c.in-ToRoot.is c.requires.object).0 t c.in-ToRoot.offset (sym c.is_root_here.ensures ∙ c.if-is_root_here.true))
 
 pub returns-then-is_root_here-clause-none : goal.returns-then-is_root_here-clause-none
 returns-then-is_root_here-clause-none c =
