@@ -3,7 +3,7 @@ use Rattle.std.proofs.Common.{◌≡◌, ℕ, zero, suc, ◌+◌, ◌*◌, ◌%�
 use Rattle.std.proofs.Math.Nat.{mod-mod}
 use Rattle.c_values.specs.declared.values.Value as V
 use Rattle.c_values.specs.Types.{Struct}
-use Rattle.c_values.specs.Value.{Value, Values, Parts, no_values, more}
+use Rattle.c_values.specs.Value.{Value, Parts, no_values, more}
 use Rattle.c_values.specs.Layout.{Layout, Shape, Incomplete, Scalar, Record, Row, size, type_of, is_scalar, is_object, IsLayout, shape_of}
 use Rattle.c_values.specs.Path.{Field, step_spot}
 use Rattle.c_values.specs.CodeValue.{value_of}

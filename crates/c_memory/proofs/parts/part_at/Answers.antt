@@ -1,5 +1,5 @@
 -- The size of an element is the whole's, divided by their number.
-use Rattle.std.proofs.Common.{◌≡◌, ◌<◌, ◌≤◌, ◌/◌, true, ◌∙◌, arith, sym, ap, subst}
+use Rattle.std.proofs.Common.{◌≡◌, ◌<◌, ◌≤◌, ◌/◌, true, ◌∙◌, arith, sym, subst}
 use Rattle.c_values.specs.Types.{Array}
 use Rattle.c_values.specs.Layout.{size_of, is_object}
 use Rattle.c_values.specs.CodeTypes.{type_of}
