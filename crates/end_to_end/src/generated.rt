@@ -91,3 +91,28 @@ fn units_at_the_limits(rt: HostRuntime) -> Result<(), Fail> {
     }
     Ok(())
 }
+
+// Functions that copy a struct whose one member is an integer in so many arrays of one element.
+fn deep_copies(alloc: Global, depth: u32) -> Result<String, AllocError> {
+    let mut text = String::from_str(alloc, "struct s{int a")?;
+    for _ in 0..depth {
+        text.push_str("[1]")?;
+    }
+    text.push_str(";};struct t{int n;struct s b;};")?;
+    text.push_str("void b(struct s*d,struct s*s){*d=*s;}")?;
+    text.push_str("void c(struct s*d,struct s*s){*d=*s;}")?;
+    text.push_str("void m(struct t*d,struct s*s){d->b=*s;}")?;
+    Ok(text)
+}
+
+// The text is almost as long as one may be. The first function is on bytes.
+#[test]
+fn deep_types_are_generated(rt: HostRuntime) -> Result<(), Fail> {
+    let alloc = rt.alloc();
+    let mut on_bytes = Vec::new(alloc);
+    on_bytes.push(String::from_str(alloc, "b")?)?;
+    let text = deep_copies(alloc, 80_000)?;
+    let u = generated(alloc, text.as_str(), &on_bytes)?;
+    assert!(rt; u.functions.len() == 3);
+    Ok(())
+}

@@ -86,6 +86,19 @@ impl BothHeaps {
         ensures cells { IfOk result (λ h. IsHeap h.l (typed_content h.cells)) }
     {
         let l = layout(alloc, Target::Ilp32)?;
+        BothHeaps::with_layout(alloc, l, first, second)
+    }
+
+    // The same, of a layout.
+    fn with_layout(
+        alloc: Global,
+        l: Layout,
+        first: (u64, CType),
+        second: (u64, CType),
+    ) -> Result<BothHeaps, Fail>
+        ensures bytes { IfOk result (λ h. IsHeap h.l (OnBytes (memory_of h.bytes))) }
+        ensures cells { IfOk result (λ h. IsHeap h.l (typed_content h.cells)) }
+    {
         match zero_bytes(alloc, &l, first, second)? {
             Some(bytes) => {
                 let cells = typed(alloc, &l, &bytes)?;
@@ -254,5 +267,51 @@ fn views_of_many_tags(rt: HostRuntime) -> Result<(), Fail> {
         assert!(rt; word_at(&cells, &l, &UINT, last, &[]) == Some(7));
         assert!(rt; word_at(&cells, &l, &UINT, last + 4, &[]) == Some(0));
     }
+    Ok(())
+}
+
+// A layout with a struct `d`, whose one member is an `unsigned` in so many arrays of one element.
+fn deep_layout(alloc: Global, depth: u32) -> Result<Layout, Fail> {
+    let mut ty = UINT;
+    for _ in 0..depth {
+        ty = CType::Array(Box::new(alloc, ty)?, 1);
+    }
+    let mut members = Vec::new(alloc);
+    members.push((String::from_str(alloc, "a")?, ty))?;
+    let definition = StructDef {
+        name: String::from_str(alloc, "d")?,
+        members,
+    };
+    let mut l = Layout::build(Target::Ilp32, Vec::new(alloc))?;
+    l.can_follow(&definition).then_some(()).ok_or("no layout")?;
+    l.define(alloc, definition)?;
+    Ok(l)
+}
+
+// The path to the `unsigned` in `d`.
+fn deep_path(alloc: Global, depth: u32) -> Result<Vec<Step>, AllocError> {
+    let mut path = Vec::new(alloc);
+    path.push(Step::Field(0))?;
+    for _ in 0..depth {
+        path.push(Step::Index(Number::new(false, 0)))?;
+    }
+    Ok(path)
+}
+
+#[test]
+fn values_of_deep_types(rt: HostRuntime) -> Result<(), Fail> {
+    let alloc = rt.alloc();
+    let l = deep_layout(alloc, 80_000)?;
+    let path = deep_path(alloc, 80_000)?;
+    let d = CType::Struct(String::from_str(alloc, "d")?);
+    let first = CType::Struct(String::from_str(alloc, "d")?);
+    let second = CType::Struct(String::from_str(alloc, "d")?);
+    let mut h = BothHeaps::with_layout(alloc, l, (4096, first), (8192, second))?;
+    h.put(alloc, &UINT, 4096, &[], 7)?;
+    h.copy(alloc, &d, 8192, 4096)?;
+    assert!(rt; h.words(&UINT, 8192, &[]) == (Some(7), Some(7)));
+    h.put(alloc, &d, 4096, &path, 8)?;
+    assert!(rt; h.words(&UINT, 4096, &[]) == (Some(8), Some(8)));
+    assert!(rt; h.words(&d, 8192, &path) == (Some(7), Some(7)));
     Ok(())
 }
