@@ -40,7 +40,7 @@ nowhere (C.Member k path) = refl
 nowhere (C.Element n e path) = refl
 
 -- what is at the end of a path
-end_of : (o : Option Shape) (u : CType) → leads_to o u ≡ true → (q : Shape) × (o ≡ Some q) × (L.type_of q ≡ u)
+pub end_of : (o : Option Shape) (u : CType) → leads_to o u ≡ true → (q : Shape) × (o ≡ Some q) × (L.type_of q ≡ u)
 end_of None u h = absurd cc
 end_of (Some q) u h = (q, refl, type_is (L.type_of q) u h)
 
@@ -55,7 +55,7 @@ nth_member (field at s' fs) zero s e = (at, subst (λ r. IsNth (field at s' fs) 
 nth_member (field at s' fs) (suc k) s e = let r = nth_member fs k s e in (r.0, next r.1)
 
 -- into an array of so many elements
-into_row : (n m : ℕ) (e : Shape) (path : C.Path) (q : Shape) → cond (n == m) (shape_along (Some e) path) None ≡ Some q → (n ≡ m) × (shape_along (Some e) path ≡ Some q)
+pub into_row : (n m : ℕ) (e : Shape) (path : C.Path) (q : Shape) → cond (n == m) (shape_along (Some e) path) None ≡ Some q → (n ≡ m) × (shape_along (Some e) path ≡ Some q)
 into_row n m e path q h = by_case (n == m) refl h
   where
     by_case : (b : Bool) → (n == m) ≡ b → cond b (shape_along (Some e) path) None ≡ Some q → (n ≡ m) × (shape_along (Some e) path ≡ Some q)

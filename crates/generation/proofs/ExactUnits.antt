@@ -1,5 +1,5 @@
 -- Generated Simpl has exactly the ends of the C function, in a unit that is well-typed.
-use Rattle.std.proofs.Common.{◌≡◌, ℕ, zero, suc, true, false, List, [], ◌∷◌, ◌++◌, map, Option, Some, refl, sym, subst, ap, ◌∙◌, ap₂, not, ◌||◌, append_assoc}
+use Rattle.std.proofs.Common.{◌≡◌, ℕ, zero, suc, true, false, List, [], ◌∷◌, ◌++◌, Option, Some, refl, sym, subst, ap, ◌∙◌, ap₂, not, ◌||◌}
 use Rattle.std.specs.Prelude.{◌&&◌}
 use Rattle.correspondence.specs.Outcome.{Done, Then}
 use Rattle.correspondence.specs.Bound.{below}
@@ -7,38 +7,28 @@ use Rattle.correspondence.specs.Corresponds.{Corresponds, Paired}
 use Rattle.correspondence.proofs.Corresponds.{corresponds_weaker}
 use Rattle.c_values.specs.Name.{Name, same_name, is_among, are_distinct}
 use Rattle.c_values.specs.Choice.{Choice}
-use Rattle.c_values.specs.Layout.{Layout, is_scalar}
-use Rattle.c_values.specs.Types.{Target}
-use Rattle.ac_expr.specs.Sort.{Level, WordKind, BoolKind}
-use Rattle.ac_expr.specs.Signature.{Binder, Invocation, signature, bound, binder, result_kind}
-use Rattle.simpl_lang.specs.Command.{simpl_fn, kind_of}
+use Rattle.ac_expr.specs.Sort.{Level}
+use Rattle.ac_expr.specs.Signature.{Invocation, signature, bound, result_kind}
+use Rattle.simpl_lang.specs.Command.{kind_of}
 use Rattle.simpl_lang.specs.Exec as X
-use Rattle.simpl_lang.specs.Flag.{thrown_local}
 use Rattle.ac_expr.specs.Machine.{Returned, machine_with}
 use Rattle.simpl_lang.specs.Exec.{simpl_runs, execs}
 use Rattle.c_lang.specs.Typed as C
-use Rattle.c_lang.specs.WellTyped.{Scope, IsWellTyped, scope_in, is_function, are_functions, is_own_name, is_result, are_statements, are_variables, nowhere}
+use Rattle.c_lang.specs.WellTyped.{Scope, IsWellTyped, scope_in, is_function, is_result, are_statements, are_variables, nowhere}
 use Rattle.c_meaning.specs.CRun as R
 use Rattle.c_meaning.specs.CRun.{Runs, c_runs}
-use Rattle.c_meaning.specs.Kinds.{variables}
-use Rattle.generation.specs.Generate.{function_of, signature_of, generated, result_binder, exception_local, added_in, locals, commands, whole_body}
+use Rattle.generation.specs.Generate.{function_of, signature_of, generated, locals, commands, whole_body}
 use Rattle.c_meaning.specs.Fitting.{AreOfTypes, IsReturned}
 use Rattle.ac_expr.specs.States.{IsState}
-use Rattle.generation.proofs.ExactTests.{all_of_two, all_of_three, all_of_four, same_some, none_is_none, by_test, by_cases, where_true, where_false}
+use Rattle.generation.proofs.ExactTests.{all_of_two, all_of_four}
 use Rattle.generation.proofs.ExactGuards.{SameKind}
 use Rattle.generation.proofs.ExactLabels.{neither, not_true}
 use Rattle.generation.proofs.ExactMachines.{Alike, setting}
 use Rattle.generation.proofs.ExactEnds.{IsGiven, SameCalls, Stands}
 use Rattle.generation.proofs.ExactStatements.{body_same}
 use Rattle.generation.proofs.ExactEntry.{names_are}
+use Rattle.generation.proofs.UnitParts.{variables_apart, body_found, signature_found, function_typed, more_locals, locals_are}
 use Rattle.generation.proofs.ExactFunctions.{locals_kind, entered_alike, whole_ended}
-
-variables_apart : (xs ys : List C.Variable) → are_variables (xs ++ ys) ≡ true → (are_variables xs ≡ true) × (are_variables ys ≡ true)
-variables_apart [] ys h = (refl, h)
-variables_apart (x ∷ xs) ys h =
-    let p = all_of_three (is_scalar x.type) (is_own_name x.name) (are_variables (xs ++ ys)) h in
-    let q = variables_apart xs ys p.2 in
-    (ap (λ b. b && is_own_name x.name && are_variables xs) p.0 ∙ ap (λ b. true && b && are_variables xs) p.1 ∙ q.0, q.1)
 
 among_first : (x : Name) (xs ys : List C.Variable) → is_among x (C.variable_names (xs ++ ys)) ≡ false → is_among x (C.variable_names xs) ≡ false
 among_first x [] ys h = refl
@@ -51,44 +41,6 @@ distinct_first [] ys h = refl
 distinct_first (x ∷ xs) ys h =
     let p = all_of_two (not (is_among x.name (C.variable_names (xs ++ ys)))) (are_distinct (C.variable_names (xs ++ ys))) h in
     ap₂ (λ a b. not a && b) (among_first x.name xs ys (not_true (is_among x.name (C.variable_names (xs ++ ys))) p.0)) (distinct_first xs ys p.1)
-
--- what is generated for the function of a name
-module _ (l : Layout) (levels : Name → Level) (x : Name) (f : C.TypedFn) where
-  body_found : (fs : List C.TypedFn) → C.typed_fn fs x ≡ Some f → simpl_fn (map (λ h. function_of l (levels h.name) h) fs) x ≡ Some (function_of l (levels f.name) f)
-  body_found [] e = absurd (none_is_none e)
-  body_found (h ∷ fs) e =
-      by_test (λ o. o ≡ Some (function_of l (levels f.name) f)) (same_name h.name x) (Some (function_of l (levels h.name) h)) (simpl_fn (map (λ k. function_of l (levels k.name) k) fs) x)
-      (λ b. ap (λ k. Some (function_of l (levels k.name) k)) (same_some (sym (where_true (same_name h.name x) (Some h) (C.typed_fn fs x) b) ∙ e)))
-      (λ b. body_found fs (sym (where_false (same_name h.name x) (Some h) (C.typed_fn fs x) b) ∙ e))
-
-  signature_found : (fs : List C.TypedFn) → C.typed_fn fs x ≡ Some f → signature (map (λ h. signature_of l (levels h.name) h) fs) x ≡ Some (signature_of l (levels f.name) f)
-  signature_found [] e = absurd (none_is_none e)
-  signature_found (h ∷ fs) e =
-      by_test (λ o. o ≡ Some (signature_of l (levels f.name) f)) (same_name h.name x) (Some (signature_of l (levels h.name) h)) (signature (map (λ k. signature_of l (levels k.name) k) fs) x)
-      (λ b. ap (λ k. Some (signature_of l (levels k.name) k)) (same_some (sym (where_true (same_name h.name x) (Some h) (C.typed_fn fs x) b) ∙ e)))
-      (λ b. signature_found fs (sym (where_false (same_name h.name x) (Some h) (C.typed_fn fs x) b) ∙ e))
-
-  function_typed : (u : C.TypedUnit) (fs : List C.TypedFn) → are_functions u fs ≡ true → C.typed_fn fs x ≡ Some f → is_function u f ≡ true
-  function_typed u [] h e = absurd (none_is_none e)
-  function_typed u (k ∷ fs) h e =
-      let p = all_of_two (is_function u k) (are_functions u fs) h in
-      by_cases (is_function u f ≡ true) (same_name k.name x)
-      (λ b. subst (λ z. is_function u z ≡ true) (same_some (sym (where_true (same_name k.name x) (Some k) (C.typed_fn fs x) b) ∙ e)) p.0)
-      (λ b. function_typed u fs p.1 (sym (where_false (same_name k.name x) (Some k) (C.typed_fn fs x) b) ∙ e))
-
--- the locals behind those of the text
-abbrev more_locals : Target → Level → C.TypedFn → List Binder
-more_locals t level f =
-    let a = added_in t level f.body in
-    result_binder t level f.result ++ binder exception_local (WordKind 32) ∷ [] ++ a.calls ++ a.switches ++ a.firsts ++ binder thrown_local BoolKind ∷ []
-
-gathered : {A : Type 0} (a b c d e f g h : List A) → (a ++ b ++ c ++ d ++ e ++ f ++ g ++ h) ≡ a ++ (b ++ (c ++ d ++ e ++ f ++ g ++ h))
-gathered a b c d e f g h = simp append_assoc
-
-locals_are : (t : Target) (level : Level) (f : C.TypedFn) → locals t level f ≡ variables t level f.params ++ (variables t level f.locals ++ more_locals t level f)
-locals_are t level f =
-    let a = added_in t level f.body in
-    gathered (variables t level f.params) (variables t level f.locals) (result_binder t level f.result) (binder exception_local (WordKind 32) ∷ []) a.calls a.switches a.firsts (binder thrown_local BoolKind ∷ [])
 
 module _ (u : C.TypedUnit) (w : IsWellTyped u) (levels : Name → Level) (p : Choice) where
   abbrev AllSame : Runs → Runs → Type 0

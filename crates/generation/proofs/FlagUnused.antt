@@ -1,6 +1,6 @@
 -- The functions of a generated unit have the flag as a local and leave it alone.
 use Rattle.std.proofs.Common.{◌≡◌, ℕ, true, false, List, [], ◌∷◌, ◌++◌, map, Option, Some, None, refl, ◌∙◌}
-use Rattle.std.proofs.lemmas.Bool.{and_parts, and_from, or_from, cond-false}
+use Rattle.std.proofs.lemmas.Bool.{and_parts, or_from, cond-false}
 use Rattle.c_values.specs.Name.{Name, same_name, is_among, are_distinct}
 use Rattle.c_values.specs.Types.{Target, CType, Integer}
 use Rattle.c_values.proofs.Laid.{other_name}
@@ -14,6 +14,7 @@ use Rattle.c_meaning.specs.Kinds.{variables}
 use Rattle.generation.specs.Generate.{exception_local, switch_local, first_local, result_binder, use_binder, Added, none_added, both_added, added, added_in, added_of, function_of, signature_of, generated}
 use Rattle.generation.proofs.ExactTests.{all_of_four}
 use Rattle.generation.proofs.ExactMachines.{declared_scalar, apart}
+use Rattle.generation.proofs.UnitParts.{variables_apart}
 use Rattle.generation.proofs.UnnamedCommands.{commands_leave, whole_leaves}
 
 -- none of the locals is the flag
@@ -94,12 +95,6 @@ module _ (t : Target) (level : Level) where
     added_of_others C.no_groups = none_others
     added_of_others (C.group labels d ss gs) = both_others (added_in_others ss) (added_of_others gs)
 
-variables_split : (xs ys : List C.Variable) → are_variables (xs ++ ys) ≡ true → (are_variables xs ≡ true) × (are_variables ys ≡ true)
-variables_split [] ys h = (refl, h)
-variables_split (v ∷ xs) ys h =
-    let p = and_parts _ _ h in
-    let q = variables_split xs ys p.1 in (and_from _ _ p.0 q.0, q.1)
-
 no_flag_among : (t : Target) (level : Level) (vs : List C.Variable) → are_variables vs ≡ true → is_among thrown_local (names_of (variables t level vs)) ≡ false
 no_flag_among t level [] h = refl
 no_flag_among t level (v ∷ vs) h =
@@ -111,7 +106,7 @@ module _ (u : C.TypedUnit) (f : C.TypedFn) (h : is_function u f ≡ true) (level
 
   function_leaves : LeavesFlag (function_of u.layout level f)
   function_leaves =
-      let own = variables_split f.params f.locals parts.0 in
+      let own = variables_apart f.params f.locals parts.0 in
       let t = u.layout.target in
       let a = added_in_others t level f.body in
       let e : Added = added_in t level f.body in
@@ -135,7 +130,7 @@ module _ (u : C.TypedUnit) (levels : Name → Level) where
   none_takes (f ∷ fs) h =
       let p = and_parts _ _ h in
       let own = all_of_four (are_variables (f.params ++ f.locals)) _ _ _ p.0 in
-      (no_flag_among u.layout.target (levels f.name) f.params (variables_split f.params f.locals own.0).0, none_takes fs p.1)
+      (no_flag_among u.layout.target (levels f.name) f.params (variables_apart f.params f.locals own.0).0, none_takes fs p.1)
 
   pub generated_leaves_the_flag : IsWellTyped u → HasUnusedFlag (generated u levels)
   generated_leaves_the_flag w = record { functions = all_leave u.functions w.functions; signatures = none_takes u.functions w.functions }

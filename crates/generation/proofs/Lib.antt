@@ -28,8 +28,13 @@ pub mod ExactPicks
 pub mod ExactStatements
 pub mod ExactEntry
 pub mod ExactFunctions
+pub mod UnitParts
 pub mod ExactUnits
 pub mod UnnamedExpressions
 pub mod UnnamedCommands
 pub mod FlagUnused
 pub mod LocalNames
+pub mod SortedRows
+pub mod SortedExpressions
+pub mod SortedCommands
+pub mod WellFormedUnits

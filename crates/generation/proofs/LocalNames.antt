@@ -221,7 +221,7 @@ different : (a b : ℕ) → (a == b) ≡ false → a ≡ b → ⊥
 different a b h e = true≢false (sym (eq-eqb a b e) ∙ h)
 
 module _ (t : Target) (level : Level) where
-  variables_append : (vs ws : List C.Variable) → variables t level (vs ++ ws) ≡ variables t level vs ++ variables t level ws
+  pub variables_append : (vs ws : List C.Variable) → variables t level (vs ++ ws) ≡ variables t level vs ++ variables t level ws
   variables_append [] ws = refl
   variables_append (v ∷ vs) ws = ap (λ bs. binder v.name (kind_at t level v.type) ∷ bs) (variables_append vs ws)
 
@@ -292,7 +292,7 @@ module _ (t : Target) (level : Level) where
             avoids6 : (102 == k) ≡ false → Avoids k (names_of (declared ++ result ++ exn ++ a.calls ++ a.switches ++ a.firsts))
             avoids6 firsts' = more_avoid k (declared ++ result ++ exn ++ a.calls ++ a.switches) a.firsts avoids5 (others 102 k (names_of a.firsts) (different 102 k firsts') firsts_family)
 
-    locals_distinct : are_distinct (names_of (locals t level f)) ≡ true
+    pub locals_distinct : are_distinct (names_of (locals t level f)) ≡ true
     locals_distinct =
         let d2 = more_distinct 1114 declared result declared_distinct (result_distinct f.result) (others 0 1114 (names_of declared) (different 0 1114 refl) declared_family) (result_family f.result) in
         let d3 = more_distinct 101 (declared ++ result) exn d2 refl (avoids2 101 refl refl) (refl, tt) in

@@ -2,3 +2,4 @@ pub mod Guards
 pub mod Generate
 pub mod Refused
 pub mod SameEnds
+pub mod WellFormed

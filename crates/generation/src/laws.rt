@@ -15,6 +15,7 @@ ghost use Rattle.c_lang.specs.Typed.{TypedFn, TypedUnit, typed_fn};
 ghost use Rattle.c_lang.specs.WellTyped.{IsWellTyped};
 ghost use Rattle.c_meaning.specs.CRun.{c_runs};
 ghost use Rattle.generation.specs.Generate.{generated};
+ghost use Rattle.generation.specs.WellFormed.{GeneratesWellFormed};
 ghost use Rattle.c_meaning.specs.Fitting.{AreOfTypes, IsReturned};
 ghost use Rattle.ac_expr.specs.States.{IsState};
 
@@ -51,4 +52,11 @@ pub fn generated_units_leave_the_flag()
 pub fn generated_locals_are_different()
     ensures { (u : TypedUnit) → IsWellTyped u → (levels : Name → Level) →
         list_all (λ f. are_distinct (names_of f.locals)) (generated u levels).functions ≡ true }
+{}
+
+/// The Simpl program of a well-typed unit is well-formed: names are different, each expression and each place of each body
+/// has the sort that is asked there, the signatures are those of the functions, and each call is of one of these, with
+/// arguments that fit and a local for the result.
+pub fn generated_units_are_well_formed()
+    ensures { (u : TypedUnit) → IsWellTyped u → GeneratesWellFormed u }
 {}
