@@ -1,0 +1,47 @@
+-- What a name is bound to, and environments that agree.
+use Rattle.std.proofs.Common.{◌≡◌, Bool, true, false, cond, ◌||◌, List, [], ◌∷◌, refl, ap, ◌∙◌}
+use Rattle.std.proofs.lemmas.Bool.{or_from, or_parts, or_left, or_right, cond_both, cond-false}
+use Rattle.c_values.specs.Name.{Name, same_name, with_name, is_among}
+use Rattle.c_values.specs.Value.{Value}
+use Rattle.c_values.proofs.Laid.{name_is, other_name}
+use Rattle.ac_expr.specs.Evaluation.{Env}
+use Rattle.ac_expr.specs.Signature.{Binder, names_of, bound}
+use Rattle.rule_local.specs.Agree.{AgreeOn, held}
+use Rattle.rule_local.specs.Kept.{HasEach}
+
+pub agree_left : (p q : Name → Bool) (env env' : Env) → AgreeOn (λ y. p y || q y) env env' → AgreeOn p env env'
+agree_left p q env env' a y h = a y (or_left (p y) (q y) h)
+
+pub agree_right : (p q : Name → Bool) (env env' : Env) → AgreeOn (λ y. p y || q y) env env' → AgreeOn q env env'
+agree_right p q env env' a y h = a y (or_right (p y) (q y) h)
+
+known_or_there : (t env : Env) (x y : Name) → (same_name y x ≡ false → env y ≡ t y) → with_name x (t x) env y ≡ t y
+known_or_there t env x y h = cond_both (same_name x y) (t x) (env y) (λ v. v ≡ t y) (λ e. ap t (name_is x y e)) (λ e. h (other_name x y e))
+
+-- names bound to what they have elsewhere
+pub bound_is : (t : Env) (y : Name) (xs : List Name) (env : Env) → (is_among y xs ≡ false → env y ≡ t y) → bound xs (held xs t) env y ≡ t y
+bound_is t y [] env h = h refl
+bound_is t y (x ∷ xs) env h = bound_is t y xs (with_name x (t x) env) (λ k. known_or_there t env x y (λ e. h (or_from (same_name y x) (is_among y xs) e k)))
+
+pub name_stays : (x y : Name) (v : Value) (env : Env) → same_name y x ≡ false → with_name x v env y ≡ env y
+name_stays x y v env h = cond-false (same_name x y) v (env y) (other_name y x h)
+
+pub bound_stays : (y : Name) (xs : List Name) (vs : List Value) (env : Env) → is_among y xs ≡ false → bound xs vs env y ≡ env y
+bound_stays y [] vs env h = refl
+bound_stays y (x ∷ xs) [] env h = refl
+bound_stays y (x ∷ xs) (v ∷ vs) env h =
+    let d = or_parts (same_name y x) (is_among y xs) h in
+    bound_stays y xs vs (with_name x v env) d.1 ∙ name_stays x y v env d.0
+
+same_or_there : (x y : Name) (v : Value) (env env' : Env) → (same_name y x ≡ false → env y ≡ env' y) → (b : Bool) → same_name x y ≡ b → cond b v (env y) ≡ cond b v (env' y)
+same_or_there x y v env env' h true e = refl
+same_or_there x y v env env' h false e = h (other_name x y e)
+
+-- arguments over two environments
+pub bound_alike : (y : Name) (bs : List Binder) (vs : List Value) (env env' : Env) → HasEach bs vs → (is_among y (names_of bs) ≡ false → env y ≡ env' y) →
+    bound (names_of bs) vs env y ≡ bound (names_of bs) vs env' y
+bound_alike y [] vs env env' k h = h refl
+bound_alike y (b ∷ bs) [] env env' k h = absurd k
+bound_alike y (b ∷ bs) (v ∷ vs) env env' k h =
+    bound_alike y bs vs (with_name b.name v env) (with_name b.name v env') k
+    (λ n. same_or_there b.name y v env env' (λ e. h (or_from (same_name y b.name) (is_among y (names_of bs)) e n)) (same_name b.name y) refl)

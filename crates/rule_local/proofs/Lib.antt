@@ -1,0 +1,9 @@
+pub mod Bound
+pub mod Values
+pub mod Stays
+pub mod Signed
+pub mod Parts
+pub mod Sound
+pub mod Fitting
+pub mod UnitsKeep
+pub mod Worked
