@@ -6,4 +6,11 @@ pub mod Parts
 pub mod Sound
 pub mod Fitting
 pub mod UnitsKeep
+pub mod HandedOn
+pub mod LiftedTaken
+pub mod LiftedNames
+pub mod LiftedWhole
+pub mod LiftedBytes
+pub mod InScope
+pub mod UnitsLifted
 pub mod Worked

@@ -12,6 +12,7 @@ use Rattle.monad_lang.specs.Program as M
 use Rattle.rule_trees.specs.RuleTree.{Tree, node, no_trees, tree}
 use Rattle.rule_local.specs.Rule.{Rule, Set, Dead, Seq, While, Start, Context}
 use Rattle.rule_local.specs.Table.{row, Takes, TakesWhole}
+use Rattle.rule_local.specs.Lifted.{lifted, locals_lifted}
 
 abbrev x : Name
 x = codes "x"
@@ -61,3 +62,27 @@ none_free false h = absurd (false≢true h)
 -- y is no parameter, and begins as `#f`
 start_row : TakesWhole here (node Start (tree (leaf Dead) no_trees)) (C.Set x no) (M.Bind (M.Ret (no ∷ [])) (y ∷ []) (M.Ret (Var y ∷ []))) (y ∷ [])
 start_row = (((refl, refl, not_x), (λ z. none_free (same_name z y))), ((((refl, refl), tt), tt), tt))
+
+-- a loop that sets y to x and clears x
+abbrev loop : C.Simpl
+loop = C.While [] (Var x) (C.Seq (C.Set y (Var x)) (C.Set x no))
+
+abbrev from : Name → M.Start
+from z = record { name = z; exp = Var z }
+
+-- both are handed on where y is looked at afterwards
+both_handed_on : (lifted here.locals loop (y ∷ [])).right
+    ≡ M.Bind (M.Loop (from x ∷ from y ∷ []) (TruthLit true) (Var x) (M.Bind (M.Ret (Var x ∷ [])) (y ∷ []) (M.Ret (no ∷ Var y ∷ [])))) (x ∷ y ∷ []) (M.Ret (Var y ∷ []))
+both_handed_on = refl
+
+-- and x alone where it isn't
+one_handed_on : (lifted here.locals loop []).right ≡ M.Bind (M.Loop (from x ∷ []) (TruthLit true) (Var x) (M.Bind (M.Ret []) [] (M.Ret (no ∷ [])))) (x ∷ []) (M.Ret [])
+one_handed_on = refl
+
+-- y begins as `#f`
+y_begins : (locals_lifted here loop (y ∷ [])).right ≡ M.Bind (M.Ret (no ∷ [])) (y ∷ []) (lifted here.locals loop (y ∷ [])).right
+y_begins = refl
+
+-- where no local needs to begin with a zero none does
+none_begins : (locals_lifted here loop []).right ≡ (lifted here.locals loop []).right
+none_begins = refl

@@ -5,3 +5,5 @@ pub mod Agree
 pub mod Kept
 pub mod Exact
 pub mod Units
+pub mod CommandForm
+pub mod Lifted

@@ -1,13 +1,19 @@
 //! Laws of the rules, as contracts of functions that do nothing.
 
-ghost use Rattle.std.specs.Prelude.{List};
-ghost use Rattle.c_values.specs.Name.{Name};
+ghost use Rattle.std.specs.Prelude.{◌≡◌, true, List};
+ghost use Rattle.c_values.specs.Name.{Name, is_among};
+ghost use Rattle.ac_expr.specs.Signature.{names_of};
 ghost use Rattle.simpl_lang.specs.Command.{Simpl, SimplUnit};
+ghost use Rattle.simpl_lang.specs.Form.{is_flat};
+ghost use Rattle.simpl_lang.specs.Names.{command_names};
 ghost use Rattle.simpl_lang.specs.Sorted.{IsWellFormed};
+ghost use Rattle.monad_lang.specs.Form.{is_bytes};
 ghost use Rattle.monad_lang.specs.Program.{Mon, FinalUnit};
 ghost use Rattle.rule_trees.specs.RuleTree.{Tree};
 ghost use Rattle.rule_local.specs.Rule.{Rule, Context};
 ghost use Rattle.rule_local.specs.Table.{Takes, TakesWhole};
+ghost use Rattle.rule_local.specs.CommandForm.{is_bytes_command};
+ghost use Rattle.rule_local.specs.Lifted.{AllFlat, locals_lifted, unit_lifted};
 ghost use Rattle.rule_local.specs.Exact.{StandsFor, StandsForWhole};
 ghost use Rattle.rule_local.specs.Units.{IsUnitLiftedTo, UnitsKeepLocals};
 
@@ -25,4 +31,16 @@ pub fn taken_is_exact()
 pub fn lifted_units_keep_locals()
     ensures { (u : SimplUnit) (v : FinalUnit) → IsWellFormed u → IsUnitLiftedTo u v →
         UnitsKeepLocals u v }
+{}
+
+/// Locals can be lifted out of every flat command: the rules take the body of a function to what it is lifted to, where its
+/// names and its outputs are locals, as in a well-formed unit; and that is in bytes form where the command is.
+pub fn locals_are_lifted()
+    ensures taken { (ctx : Context) (a : Simpl) (outputs : List Name) → is_flat a ≡ true →
+        ((x : Name) → command_names x a ≡ true → is_among x (names_of ctx.locals) ≡ true) →
+        ((x : Name) → is_among x outputs ≡ true → is_among x (names_of ctx.locals) ≡ true) →
+        TakesWhole ctx (locals_lifted ctx a outputs).tree a (locals_lifted ctx a outputs).right outputs }
+    ensures unit { (u : SimplUnit) → IsWellFormed u → AllFlat u.functions → IsUnitLiftedTo u (unit_lifted u) }
+    ensures bytes { (ctx : Context) (a : Simpl) (outputs : List Name) → is_bytes_command a ≡ true →
+        is_bytes (locals_lifted ctx a outputs).right ≡ true }
 {}

@@ -3,4 +3,4 @@
 
 mod laws;
 
-pub use laws::{lifted_units_keep_locals, taken_is_exact};
+pub use laws::{lifted_units_keep_locals, locals_are_lifted, taken_is_exact};
