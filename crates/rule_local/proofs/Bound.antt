@@ -9,10 +9,10 @@ use Rattle.ac_expr.specs.Signature.{Binder, names_of, bound}
 use Rattle.rule_local.specs.Agree.{AgreeOn, held}
 use Rattle.rule_local.specs.Kept.{HasEach}
 
-pub agree_left : (p q : Name → Bool) (env env' : Env) → AgreeOn (λ y. p y || q y) env env' → AgreeOn p env env'
+pub agree_left : {A : Type 0} (p q : Name → Bool) (env env' : Name → A) → AgreeOn (λ y. p y || q y) env env' → AgreeOn p env env'
 agree_left p q env env' a y h = a y (or_left (p y) (q y) h)
 
-pub agree_right : (p q : Name → Bool) (env env' : Env) → AgreeOn (λ y. p y || q y) env env' → AgreeOn q env env'
+pub agree_right : {A : Type 0} (p q : Name → Bool) (env env' : Name → A) → AgreeOn (λ y. p y || q y) env env' → AgreeOn q env env'
 agree_right p q env env' a y h = a y (or_right (p y) (q y) h)
 
 known_or_there : (t env : Env) (x y : Name) → (same_name y x ≡ false → env y ≡ t y) → with_name x (t x) env y ≡ t y

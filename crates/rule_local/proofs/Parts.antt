@@ -115,7 +115,7 @@ module _ (us : List Name) (given : List Value) (env after : Env) (h : given ≡ 
   rebound test k y t = subst (λ vs. bound us vs env y ≡ after y) (sym h) (bound_is after y us env (k y t))
 
 -- a free name of what follows that isn't bound again
-pub free_after : (p q : Name → Bool) (us : List Name) (env before : Env) → AgreeOn (λ y. p y || (not (is_among y us) && q y)) env before → (y : Name) → q y ≡ true → is_among y us ≡ false → env y ≡ before y
+pub free_after : {A : Type 0} (p q : Name → Bool) (us : List Name) (env before : Name → A) → AgreeOn (λ y. p y || (not (is_among y us) && q y)) env before → (y : Name) → q y ≡ true → is_among y us ≡ false → env y ≡ before y
 free_after p q us env before h y k d = h y (or_right (p y) (not (is_among y us) && q y) (and_from (not (is_among y us)) (q y) (not_from_false (is_among y us) d) k))
 
 -- what is needed and isn't handed on isn't assigned

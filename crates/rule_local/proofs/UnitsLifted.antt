@@ -29,7 +29,7 @@ outputs_local None bs h y n = absurd (false≢true n)
 outputs_local (Some k) bs h y n =
     either (same_name y result_local) false n (λ e. subst (λ z. is_among z (names_of bs) ≡ true) (sym (name_is y result_local e)) (kind_among bs result_local k h)) (λ e. absurd (false≢true e))
 
-words_named : (bs : List Binder) → names_of (in_words bs) ≡ names_of bs
+pub words_named : (bs : List Binder) → names_of (in_words bs) ≡ names_of bs
 words_named [] = refl
 words_named (b ∷ bs) = ap (λ xs. b.name ∷ xs) (words_named bs)
 

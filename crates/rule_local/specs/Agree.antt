@@ -12,7 +12,7 @@ use Rattle.monad_lang.specs.Run.{Answer}
 use Rattle.rule_local.specs.Rule.{Context}
 
 -- the same values for the names that pass the test
-abbrev pub AgreeOn : (Name → Bool) → Env → Env → Type 0
+abbrev pub AgreeOn : {A : Type 0} → (Name → Bool) → (Name → A) → (Name → A) → Type 0
 AgreeOn test env env' = (y : Name) → test y ≡ true → env y ≡ env' y
 
 -- the values of names

@@ -8,6 +8,7 @@ ghost use Rattle.simpl_lang.specs.Form.{is_flat};
 ghost use Rattle.simpl_lang.specs.Names.{command_names};
 ghost use Rattle.simpl_lang.specs.Sorted.{IsWellFormed};
 ghost use Rattle.monad_lang.specs.Form.{is_bytes};
+ghost use Rattle.monad_lang.specs.Sorted as Mon;
 ghost use Rattle.monad_lang.specs.Program.{Mon, FinalUnit};
 ghost use Rattle.rule_trees.specs.RuleTree.{Tree};
 ghost use Rattle.rule_local.specs.Rule.{Rule, Context};
@@ -34,13 +35,16 @@ pub fn lifted_units_keep_locals()
 {}
 
 /// Locals can be lifted out of every flat command: the rules take the body of a function to what it is lifted to, where its
-/// names and its outputs are locals, as in a well-formed unit; and that is in bytes form where the command is.
+/// names and its outputs are locals, as in a well-formed unit; and that is in bytes form where the command is. What a
+/// well-formed flat unit is lifted to is well-formed, and does the same.
 pub fn locals_are_lifted()
     ensures taken { (ctx : Context) (a : Simpl) (outputs : List Name) → is_flat a ≡ true →
         ((x : Name) → command_names x a ≡ true → is_among x (names_of ctx.locals) ≡ true) →
         ((x : Name) → is_among x outputs ≡ true → is_among x (names_of ctx.locals) ≡ true) →
         TakesWhole ctx (locals_lifted ctx a outputs).tree a (locals_lifted ctx a outputs).right outputs }
-    ensures unit { (u : SimplUnit) → IsWellFormed u → AllFlat u.functions → IsUnitLiftedTo u (unit_lifted u) }
     ensures bytes { (ctx : Context) (a : Simpl) (outputs : List Name) → is_bytes_command a ≡ true →
         is_bytes (locals_lifted ctx a outputs).right ≡ true }
+    ensures unit { (u : SimplUnit) → IsWellFormed u → AllFlat u.functions → IsUnitLiftedTo u (unit_lifted u) }
+    ensures formed { (u : SimplUnit) → IsWellFormed u → Mon.IsWellFormed (unit_lifted u) }
+    ensures kept { (u : SimplUnit) → IsWellFormed u → AllFlat u.functions → UnitsKeepLocals u (unit_lifted u) }
 {}
