@@ -1,2 +1,4 @@
 pub mod Induction
 pub mod Checking
+pub mod Parts
+pub mod Walk

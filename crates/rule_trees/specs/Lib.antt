@@ -1,2 +1,3 @@
 pub mod RuleTree
 pub mod CodeFound
+pub mod CodeTree
