@@ -41,10 +41,7 @@ pub fn same_conditions(conditions: &[Condition], others: &[Condition]) -> bool
 }
 
 /// A copy of a condition.
-pub(crate) fn copy_of_condition(
-    alloc: Global,
-    condition: &Condition,
-) -> Result<Condition, AllocError>
+pub fn copy_of_condition(alloc: Global, condition: &Condition) -> Result<Condition, AllocError>
     ensures { IfOk result (λ copy. condition_of copy ≡ condition_of condition.now) }
 {
     let exp = condition.exp.boxed_copy(alloc)?;
@@ -55,7 +52,7 @@ pub(crate) fn copy_of_condition(
 }
 
 /// Copies of conditions.
-pub(crate) fn copy_of_conditions(
+pub fn copy_of_conditions(
     alloc: Global,
     conditions: &[Condition],
 ) -> Result<Vec<Condition>, AllocError>

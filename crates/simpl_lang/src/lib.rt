@@ -19,7 +19,9 @@ mod units;
 mod well_formed;
 
 pub use command::{Condition, GuardKind, Simpl};
-pub use conditions::{same_condition, same_conditions, same_guard_kind};
+pub use conditions::{
+    copy_of_condition, copy_of_conditions, same_condition, same_conditions, same_guard_kind,
+};
 pub use forms::{commands, is_flat};
 pub use fronts::{Front, boxed, whole};
 pub use run_laws::{commands_continue, commands_end_once, commands_under_any_choice};
