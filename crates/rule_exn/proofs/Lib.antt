@@ -5,3 +5,6 @@ pub mod Sound
 pub mod UnitsAlike
 pub mod EliminatedTaken
 pub mod EliminatedSorted
+pub mod Rows
+pub mod UnlessThrown
+pub mod Walked

@@ -5,3 +5,6 @@ pub mod Flagged
 pub mod Units
 pub mod Eliminated
 pub mod Exact
+pub mod CodeRule
+pub mod CodeRow
+pub mod CodeVerdict

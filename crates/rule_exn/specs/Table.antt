@@ -20,9 +20,12 @@ abbrev pub cleared : C.Simpl
 cleared = C.Set thrown_local (TruthLit false)
 
 -- each condition is asked where nothing was thrown
+abbrev pub asked_unless_thrown : C.Condition → C.Condition
+asked_unless_thrown c = record { kind = c.kind; exp = Imp (Not is_thrown) c.exp }
+
 abbrev pub unless_thrown : List C.Condition → List C.Condition
 unless_thrown [] = []
-unless_thrown (c ∷ cs) = record { kind = c.kind; exp = Imp (Not is_thrown) c.exp } ∷ unless_thrown cs
+unless_thrown (c ∷ cs) = asked_unless_thrown c ∷ unless_thrown cs
 
 abbrev pub row : Rule → C.Simpl → C.Simpl → Row Claim
 row Skip C.Skip c = asks (c ≡ C.Skip) []
