@@ -17,3 +17,4 @@ pub mod ChangedShape
 pub mod SameLists
 pub mod Either
 pub mod Filled
+pub mod PartFaults

@@ -16,7 +16,7 @@ pub mod CodeCopied
 pub mod CodeChanging
 pub mod CodeSort
 pub mod CodeAlong
-pub mod CodeHeads
+pub mod CodeArity
 pub mod Wide
 pub mod CodeReady
 pub mod CodeState

@@ -1,19 +1,17 @@
 //! Environments.
 
-ghost use Rattle.std.specs.Prelude.{◌≡◌, false, None, map, IfSome, IfNone};
+ghost use Rattle.std.specs.Prelude.{◌≡◌, false, map, IfOk, IfSome, IfNone};
 ghost use Rattle.c_values.specs.Path.{sel};
 ghost use Rattle.c_memory.specs.CodeStep.{step_of};
 ghost use Rattle.c_values.specs.CodeFollow.{CanFollow};
-ghost use Rattle.ac_expr.specs.CodeFault.{Gives};
 ghost use Rattle.c_values.specs.Value.{nothing};
 ghost use Rattle.c_values.specs.CodeValue.{value_of};
 ghost use Rattle.c_values.specs.CodeParts.{has_parts};
 ghost use Rattle.ac_expr.specs.CodeState.{env_of, globals_of};
 
-use crate::faults::EvalFault;
 use c_memory::{Step, select};
 use c_values::{GlobalVar, Value, copy_value};
-use std::alloc::Global;
+use std::alloc::{AllocError, Global};
 
 /// Names with values. Of two with one name the last counts.
 pub type Env = Vec<(String, Value)>;
@@ -70,13 +68,13 @@ pub(crate) fn global_part(
     globals: &[Value],
     name: &str,
     path: &[Step],
-) -> Result<Value, EvalFault>
+) -> Result<Value, AllocError>
     requires { CanFollow (globals_of vars.now globals.now name.now) (map step_of path.now) }
-    ensures { Gives value_of result
-        (sel (globals_of vars.now globals.now name.now) (map step_of path.now)) None }
+    ensures { IfOk result (λ v. value_of v
+        ≡ sel (globals_of vars.now globals.now name.now) (map step_of path.now)) }
 {
     match global_value(vars, globals, name) {
-        Some(value) => Ok(copy_value(alloc, select(value, path))?),
+        Some(value) => copy_value(alloc, select(value, path)),
         None => Ok(Value::Parts(Vec::new(alloc))),
     }
 }

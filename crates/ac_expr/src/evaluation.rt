@@ -1,361 +1,188 @@
 //! The values of expressions.
-#![tactic(auto, using(crate::proofs::Meeting::met_first, crate::proofs::Meeting::met_second, crate::proofs::Meeting::met_none))]
+#![tactic(auto, using(crate::proofs::Meeting::met_first, crate::proofs::Meeting::met_second, crate::proofs::Meeting::met_none, crate::proofs::PartFaults::first_fault))]
 
+ghost use Rattle.std.specs.Prelude.{◌≡◌};
+ghost use Rattle.ac_expr.specs.declared.arity.Arity.TheVariants.{Unary, Binary, Connective, Choice, Place, Part, Update};
 ghost use Rattle.c_memory.specs.Heap.{IsHeap};
-ghost use Rattle.ac_expr.specs.CodeHeads.{GivesAWord, GivesANumber, IsOrderTest, IsConnective, IsChoice, IsOfAddress, IsOfPart, IsEquality, IsUpdate};
+ghost use Rattle.ac_expr.specs.CodeArity.{arity_of};
 ghost use Rattle.ac_expr.specs.CodeExpression.{exp_of, path_of};
-ghost use Rattle.ac_expr.specs.CodeScene.{scene_of, ReadyIn, ReadyAlong, GivesValue, GivesWord, GivesNumber, GivesTruth, GivesSteps};
+ghost use Rattle.ac_expr.specs.CodeScene.{scene_of, ReadyIn, ReadyAlong, GivesValue, GivesTruth, GivesSteps};
 
-use crate::environments::{global_part, variable};
+use crate::applications::{push_element, push_member, truth_of};
+use crate::arity::{Arity, arity_in};
 use crate::expression::Exp;
 use crate::faults::EvalFault;
-use crate::operations::{arithmetic, cast_word, is_pointer_ok, moved, place_address};
 use crate::paths::Path;
-use crate::scalars::{is_at_most, is_between, is_less, negated, number_in, truth_in, word_in};
 use crate::scene::Scene;
-use c_memory::{Heap, Step, replace, select};
-use c_values::views::word;
-use c_values::{
-    Number, Value, Word, copy_value, int, nat, word_op, word_shift, word_test, word_unary,
-};
+use c_memory::{Heap, Step};
+use c_values::Value;
 
 impl<H: Heap> Scene<'_, H> {
-    /// The value of an expression. Each kind of heads has a function of its own, which isn't inlined: one for all would take as
-    /// much of the stack at each level of an expression as all of them together.
+    /// The value of an expression, or none at a fault, which is then told. Each arity has a function of its own, which isn't
+    /// inlined, and none of them knows more of its parts than their values: so few bytes of the stack are taken at each level.
     #[cycle(values)]
-    pub(crate) fn value(&self, e: &Exp) -> Result<Value, EvalFault>
+    #[inline(never)]
+    pub(crate) fn value(&self, e: &Exp, fault: &mut EvalFault) -> Option<Value>
         requires heap { IsHeap self.now.layout.now (H.content self.now.heap.now) }
         requires ready { ReadyIn (scene_of H.content self.now) (exp_of e.now) }
-        ensures { GivesValue (scene_of H.content self.now) (exp_of e.now) result }
+        ensures { GivesValue (scene_of H.content self.now) (exp_of e.now) result fault.new }
     {
-        match e {
-            Exp::Var(x) => Ok(variable(self.alloc, self.env, x.as_str())),
-            Exp::Word(w) => Ok(Value::Word(*w)),
-            Exp::Number(n) => Ok(Value::Number(*n)),
-            Exp::Truth(b) => Ok(Value::Truth(*b)),
-            Exp::WordBinary(_, _, _)
-            | Exp::WordShift(_, _, _)
-            | Exp::WordUnary(_, _)
-            | Exp::Cast(_, _, _)
-            | Exp::ToWord(_, _) => self.value_of_word(e),
-            Exp::ToNat(_) | Exp::ToInt(_) | Exp::Arith(_, _, _) | Exp::Negate(_) => {
-                self.value_of_number(e)
-            }
-            Exp::WordCompare(_, _, _) | Exp::Lt(_, _) | Exp::Le(_, _) | Exp::Between(_, _, _) =>
-                self.value_of_order(e),
-            Exp::And(_, _) | Exp::Or(_, _) | Exp::Imp(_, _) => self.value_of_connective(e),
-            Exp::Not(_) | Exp::If(_, _, _) => self.value_of_choice(e),
-            Exp::Padd(_, _, _)
-            | Exp::At(_, _, _)
-            | Exp::Load(_, _, _)
-            | Exp::Read(_, _, _)
-            | Exp::Tagged(_, _)
-            | Exp::PtrOk(_, _) => self.value_of_address(e),
-            Exp::Eq(_, _) => self.value_of_equality(e),
-            Exp::Global(_, _) | Exp::Sel(_, _) => self.value_of_part(e),
-            Exp::Upd(_, _, _) => self.value_of_update(e),
+        match arity_in(e) {
+            Arity::Leaf => self.leaf(e),
+            Arity::Unary => self.value_of_unary(e, fault),
+            Arity::Binary => self.value_of_binary(e, fault),
+            Arity::Connective => self.value_of_connective(e, fault),
+            Arity::Choice => self.value_of_choice(e, fault),
+            Arity::Place => self.value_of_place(e, fault),
+            Arity::Part => self.value_of_part(e, fault),
+            Arity::Update => self.value_of_update(e, fault),
         }
     }
 
-    // The value of an operation that gives a word.
     #[cycle(values)]
     #[inline(never)]
-    fn value_of_word(&self, e: &Exp) -> Result<Value, EvalFault>
+    fn value_of_unary(&self, e: &Exp, fault: &mut EvalFault) -> Option<Value>
         requires heap { IsHeap self.now.layout.now (H.content self.now.heap.now) }
         requires ready { ReadyIn (scene_of H.content self.now) (exp_of e.now) }
-        requires head { GivesAWord (exp_of e.now) }
-        ensures { GivesValue (scene_of H.content self.now) (exp_of e.now) result }
+        requires head { arity_of (exp_of e.now) ≡ Unary }
+        ensures { GivesValue (scene_of H.content self.now) (exp_of e.now) result fault.new }
     {
-        match e {
-            Exp::WordBinary(op, a, b) => {
-                let a = self.word(a)?;
-                let b = self.word(b)?;
-                Ok(Value::Word(word_op(*op, a, b)))
-            }
-            Exp::WordShift(op, a, n) => {
-                let a = self.word(a)?;
-                let n = self.number(n)?;
-                Ok(Value::Word(word_shift(*op, a, n)))
-            }
-            Exp::WordUnary(op, a) => Ok(Value::Word(word_unary(*op, self.word(a)?))),
-            Exp::Cast(op, width, a) => { Ok(Value::Word(cast_word(*op, *width, self.word(a)?))) }
-            Exp::ToWord(width, a) => Ok(Value::Word(word(*width, self.number(a)?))),
-            _ => unreachable!(),
-        }
+        self.unary(e, self.value(self.first_part(e), fault), fault)
     }
 
-    // The value of an operation that gives a number.
     #[cycle(values)]
     #[inline(never)]
-    fn value_of_number(&self, e: &Exp) -> Result<Value, EvalFault>
+    fn value_of_binary(&self, e: &Exp, fault: &mut EvalFault) -> Option<Value>
         requires heap { IsHeap self.now.layout.now (H.content self.now.heap.now) }
         requires ready { ReadyIn (scene_of H.content self.now) (exp_of e.now) }
-        requires head { GivesANumber (exp_of e.now) }
-        ensures { GivesValue (scene_of H.content self.now) (exp_of e.now) result }
+        requires head { arity_of (exp_of e.now) ≡ Binary }
+        ensures { GivesValue (scene_of H.content self.now) (exp_of e.now) result fault.new }
     {
-        match e {
-            Exp::ToNat(a) => Ok(Value::Number(nat(self.word(a)?))),
-            Exp::ToInt(a) => Ok(Value::Number(int(self.word(a)?))),
-            Exp::Arith(op, a, b) => {
-                let a = self.number(a)?;
-                let b = self.number(b)?;
-                arithmetic(*op, a, b)
-            }
-            Exp::Negate(a) => Ok(Value::Number(negated(self.number(a)?))),
-            _ => unreachable!(),
-        }
+        let a = self.value(self.first_part(e), fault)?;
+        self.binary(e, a, self.value(self.second_part(e), fault), fault)
     }
 
-    // The value of an order test.
     #[cycle(values)]
     #[inline(never)]
-    fn value_of_order(&self, e: &Exp) -> Result<Value, EvalFault>
+    fn value_of_connective(&self, e: &Exp, fault: &mut EvalFault) -> Option<Value>
         requires heap { IsHeap self.now.layout.now (H.content self.now.heap.now) }
         requires ready { ReadyIn (scene_of H.content self.now) (exp_of e.now) }
-        requires head { IsOrderTest (exp_of e.now) }
-        ensures { GivesValue (scene_of H.content self.now) (exp_of e.now) result }
+        requires head { arity_of (exp_of e.now) ≡ Connective }
+        ensures { GivesValue (scene_of H.content self.now) (exp_of e.now) result fault.new }
     {
-        match e {
-            Exp::WordCompare(op, a, b) => {
-                let a = self.word(a)?;
-                let b = self.word(b)?;
-                Ok(Value::Truth(word_test(*op, a, b)))
-            }
-            Exp::Lt(a, b) => {
-                let a = self.number(a)?;
-                let b = self.number(b)?;
-                Ok(Value::Truth(is_less(a, b)))
-            }
-            Exp::Le(a, b) => {
-                let a = self.number(a)?;
-                let b = self.number(b)?;
-                Ok(Value::Truth(is_at_most(a, b)))
-            }
-            Exp::Between(low, a, high) => {
-                Ok(Value::Truth(is_between(*low, self.number(a)?, *high)))
-            }
-            _ => unreachable!(),
+        let first = self.truth(self.first_part(e), fault)?;
+        if let Some(truth) = self.decided(e, first) {
+            return Some(Value::Truth(truth));
         }
+        let second = self.truth(self.second_part(e), fault)?;
+        Some(Value::Truth(second))
     }
 
-    // The value of `and`, `or` or `imp`.
     #[cycle(values)]
     #[inline(never)]
-    fn value_of_connective(&self, e: &Exp) -> Result<Value, EvalFault>
+    fn value_of_choice(&self, e: &Exp, fault: &mut EvalFault) -> Option<Value>
         requires heap { IsHeap self.now.layout.now (H.content self.now.heap.now) }
         requires ready { ReadyIn (scene_of H.content self.now) (exp_of e.now) }
-        requires head { IsConnective (exp_of e.now) }
-        ensures { GivesValue (scene_of H.content self.now) (exp_of e.now) result }
+        requires head { arity_of (exp_of e.now) ≡ Choice }
+        ensures { GivesValue (scene_of H.content self.now) (exp_of e.now) result fault.new }
     {
         match e {
-            Exp::And(a, b) => {
-                if self.truth(a)? {
-                    Ok(Value::Truth(self.truth(b)?))
-                } else {
-                    Ok(Value::Truth(false))
-                }
-            }
-            Exp::Or(a, b) => {
-                if self.truth(a)? {
-                    Ok(Value::Truth(true))
-                } else {
-                    Ok(Value::Truth(self.truth(b)?))
-                }
-            }
-            Exp::Imp(a, b) => {
-                if self.truth(a)? {
-                    Ok(Value::Truth(self.truth(b)?))
-                } else {
-                    Ok(Value::Truth(true))
-                }
-            }
-            _ => unreachable!(),
-        }
-    }
-
-    // The value of `not` or `if`.
-    #[cycle(values)]
-    #[inline(never)]
-    fn value_of_choice(&self, e: &Exp) -> Result<Value, EvalFault>
-        requires heap { IsHeap self.now.layout.now (H.content self.now.heap.now) }
-        requires ready { ReadyIn (scene_of H.content self.now) (exp_of e.now) }
-        requires head { IsChoice (exp_of e.now) }
-        ensures { GivesValue (scene_of H.content self.now) (exp_of e.now) result }
-    {
-        match e {
-            Exp::Not(a) => Ok(Value::Truth(!self.truth(a)?)),
             Exp::If(c, a, b) => {
-                if self.truth(c)? {
-                    self.value(a)
+                if self.truth(c, fault)? {
+                    self.value(a, fault)
                 } else {
-                    self.value(b)
+                    self.value(b, fault)
                 }
             }
             _ => unreachable!(),
         }
     }
 
-    // The value of an expression that speaks of an address.
     #[cycle(values)]
     #[inline(never)]
-    fn value_of_address(&self, e: &Exp) -> Result<Value, EvalFault>
+    fn value_of_place(&self, e: &Exp, fault: &mut EvalFault) -> Option<Value>
         requires heap { IsHeap self.now.layout.now (H.content self.now.heap.now) }
         requires ready { ReadyIn (scene_of H.content self.now) (exp_of e.now) }
-        requires head { IsOfAddress (exp_of e.now) }
-        ensures { GivesValue (scene_of H.content self.now) (exp_of e.now) result }
+        requires head { arity_of (exp_of e.now) ≡ Place }
+        ensures { GivesValue (scene_of H.content self.now) (exp_of e.now) result fault.new }
     {
-        match e {
-            Exp::Padd(t, p, n) => {
-                let p = self.word(p)?;
-                let n = self.number(n)?;
-                Ok(Value::Word(moved(self.layout, t, p, n)))
-            }
-            Exp::At(t, p, path) => {
-                let p = self.word(p)?;
-                let steps = self.steps(path)?;
-                Ok(Value::Word(place_address(self.layout, t, p, &steps)))
-            }
-            Exp::Load(t, p, path) | Exp::Read(t, p, path) => {
-                let p = self.word(p)?;
-                let steps = self.steps(path)?;
-                Ok(
-                    self.heap
-                        .read_value(self.alloc, self.layout, t, p.bits(), &steps)?,
-                )
-            }
-            Exp::Tagged(t, p) => {
-                let p = self.word(p)?;
-                Ok(Value::Truth(self.heap.tagged(self.layout, t, p.bits())))
-            }
-            Exp::PtrOk(t, p) => {
-                let p = self.word(p)?;
-                Ok(Value::Truth(is_pointer_ok(self.layout, t, p.bits())))
-            }
-            _ => unreachable!(),
-        }
-    }
-
-    // The value of an expression that speaks of a part of a value.
-    #[cycle(values)]
-    #[inline(never)]
-    fn value_of_part(&self, e: &Exp) -> Result<Value, EvalFault>
-        requires heap { IsHeap self.now.layout.now (H.content self.now.heap.now) }
-        requires ready { ReadyIn (scene_of H.content self.now) (exp_of e.now) }
-        requires head { IsOfPart (exp_of e.now) }
-        ensures { GivesValue (scene_of H.content self.now) (exp_of e.now) result }
-    {
-        match e {
-            Exp::Global(x, path) => {
-                let steps = self.steps(path)?;
-                global_part(self.alloc, self.vars, self.globals, x.as_str(), &steps)
-            }
-            Exp::Sel(e, path) => {
-                let whole = self.value(e)?;
-                let steps = self.steps(path)?;
-                Ok(copy_value(self.alloc, select(&whole, &steps))?)
-            }
-            _ => unreachable!(),
-        }
-    }
-
-    // Whether two values are equal.
-    #[cycle(values)]
-    #[inline(never)]
-    fn value_of_equality(&self, e: &Exp) -> Result<Value, EvalFault>
-        requires heap { IsHeap self.now.layout.now (H.content self.now.heap.now) }
-        requires ready { ReadyIn (scene_of H.content self.now) (exp_of e.now) }
-        requires head { IsEquality (exp_of e.now) }
-        ensures { GivesValue (scene_of H.content self.now) (exp_of e.now) result }
-    {
-        match e {
-            Exp::Eq(a, b) => {
-                let a = self.value(a)?;
-                let b = self.value(b)?;
-                Ok(Value::Truth(a == b))
-            }
-            _ => unreachable!(),
-        }
-    }
-
-    // A value with a part replaced.
-    #[cycle(values)]
-    #[inline(never)]
-    fn value_of_update(&self, e: &Exp) -> Result<Value, EvalFault>
-        requires heap { IsHeap self.now.layout.now (H.content self.now.heap.now) }
-        requires ready { ReadyIn (scene_of H.content self.now) (exp_of e.now) }
-        requires head { IsUpdate (exp_of e.now) }
-        ensures { GivesValue (scene_of H.content self.now) (exp_of e.now) result }
-    {
-        match e {
-            Exp::Upd(e, path, v) => {
-                let mut whole = self.value(e)?;
-                let steps = self.steps(path)?;
-                let part = self.value(v)?;
-                replace(&mut whole, &steps, part);
-                Ok(whole)
-            }
-            _ => unreachable!(),
-        }
+        let root = self.value(self.first_part(e), fault)?;
+        self.at_place(e, root, self.steps(self.path_part(e), fault), fault)
     }
 
     #[cycle(values)]
     #[inline(never)]
-    fn word(&self, e: &Exp) -> Result<Word, EvalFault>
+    fn value_of_part(&self, e: &Exp, fault: &mut EvalFault) -> Option<Value>
         requires heap { IsHeap self.now.layout.now (H.content self.now.heap.now) }
         requires ready { ReadyIn (scene_of H.content self.now) (exp_of e.now) }
-        ensures { GivesWord (scene_of H.content self.now) (exp_of e.now) result }
+        requires head { arity_of (exp_of e.now) ≡ Part }
+        ensures { GivesValue (scene_of H.content self.now) (exp_of e.now) result fault.new }
     {
-        Ok(word_in(&self.value(e)?))
+        self.part(e, self.steps(self.path_part(e), fault), fault)
     }
 
     #[cycle(values)]
     #[inline(never)]
-    fn number(&self, e: &Exp) -> Result<Number, EvalFault>
+    fn value_of_update(&self, e: &Exp, fault: &mut EvalFault) -> Option<Value>
         requires heap { IsHeap self.now.layout.now (H.content self.now.heap.now) }
         requires ready { ReadyIn (scene_of H.content self.now) (exp_of e.now) }
-        ensures { GivesNumber (scene_of H.content self.now) (exp_of e.now) result }
+        requires head { arity_of (exp_of e.now) ≡ Update }
+        ensures { GivesValue (scene_of H.content self.now) (exp_of e.now) result fault.new }
     {
-        Ok(number_in(&self.value(e)?))
+        let whole = self.value(self.first_part(e), fault)?;
+        let steps = self.steps(self.path_part(e), fault)?;
+        self.update(
+            e,
+            whole,
+            steps,
+            self.value(self.second_part(e), fault),
+            fault,
+        )
     }
 
-    // Whether an expression holds. It goes along the right side of an `or` by a loop, since the test of a switch is an `or` of as
-    // many equations as there are labels.
+    // Whether an expression holds. It goes along the right sides of `and`, `or` and `imp` by a loop, since the test of a switch is an
+    // `or` of as many equations as there are labels.
     #[cycle(values)]
     #[inline(never)]
-    fn truth(&self, e: &Exp) -> Result<bool, EvalFault>
+    fn truth(&self, e: &Exp, fault: &mut EvalFault) -> Option<bool>
         requires heap { IsHeap self.now.layout.now (H.content self.now.heap.now) }
         requires ready { ReadyIn (scene_of H.content self.now) (exp_of e.now) }
-        ensures { GivesTruth (scene_of H.content self.now) (exp_of e.now) result }
+        ensures { GivesTruth (scene_of H.content self.now) (exp_of e.now) result fault.new }
     {
         let mut rest = e;
-        'operands: while let Exp::Or(a, b) = rest {
-            if self.truth(a)? {
-                return Ok(true);
+        'operands: while let Arity::Connective = arity_in(rest) {
+            let first = self.truth(self.first_part(rest), fault)?;
+            if let Some(truth) = self.decided(rest, first) {
+                return Some(truth);
             }
-            rest = &**b;
+            rest = self.second_part(rest);
         }
-        Ok(truth_in(&self.value(rest)?))
+        truth_of(self.value(rest, fault))
     }
 
     // The steps that a path takes. It goes along the path by a loop, since a text may have long paths.
     #[cycle(values)]
-    fn steps(&self, path: &Path) -> Result<Vec<Step>, EvalFault>
+    #[inline(never)]
+    fn steps(&self, path: &Path, fault: &mut EvalFault) -> Option<Vec<Step>>
         requires heap { IsHeap self.now.layout.now (H.content self.now.heap.now) }
         requires ready { ReadyAlong (scene_of H.content self.now) (path_of path.now) }
-        ensures { GivesSteps (scene_of H.content self.now) (path_of path.now) result }
+        ensures { GivesSteps (scene_of H.content self.now) (path_of path.now) result fault.new }
     {
         let mut steps = Vec::new(self.alloc);
         let mut rest = path;
         'steps: loop {
             match rest {
-                Path::Here => return Ok(steps),
+                Path::Here => return Some(steps),
                 Path::Field(k, next) => {
-                    steps.push(Step::Field(*k))?;
+                    if !push_member(&mut steps, *k, fault) {
+                        return None;
+                    }
                     rest = &**next;
                 }
                 Path::Index(e, next) => {
-                    let index = self.number(e)?;
-                    steps.push(Step::Index(index))?;
+                    if !push_element(&mut steps, self.value(e, fault), fault) {
+                        return None;
+                    }
                     rest = &**next;
                 }
             }

@@ -59,5 +59,9 @@ pub fn eval<H: Heap>(
         vars,
         globals,
     };
-    scene.value(e)
+    let mut fault = EvalFault::Memory;
+    match scene.value(e, &mut fault) {
+        Some(value) => Ok(value),
+        None => Err(fault),
+    }
 }

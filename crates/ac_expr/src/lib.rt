@@ -1,6 +1,8 @@
 //! Expressions over words, numbers, truth values and either heap: sorts, values and facts.
 #![tactic(auto)]
 
+mod applications;
+mod arity;
 mod changing;
 mod comparison;
 mod copies;
@@ -13,6 +15,7 @@ mod faults;
 mod heads;
 mod lists;
 mod names;
+mod operands;
 mod operations;
 pub mod parts;
 mod paths;

@@ -25,14 +25,22 @@ use c_values::{
     size_of,
 };
 
-/// The value of an operation on numbers.
-pub(crate) fn arithmetic(op: NumberOp, a: Number, b: Number) -> Result<Value, EvalFault>
-    ensures { Gives value_of result (NumberValue (number_op (number_op_of op) a b))
+/// The value of an operation on numbers, or none where its result is wide, which is then told.
+pub(crate) fn arithmetic(
+    op: NumberOp,
+    a: Number,
+    b: Number,
+    fault: &mut EvalFault,
+) -> Option<Value>
+    ensures { Gives value_of result fault.new (NumberValue (number_op (number_op_of op) a b))
         (wide_operation (number_op_of op) a b) }
 {
     match number_op(op, a, b) {
-        Some(n) => Ok(Value::Number(n)),
-        None => Err(EvalFault::Wide(op, a, b)),
+        Some(n) => Some(Value::Number(n)),
+        None => {
+            *fault = EvalFault::Wide(op, a, b);
+            None
+        }
     }
 }
 

@@ -14,4 +14,4 @@ sel_nothing (p ∷ ps) = sel_nothing ps
 pub returns-in-None : goal.returns-in-None
 returns-in-None c =
     let steps = map step_of c.args.path.now in
-    (parts_value c.new.result ∙ ap (λ vs. Parts (values_in vs)) c.new.ensures.items ∙ sym (ap (λ v. sel v steps) c.in-None.ensures.none ∙ sel_nothing steps), refl)
+    parts_value c.new.result ∙ ap (λ vs. Parts (values_in vs)) c.new.ensures.items ∙ sym (ap (λ v. sel v steps) c.in-None.ensures.none ∙ sel_nothing steps)
