@@ -15,6 +15,7 @@ pub mod Fronts
 pub mod HasShape
 pub mod ChangedShape
 pub mod SameLists
-pub mod Either
 pub mod Filled
 pub mod PartFaults
+pub mod ReadyParts
+pub mod OperandSorts

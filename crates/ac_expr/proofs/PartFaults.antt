@@ -1,11 +1,7 @@
 -- Where an operation is wide in a part, it is so in the whole.
-use Rattle.std.proofs.Common.{◌≡◌, ap, subst}
-use Rattle.std.specs.Prelude.{Option, Some, None}
-use Rattle.std.specs.Option.{option_map}
-use Rattle.c_values.specs.declared.values.Value as V
+use Rattle.std.proofs.Common.{◌≡◌}
+use Rattle.std.specs.Prelude.{None}
 use Rattle.c_values.specs.Layout.{Layout}
-use Rattle.c_values.specs.Value.{truth_in}
-use Rattle.c_values.specs.CodeValue.{value_of}
 use Rattle.ac_expr.specs.declared.faults.EvalFault as F
 use Rattle.ac_expr.specs.declared.arity.Arity.TheVariants.{Binary, Place, Part, Update}
 use Rattle.ac_expr.specs.Expression.{Exp, Var, WordLit, NumberLit, TruthLit, WordBinary, WordShift, WordUnary, WordCompare, Cast, ToNat, ToInt, ToWord, Arith, Negate, Lt, Le, Between, Eq, And, Or, Imp, Not, If, Padd, At, Load, Read, Tagged, PtrOk, Global, Sel, Upd}
@@ -13,7 +9,6 @@ use Rattle.ac_expr.specs.Evaluation.{Env, State}
 use Rattle.ac_expr.specs.Wide.{wide, wide_in}
 use Rattle.ac_expr.specs.CodeFault.{IsFault}
 use Rattle.ac_expr.specs.CodeArity.{arity_of, first_part, second_part, path_part}
-use Rattle.ac_expr.specs.CodeScene.{Scene, GivesValue, GivesTruth}
 use Rattle.ac_expr.proofs.Meeting.{met_first, met_second, met_none}
 
 module _ (l : Layout) (env : Env) (s : State) where
@@ -85,12 +80,3 @@ module _ (l : Layout) (env : Env) (s : State) where
   pub put_fault : (e : Exp) (f : F.EvalFault) → arity_of e ≡ Update → wide l env s (first_part e) ≡ None → wide_in l env s (path_part e) ≡ None → IsFault f (wide l env s (second_part e)) → IsFault f (wide l env s e)
   put_fault (Upd e path v) f is first none h = met_second f _ _ (met_none _ _ first none) h
   put_fault _ f is first none h = absurd cc
-
--- what is given of an expression is given of the same
-pub given_of : (s : Scene) (d e : Exp) (r : Option V.Value) (f : F.EvalFault) → d ≡ e → GivesValue s d r f → GivesValue s e r f
-given_of s d e r f same h = subst (λ x. GivesValue s x r f) same h
-
--- whether a given value holds
-pub truth_given : (s : Scene) (e : Exp) (r : Option V.Value) (f : F.EvalFault) → GivesValue s e r f → GivesTruth s e (option_map (λ v. truth_in (value_of v)) r) f
-truth_given s e (Some v) f h = (ap truth_in h.0, h.1)
-truth_given s e None f h = h

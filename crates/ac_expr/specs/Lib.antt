@@ -15,6 +15,7 @@ pub mod CodeCompared
 pub mod CodeCopied
 pub mod CodeChanging
 pub mod CodeSort
+pub mod CodeSortRules
 pub mod CodeAlong
 pub mod CodeArity
 pub mod Wide

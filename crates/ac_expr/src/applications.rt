@@ -59,12 +59,20 @@ impl<H: Heap> Scene<'_, H> {
             Exp::ToInt(_) => Some(Value::Number(int(word_in(&a)))),
             Exp::ToWord(width, _) => Some(Value::Word(word(*width, number_in(&a)))),
             Exp::Negate(_) => Some(Value::Number(negated(number_in(&a)))),
-            Exp::Between(low, _, high) => Some(Value::Truth(is_between(*low, number_in(&a), *high))),
+            Exp::Between(low, _, high) => Some(Value::Truth(is_between(
+                *low,
+                number_in(&a),
+                *high,
+            ))),
             Exp::Not(_) => Some(Value::Truth(!truth_in(&a))),
             Exp::Tagged(t, _) => {
                 Some(Value::Truth(self.heap.tagged(self.layout, t, word_in(&a).bits())))
             }
-            Exp::PtrOk(t, _) => Some(Value::Truth(is_pointer_ok(self.layout, t, word_in(&a).bits()))),
+            Exp::PtrOk(t, _) => Some(Value::Truth(is_pointer_ok(
+                self.layout,
+                t,
+                word_in(&a).bits(),
+            ))),
             _ => unreachable!(),
         }
     }
@@ -146,7 +154,10 @@ impl<H: Heap> Scene<'_, H> {
             }
             Exp::Load(t, _, _) | Exp::Read(t, _, _) => {
                 let address = word_in(&root).bits();
-                match self.heap.read_value(self.alloc, self.layout, t, address, &steps) {
+                match self
+                    .heap
+                    .read_value(self.alloc, self.layout, t, address, &steps)
+                {
                     Ok(value) => Some(value),
                     Err(_) => {
                         *fault = EvalFault::Memory;
@@ -167,7 +178,12 @@ impl<H: Heap> Scene<'_, H> {
 
     /// A part of a global.
     #[inline(never)]
-    pub(crate) fn part(&self, e: &Exp, steps: Option<Vec<Step>>, fault: &mut EvalFault) -> Option<Value>
+    pub(crate) fn part(
+        &self,
+        e: &Exp,
+        steps: Option<Vec<Step>>,
+        fault: &mut EvalFault,
+    ) -> Option<Value>
         requires ready { ReadyIn (scene_of H.content self.now) (exp_of e.now) }
         requires head { arity_of (exp_of e.now) ≡ Part }
         requires steps { GivesSteps (scene_of H.content self.now) (path_part (exp_of e.now)) steps

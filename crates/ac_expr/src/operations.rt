@@ -26,12 +26,7 @@ use c_values::{
 };
 
 /// The value of an operation on numbers, or none where its result is wide, which is then told.
-pub(crate) fn arithmetic(
-    op: NumberOp,
-    a: Number,
-    b: Number,
-    fault: &mut EvalFault,
-) -> Option<Value>
+pub(crate) fn arithmetic(op: NumberOp, a: Number, b: Number, fault: &mut EvalFault) -> Option<Value>
     ensures { Gives value_of result fault.new (NumberValue (number_op (number_op_of op) a b))
         (wide_operation (number_op_of op) a b) }
 {

@@ -7,11 +7,14 @@ ghost use Rattle.c_values.specs.Layout.{IsLayout, is_object, is_complete, shape_
 ghost use Rattle.c_values.specs.CodeTypes.{target_of, type_of};
 ghost use Rattle.c_values.specs.CodeNumber.{number_op_of};
 ghost use Rattle.ac_expr.specs.Sort.{is_width, word_width, is_number, is_truth, is_word_of, is_unary, word_sort, number_sort, truth_sort, where_holds, of_words, of_word, are_same, cast_fits, of_shape, sort_at};
+ghost use Rattle.ac_expr.specs.declared.arity.Arity.TheVariants.{Unary, Binary};
+ghost use Rattle.ac_expr.specs.CodeArity.{arity_of};
+ghost use Rattle.ac_expr.specs.CodeSortRules.{unary_sort, binary_sort};
 ghost use Rattle.ac_expr.specs.CodeAlong.{parts_type};
-ghost use Rattle.ac_expr.specs.CodeExpression.{cast_op_of};
+ghost use Rattle.ac_expr.specs.CodeExpression.{exp_of, cast_op_of};
 ghost use Rattle.ac_expr.specs.CodeSort.{sort_value};
 
-use crate::expression::CastOp;
+use crate::expression::{CastOp, Exp};
 use crate::sort::{Scalar, Sort};
 use c_values::{CType, Layout, NumberOp, Word, address_width, is_object, width_of};
 
@@ -290,4 +293,83 @@ pub(crate) fn where_same<'a>(
         (option_map sort_value sort.entry) }
 {
     if are_same(a, b) { sort } else { None }
+}
+
+/// The sort of an operation on one operand.
+#[inline(never)]
+pub(crate) fn unary_sort<'a>(e: &Exp, a: Option<Sort<'a>>, l: &Layout) -> Option<Sort<'a>>
+    requires { arity_of (exp_of e.now) ≡ Unary }
+    ensures { option_map sort_value result
+        ≡ unary_sort l.now (exp_of e.now) (option_map sort_value a.entry) }
+{
+    match e {
+        Exp::WordUnary(_, _) => word_of_word(true, a),
+        Exp::Cast(op, width, _) => cast_sort(*op, *width, a),
+        Exp::ToNat(_) => number_of_word(a),
+        Exp::ToInt(_) => number_of_word(a),
+        Exp::ToWord(width, _) => word_of_number(*width, a),
+        Exp::Negate(_) => number(is_number(a)),
+        Exp::Between(_, _, _) => truth(is_number(a)),
+        Exp::Not(_) => truth(is_truth(a)),
+        Exp::Tagged(t, _) => truth(is_root(l, t, a)),
+        Exp::PtrOk(t, _) => truth(is_root(l, t, a)),
+        _ => unreachable!(),
+    }
+}
+
+/// The sort of an operation on two operands.
+#[inline(never)]
+pub(crate) fn binary_sort<'a>(
+    e: &Exp,
+    a: Option<Sort<'a>>,
+    b: Option<Sort<'a>>,
+    l: &Layout,
+) -> Option<Sort<'a>>
+    requires { arity_of (exp_of e.now) ≡ Binary }
+    ensures { option_map sort_value result
+        ≡ binary_sort l.now (exp_of e.now) (option_map sort_value a.entry)
+        (option_map sort_value b.entry) }
+{
+    match e {
+        Exp::WordBinary(_, _, _) => word_of_words(a, b),
+        Exp::WordShift(_, _, _) => word_of_word(is_number(b), a),
+        Exp::WordCompare(_, _, _) => truth_of_words(a, b),
+        Exp::Arith(op, _, _) => number(!is_unary(*op) && is_number(a) && is_number(b)),
+        Exp::Lt(_, _) => truth(is_number(a) && is_number(b)),
+        Exp::Le(_, _) => truth(is_number(a) && is_number(b)),
+        Exp::Eq(_, _) => truth(are_same(a, b)),
+        Exp::Padd(t, _, _) => {
+            if is_root(l, t, a) && is_number(b) {
+                word(address_width(l.target()))
+            } else {
+                None
+            }
+        }
+        _ => unreachable!(),
+    }
+}
+
+/// The sort of a connective, by whether each operand is a truth value.
+pub(crate) fn connective_sort<'a>(a: bool, b: bool) -> Option<Sort<'a>>
+    ensures { option_map sort_value result ≡ where_holds (a && b) truth_sort }
+{
+    truth(a && b)
+}
+
+/// The sort of a choice between two of one sort.
+pub(crate) fn choice_sort<'a>(
+    c: Option<Sort<'_>>,
+    a: Option<Sort<'a>>,
+    b: Option<Sort<'_>>,
+) -> Option<Sort<'a>>
+    ensures { option_map sort_value result ≡ where_holds
+        (is_truth (option_map sort_value c.entry)
+        && are_same (option_map sort_value a.entry) (option_map sort_value b.entry))
+        (option_map sort_value a.entry) }
+{
+    if is_truth(c) {
+        where_same(a, b, a)
+    } else {
+        None
+    }
 }

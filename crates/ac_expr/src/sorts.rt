@@ -6,22 +6,28 @@ ghost use Rattle.c_values.specs.Layout.{shape_of};
 ghost use Rattle.c_values.specs.CodeTypes.{type_of};
 ghost use Rattle.ac_expr.specs.Sort.{sort_of, shape_along, is_one_step, is_truth};
 ghost use Rattle.ac_expr.specs.CodeExpression.{exp_of, path_of};
-ghost use Rattle.ac_expr.specs.CodeSort.{sort_value, scope_of};
+ghost use Rattle.ac_expr.specs.declared.arity.Arity.TheVariants.{Leaf, Choice, Place, Part, Update};
+ghost use Rattle.ac_expr.specs.CodeArity.{arity_of};
+ghost use Rattle.ac_expr.specs.CodeSort.{sort_value, names_of, scope_of};
+ghost use Rattle.ac_expr.specs.CodeSortRules.{leaf_sort};
 
+use crate::arity::{Arity, arity_in};
 use crate::expression::Exp;
 use crate::names::Names;
+use crate::operands::{first, second};
 use crate::parts::{element, global, member};
 use crate::paths::Path;
 use crate::sort::{Scalar, Sort};
 use crate::sort_rules::{
-    address_sort, are_same, cast_sort, is_number, is_root, is_truth, is_unary, literal, number,
-    number_of_word, part_sort, parts_in, truth, truth_of_words, where_same, word, word_of_number,
-    word_of_word, word_of_words,
+    address_sort, binary_sort, choice_sort, connective_sort, is_number, is_root, is_truth, literal,
+    number, part_sort, parts_in, truth, unary_sort, where_same,
 };
-use c_values::{CType, GlobalVar, Layout, address_width, is_object};
+use c_values::{CType, GlobalVar, Layout, is_object};
 
-/// The sort of an expression. There is none exactly where it isn't well-sorted. Its types may be any types.
+/// The sort of an expression. There is none exactly where it isn't well-sorted. Its types may be any types. At each level of
+/// the expression it takes up to 470 bytes of the stack.
 #[cycle(sorts)]
+#[tactic(auto, using(crate::proofs::OperandSorts::leaf_sorted, crate::proofs::OperandSorts::unary_sorted, crate::proofs::OperandSorts::binary_sorted, crate::proofs::OperandSorts::connective_sorted))]
 pub fn sort_of<'a>(
     e: &'a Exp,
     names: &Names<'_>,
@@ -31,6 +37,32 @@ pub fn sort_of<'a>(
     ensures { option_map sort_value result ≡ sort_of (scope_of l.now names.now globals.now)
         (exp_of e.now) }
 {
+    match arity_in(e) {
+        Arity::Leaf => leaf_sort(e, names),
+        Arity::Unary => unary_sort(e, sort_of(first(e), names, l, globals), l),
+        Arity::Binary => binary_sort(
+            e,
+            sort_of(first(e), names, l, globals),
+            sort_of(second(e), names, l, globals),
+            l,
+        ),
+        Arity::Connective => connective_sort(
+            is_truth(sort_of(first(e), names, l, globals)),
+            is_truth_value(second(e), names, l, globals),
+        ),
+        Arity::Choice => choice_sort_of(e, names, l, globals),
+        Arity::Place => place_sort(e, names, l, globals),
+        Arity::Part => global_sort(e, names, l, globals),
+        Arity::Update => update_sort(e, names, l, globals),
+    }
+}
+
+// The sort of a name or a constant.
+#[inline(never)]
+fn leaf_sort<'a>(e: &Exp, names: &Names<'_>) -> Option<Sort<'a>>
+    requires { arity_of (exp_of e.now) ≡ Leaf }
+    ensures { option_map sort_value result ≡ leaf_sort (names_of names.now) (exp_of e.now) }
+{
     match e {
         Exp::Var(x) => match names.get(x.as_str()) {
             Some(scalar) => Some(Sort::Of(scalar)),
@@ -39,97 +71,117 @@ pub fn sort_of<'a>(
         Exp::Word(w) => literal(*w),
         Exp::Number(_) => number(true),
         Exp::Truth(_) => truth(true),
-        Exp::WordBinary(_, a, b) => {
-            word_of_words(sort_of(a, names, l, globals), sort_of(b, names, l, globals))
-        }
-        Exp::WordShift(_, a, n) => word_of_word(
-            is_number(sort_of(n, names, l, globals)),
-            sort_of(a, names, l, globals),
-        ),
-        Exp::WordUnary(_, a) => word_of_word(true, sort_of(a, names, l, globals)),
-        Exp::WordCompare(_, a, b) => {
-            truth_of_words(sort_of(a, names, l, globals), sort_of(b, names, l, globals))
-        }
-        Exp::Cast(op, width, a) => cast_sort(*op, *width, sort_of(a, names, l, globals)),
-        Exp::ToNat(a) | Exp::ToInt(a) => number_of_word(sort_of(a, names, l, globals)),
-        Exp::ToWord(width, a) => word_of_number(*width, sort_of(a, names, l, globals)),
-        Exp::Arith(op, a, b) => number(
-            !is_unary(*op)
-                && is_number(sort_of(a, names, l, globals))
-                && is_number(sort_of(b, names, l, globals)),
-        ),
-        Exp::Negate(a) => number(is_number(sort_of(a, names, l, globals))),
-        Exp::Lt(a, b) | Exp::Le(a, b) => truth(
-            is_number(sort_of(a, names, l, globals)) && is_number(sort_of(b, names, l, globals)),
-        ),
-        Exp::Between(_, a, _) => truth(is_number(sort_of(a, names, l, globals))),
-        Exp::Eq(a, b) => truth(are_same(
+        _ => unreachable!(),
+    }
+}
+
+#[cycle(sorts)]
+#[inline(never)]
+fn choice_sort_of<'a>(
+    e: &'a Exp,
+    names: &Names<'_>,
+    l: &'a Layout,
+    globals: &'a [GlobalVar],
+) -> Option<Sort<'a>>
+    requires { arity_of (exp_of e.now) ≡ Choice }
+    ensures { option_map sort_value result ≡ sort_of (scope_of l.now names.now globals.now)
+        (exp_of e.now) }
+{
+    match e {
+        Exp::If(c, a, b) => choice_sort(
+            sort_of(c, names, l, globals),
             sort_of(a, names, l, globals),
             sort_of(b, names, l, globals),
-        )),
-        Exp::And(a, b) | Exp::Imp(a, b) => truth(
-            is_truth(sort_of(a, names, l, globals)) && is_truth(sort_of(b, names, l, globals)),
         ),
-        Exp::Or(a, b) => truth(
-            is_truth(sort_of(a, names, l, globals)) && is_truth_value(b, names, l, globals),
-        ),
-        Exp::Not(a) => truth(is_truth(sort_of(a, names, l, globals))),
-        Exp::If(c, a, b) => {
-            let sort = sort_of(a, names, l, globals);
-            if is_truth(sort_of(c, names, l, globals))
-                && are_same(sort, sort_of(b, names, l, globals))
-            {
-                sort
-            } else {
-                None
-            }
+        _ => unreachable!(),
+    }
+}
+
+// The sort of what is at a place, or of its address.
+#[cycle(sorts)]
+#[inline(never)]
+fn place_sort<'a>(
+    e: &'a Exp,
+    names: &Names<'_>,
+    l: &'a Layout,
+    globals: &'a [GlobalVar],
+) -> Option<Sort<'a>>
+    requires { arity_of (exp_of e.now) ≡ Place }
+    ensures { option_map sort_value result ≡ sort_of (scope_of l.now names.now globals.now)
+        (exp_of e.now) }
+{
+    let root = sort_of(first(e), names, l, globals);
+    match e {
+        Exp::At(t, _, path) => {
+            address_sort(is_root(l, t, root), along(path, t, names, l, globals), l)
         }
-        Exp::Padd(t, p, n) => {
-            if is_root(l, t, sort_of(p, names, l, globals))
-                && is_number(sort_of(n, names, l, globals))
-            {
-                word(address_width(l.target()))
-            } else {
-                None
-            }
+        Exp::Load(t, _, path) => {
+            part_sort(is_root(l, t, root), along(path, t, names, l, globals), l)
         }
-        Exp::At(t, p, path) => address_sort(
-            is_root(l, t, sort_of(p, names, l, globals)),
-            along(path, t, names, l, globals),
-            l,
-        ),
-        Exp::Load(t, p, path) | Exp::Read(t, p, path) => part_sort(
-            is_root(l, t, sort_of(p, names, l, globals)),
-            along(path, t, names, l, globals),
-            l,
-        ),
-        Exp::Tagged(t, p) | Exp::PtrOk(t, p) => {
-            truth(is_root(l, t, sort_of(p, names, l, globals)))
+        Exp::Read(t, _, path) => {
+            part_sort(is_root(l, t, root), along(path, t, names, l, globals), l)
         }
+        Exp::Sel(_, path) => match parts_in(root) {
+            Some(t) => part_sort(is_one_step(path), along(path, t, names, l, globals), l),
+            None => None,
+        },
+        _ => unreachable!(),
+    }
+}
+
+// The sort of a part of a global.
+#[cycle(sorts)]
+#[inline(never)]
+fn global_sort<'a>(
+    e: &'a Exp,
+    names: &Names<'_>,
+    l: &'a Layout,
+    globals: &'a [GlobalVar],
+) -> Option<Sort<'a>>
+    requires { arity_of (exp_of e.now) ≡ Part }
+    ensures { option_map sort_value result ≡ sort_of (scope_of l.now names.now globals.now)
+        (exp_of e.now) }
+{
+    match e {
         Exp::Global(x, path) => match global(globals, x.as_str()) {
             Some(t) => part_sort(is_object(l, t), along(path, t, names, l, globals), l),
             None => None,
         },
-        Exp::Sel(e, path) => match parts_in(sort_of(e, names, l, globals)) {
-            Some(t) => part_sort(is_one_step(path), along(path, t, names, l, globals), l),
-            None => None,
-        },
-        Exp::Upd(e, path, v) => {
-            let whole = sort_of(e, names, l, globals);
-            match parts_in(whole) {
-                Some(t) => {
-                    let part = part_sort(true, along(path, t, names, l, globals), l);
-                    where_same(part, sort_of(v, names, l, globals), whole)
-                }
-                None => None,
-            }
-        }
+        _ => unreachable!(),
     }
 }
 
-// Whether an expression is a truth value. It goes along the right side of an `or` by a loop, since the test of a switch is an `or`
-// of as many equations as there are labels.
+// The sort of a value with a part replaced.
 #[cycle(sorts)]
+#[inline(never)]
+fn update_sort<'a>(
+    e: &'a Exp,
+    names: &Names<'_>,
+    l: &'a Layout,
+    globals: &'a [GlobalVar],
+) -> Option<Sort<'a>>
+    requires { arity_of (exp_of e.now) ≡ Update }
+    ensures { option_map sort_value result ≡ sort_of (scope_of l.now names.now globals.now)
+        (exp_of e.now) }
+{
+    let whole = sort_of(first(e), names, l, globals);
+    match e {
+        Exp::Upd(_, path, v) => match parts_in(whole) {
+            Some(t) => {
+                let part = part_sort(true, along(path, t, names, l, globals), l);
+                where_same(part, sort_of(v, names, l, globals), whole)
+            }
+            None => None,
+        },
+        _ => unreachable!(),
+    }
+}
+
+// Whether an expression is a truth value. It goes along the right sides of `and`, `or` and `imp` by a loop, since the test of a
+// switch is an `or` of as many equations as there are labels.
+#[cycle(sorts)]
+#[inline(never)]
+#[tactic(auto, using(crate::proofs::OperandSorts::rest_decides, crate::proofs::OperandSorts::first_decides))]
 fn is_truth_value<'a>(
     e: &'a Exp,
     names: &Names<'_>,
@@ -139,11 +191,11 @@ fn is_truth_value<'a>(
     ensures { result ≡ is_truth (sort_of (scope_of l.now names.now globals.now) (exp_of e.now)) }
 {
     let mut rest = e;
-    'operands: while let Exp::Or(a, b) = rest {
-        if !is_truth(sort_of(a, names, l, globals)) {
+    'operands: while let Arity::Connective = arity_in(rest) {
+        if !is_truth(sort_of(first(rest), names, l, globals)) {
             return false;
         }
-        rest = &**b;
+        rest = second(rest);
     }
     is_truth(sort_of(rest, names, l, globals))
 }
