@@ -26,8 +26,8 @@ use std::alloc::Global;
 ///   `and`, `or`, `imp` and `if` evaluate only the operands that those before leave open.
 /// - `Memory` where there is no room for a value.
 ///
-/// At each level of the expression it takes up to 470 bytes of the stack, and 512 where a part is replaced in a value in which
-/// another was. So the 4,096 levels that a text may nest take less than 2 MiB.
+/// At each level of the expression it takes up to 480 bytes of the stack. So the 4,096 levels that a text may nest take less than
+/// 2 MiB.
 #[tactic(auto, using(crate::proofs::Scoped::sorted_ready))]
 pub fn eval<H: Heap>(
     alloc: Global,

@@ -25,7 +25,7 @@ use crate::sort_rules::{
 use c_values::{CType, GlobalVar, Layout, is_object};
 
 /// The sort of an expression. There is none exactly where it isn't well-sorted. Its types may be any types. At each level of
-/// the expression it takes up to 470 bytes of the stack.
+/// the expression it takes up to 440 bytes of the stack.
 #[cycle(sorts)]
 #[tactic(auto, using(crate::proofs::OperandSorts::leaf_sorted, crate::proofs::OperandSorts::unary_sorted, crate::proofs::OperandSorts::binary_sorted, crate::proofs::OperandSorts::connective_sorted))]
 pub fn sort_of<'a>(
