@@ -16,4 +16,6 @@ pub mod UnitsLifted
 pub mod SortsAgree
 pub mod LiftedSorted
 pub mod UnitsSorted
+pub mod Least
+pub mod InRange
 pub mod Worked

@@ -2,8 +2,9 @@
 
 ghost use Rattle.std.specs.Prelude.{◌≡◌, true, List};
 ghost use Rattle.c_values.specs.Name.{Name, is_among};
-ghost use Rattle.ac_expr.specs.Signature.{names_of};
-ghost use Rattle.simpl_lang.specs.Command.{Simpl, SimplUnit};
+ghost use Rattle.ac_expr.specs.Expression.{Exp};
+ghost use Rattle.ac_expr.specs.Signature.{Binder, names_of};
+ghost use Rattle.simpl_lang.specs.Command.{Condition, Simpl, SimplUnit};
 ghost use Rattle.simpl_lang.specs.Form.{is_flat};
 ghost use Rattle.simpl_lang.specs.Names.{command_names};
 ghost use Rattle.simpl_lang.specs.Sorted.{IsWellFormed};
@@ -12,9 +13,10 @@ ghost use Rattle.monad_lang.specs.Sorted as Mon;
 ghost use Rattle.monad_lang.specs.Program.{Mon, FinalUnit};
 ghost use Rattle.rule_trees.specs.RuleTree.{Tree};
 ghost use Rattle.rule_local.specs.Rule.{Rule, Context};
-ghost use Rattle.rule_local.specs.Table.{Takes, TakesWhole};
+ghost use Rattle.rule_local.specs.Table.{Takes, TakesWhole, conj, is_needed};
+ghost use Rattle.rule_local.specs.Assigned.{Carries};
 ghost use Rattle.rule_local.specs.CommandForm.{is_bytes_command};
-ghost use Rattle.rule_local.specs.Lifted.{AllFlat, locals_lifted, unit_lifted};
+ghost use Rattle.rule_local.specs.Lifted.{AllFlat, handed_on, lifted, locals_lifted, unit_lifted};
 ghost use Rattle.rule_local.specs.Exact.{StandsFor, StandsForWhole};
 ghost use Rattle.rule_local.specs.Units.{IsUnitLiftedTo, UnitsKeepLocals};
 
@@ -47,4 +49,15 @@ pub fn locals_are_lifted()
     ensures unit { (u : SimplUnit) → IsWellFormed u → AllFlat u.functions → IsUnitLiftedTo u (unit_lifted u) }
     ensures formed { (u : SimplUnit) → IsWellFormed u → Mon.IsWellFormed (unit_lifted u) }
     ensures kept { (u : SimplUnit) → IsWellFormed u → AllFlat u.functions → UnitsKeepLocals u (unit_lifted u) }
+{}
+
+/// A loop hands on the least names that meet its condition: whatever meets it has them all.
+pub fn loops_hand_on_the_least()
+    ensures { (locals : List Binder) (guards : List Condition) (test : Exp) (body : Simpl) (outputs names : List Name) →
+        Carries names body (is_needed (conj guards) test (lifted locals body names).right outputs) →
+        (x : Name) →
+        is_among x
+        (handed_on (names_of locals) guards test body (λ given. (lifted locals body given).right) outputs)
+        ≡ true →
+        is_among x names ≡ true }
 {}

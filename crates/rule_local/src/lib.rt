@@ -3,4 +3,6 @@
 
 mod laws;
 
-pub use laws::{lifted_units_keep_locals, locals_are_lifted, taken_is_exact};
+pub use laws::{
+    lifted_units_keep_locals, locals_are_lifted, loops_hand_on_the_least, taken_is_exact,
+};
