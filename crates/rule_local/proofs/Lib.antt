@@ -18,4 +18,5 @@ pub mod LiftedSorted
 pub mod UnitsSorted
 pub mod Least
 pub mod InRange
+pub mod Unfilled
 pub mod Worked
