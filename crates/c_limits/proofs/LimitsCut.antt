@@ -1,11 +1,12 @@
 -- A measure whose lists are cut behind the first offset past their limit tells as much as the whole one.
 use Rattle.std.proofs.Common.{ℕ, ◌≡◌, ◌∙◌, List, [], ◌∷◌, Option, Some, None, zero, suc, map, unwrap_or, refl, ap, arith}
 use Rattle.std.specs.Option.{option_map}
+use Rattle.std.proofs.lemmas.List.{append-nil}
 use Rattle.c_grammar.specs.declared.symbol.Production.{Production}
 use Rattle.c_limits.specs.declared.limits.Limit.TheVariants as limit
 use Rattle.c_limits.specs.declared.limits.role.Role.{Role}
 use Rattle.c_limits.specs.declared.limits.role.Role.TheVariants as roles
-use Rattle.c_limits.specs.Limits.{Measure, beside, node, statement, local, function, earlier}
+use Rattle.c_limits.specs.Limits.{Measure, Fault, beside, nothing, leftmost, node, statement, local, function, earlier}
 use Rattle.c_limits.specs.CodeRoles.{arity, role_of}
 use Rattle.c_limits.specs.CodeMeasure.{Part, cut, cut_part, joined, gathered, made, pushed, empty, reduced}
 use Rattle.c_limits.proofs.LimitsLists.{take_take, take_append, take_leftmost, get_take}
@@ -21,6 +22,26 @@ cut_beside m n =
       depth = take_leftmost 33 33 33 m.depth n.depth (omega arith) (omega arith) i;
       fault = earlier m.fault n.fault;
     }
+
+leftmost_alone : (xs : List ℕ) → leftmost xs [] ≡ xs
+leftmost_alone [] = refl
+leftmost_alone (x ∷ xs) = ap (λ l. x ∷ l) (append-nil xs)
+
+earlier_alone : (f : Option Fault) → earlier f None ≡ f
+earlier_alone None = refl
+earlier_alone (Some f) = refl
+
+-- nothing beside a part changes nothing
+pub cut_alone : (m : Measure) → cut (beside m nothing) ≡ cut m
+cut_alone m =
+    ap cut (λ i. record {
+      functions = append-nil m.functions i;
+      statements = append-nil m.statements i;
+      blocks = leftmost_alone m.blocks i;
+      nodes = append-nil m.nodes i;
+      depth = leftmost_alone m.depth i;
+      fault = earlier_alone m.fault i;
+    })
 
 cut_node : (a : ℕ) (m : Measure) → cut (node a (cut m)) ≡ cut (node a m)
 cut_node a m =

@@ -2,7 +2,8 @@
 -- first, each with the offset where it begins and its measure. Where a production ends, its parts are taken from there, put side
 -- by side, and what the production makes of them is put there. `keep` is what is kept of each measure that is made: all of it,
 -- or the offsets up to the first one past the limit.
-use Rattle.std.specs.Prelude.{ℕ, suc, zero, ◌+◌, List, [], ◌∷◌, Option, Some, None, take, unwrap_or, fold}
+use Rattle.std.specs.Prelude.{ℕ, suc, zero, ◌+◌, List, [], ◌∷◌, Option, Some, None, take, unwrap_or, fold, Box}
+use Rattle.std.specs.declared.alloc.Global.{Global}
 use Rattle.c_lex.specs.Lexeme.{Lexeme}
 use Rattle.c_grammar.specs.declared.symbol.Production.{Production}
 use Rattle.c_grammar.specs.declared.scripts.Step.{Step}
@@ -33,8 +34,13 @@ pub record Part : Type 0 where
   pub first : Option ℕ
   pub measure : Measure
 
+-- and what counts in a part of the code's own, if anything does
+abbrev pub counted : Option (Box code.Measure Global) → Measure
+counted None = nothing
+counted (Some m) = measure_of m.value
+
 abbrev pub part_of : code_part.Part → Part
-part_of p = record { first = p.first; measure = measure_of p.measure }
+part_of p = record { first = p.first; measure = counted p.measure }
 
 -- the offsets up to the first one past the limit
 abbrev pub cut_at : Limit → List ℕ → List ℕ

@@ -68,7 +68,7 @@ fn advance<'a>(
             let Some((token, rest)) = tokens.split_first() else {
                 return Ok(tokens);
             };
-            parts.push(Part::token(alloc, token.start))?;
+            parts.push(Part::token(token.start))?;
             Ok(rest)
         }
         Step::Reduce(production) => {
@@ -97,7 +97,8 @@ fn limit_of(mut parts: Vec<Part>) -> Option<Fault>
     ensures { result ≡ machine.limit_of (reverse (map machine.part_of parts.items)) }
 {
     let part = parts.pop()?;
-    part.measure.first_limit()
+    let measure = part.measure?;
+    measure.first_limit()
 }
 
 /// The first limit that the tree of a script passes, and the offset where it does. Where several are passed at one offset, it is

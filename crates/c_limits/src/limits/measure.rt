@@ -1,11 +1,11 @@
 //! What counts in a part of a text.
 
-ghost use Rattle.std.specs.Prelude.{◌≡◌, IfOk};
+ghost use Rattle.std.specs.Prelude.{◌≡◌, IfOk, IsTrue};
 ghost use Rattle.c_limits.specs.Limits as limits;
 ghost use Rattle.c_limits.specs.CodeMeasure as machine;
 
 use super::Limit;
-use super::offsets::{before, joined, leftmost};
+use super::offsets::{before, joined, leftmost, shorten};
 use std::alloc::{AllocError, Global};
 
 /// A limit that is passed, and the offset at which it is.
@@ -82,81 +82,115 @@ impl Measure {
         }
     }
 
-    /// Two parts side by side.
-    pub(super) fn beside(self, right: Measure) -> Result<Measure, AllocError>
-        ensures { IfOk result
-            (λ measure. machine.measure_of measure
-            ≡ machine.cut (limits.beside (machine.measure_of self) (machine.measure_of right))) }
+    /// Whether nothing counts.
+    fn is_nothing(&self) -> bool
+        ensures { IsTrue result → machine.measure_of self.now ≡ limits.nothing }
     {
-        Ok(Measure {
-            functions: joined(self.functions, right.functions, Limit::Functions)?,
-            statements: joined(self.statements, right.statements, Limit::Statements)?,
-            blocks: leftmost(self.blocks, right.blocks, Limit::Blocks)?,
-            nodes: joined(self.nodes, right.nodes, Limit::Nodes)?,
-            depth: leftmost(self.depth, right.depth, Limit::Depth)?,
-            fault: earlier(self.fault, right.fault),
-        })
+        self.functions.is_empty()
+            && self.statements.is_empty()
+            && self.blocks.is_empty()
+            && self.nodes.is_empty()
+            && self.depth.is_empty()
+            && self.fault.is_none()
+    }
+
+    /// Keeps the offsets up to the first one past each limit.
+    fn cut(&mut self)
+        ensures { machine.measure_of self.new ≡ machine.cut (machine.measure_of self.old) }
+    {
+        shorten(&mut self.functions, Limit::Functions);
+        shorten(&mut self.statements, Limit::Statements);
+        shorten(&mut self.blocks, Limit::Blocks);
+        shorten(&mut self.nodes, Limit::Nodes);
+        shorten(&mut self.depth, Limit::Depth);
+    }
+
+    /// Another part at the right side of this one.
+    fn join(&mut self, right: Measure) -> Result<(), AllocError>
+        ensures { IfOk result
+            (λ _. machine.measure_of self.new
+            ≡ machine.cut (limits.beside (machine.measure_of self.old) (machine.measure_of right))) }
+    {
+        let Measure {
+            functions,
+            statements,
+            blocks,
+            nodes,
+            depth,
+            fault,
+        } = right;
+        joined(&mut self.functions, functions, Limit::Functions)?;
+        joined(&mut self.statements, statements, Limit::Statements)?;
+        leftmost(&mut self.blocks, blocks, Limit::Blocks)?;
+        joined(&mut self.nodes, nodes, Limit::Nodes)?;
+        leftmost(&mut self.depth, depth, Limit::Depth)?;
+        self.fault = earlier(self.fault, fault);
+        Ok(())
     }
 
     /// A node of an expression above these parts.
-    pub(super) fn node(mut self, at: usize) -> Result<Measure, AllocError>
-        ensures { machine.cut (machine.measure_of self) ≡ machine.measure_of self →
+    pub(super) fn node(&mut self, at: usize) -> Result<(), AllocError>
+        ensures { machine.cut (machine.measure_of self.old) ≡ machine.measure_of self.old →
             IfOk result
-            (λ measure. machine.measure_of measure
-            ≡ machine.cut (limits.node at (machine.measure_of self))) }
+            (λ _. machine.measure_of self.new
+            ≡ machine.cut (limits.node at (machine.measure_of self.old))) }
     {
-        self.nodes = before(at, self.nodes, Limit::Nodes)?;
-        self.depth = before(at, self.depth, Limit::Depth)?;
+        before(at, &mut self.nodes, Limit::Nodes)?;
+        before(at, &mut self.depth, Limit::Depth)?;
         self.fault = earlier(
             past(Limit::Depth, &self.depth),
             past(Limit::Nodes, &self.nodes),
         );
-        Ok(self)
+        Ok(())
     }
 
     /// These parts where their expressions stand in no other.
-    pub(super) fn outermost(mut self, alloc: Global) -> Measure
-        ensures { machine.measure_of result ≡ limits.outermost (machine.measure_of self) }
+    fn leave(&mut self)
+        ensures { machine.measure_of self.new ≡ limits.outermost (machine.measure_of self.old) }
     {
-        self.nodes = Vec::new(alloc);
-        self.depth = Vec::new(alloc);
-        self
+        self.nodes.clear();
+        self.depth.clear();
     }
 
     /// A statement above these parts.
-    pub(super) fn statement(mut self, alloc: Global, at: usize) -> Result<Measure, AllocError>
-        ensures { machine.cut (machine.measure_of self) ≡ machine.measure_of self →
+    pub(super) fn statement(&mut self, at: usize) -> Result<(), AllocError>
+        ensures { machine.cut (machine.measure_of self.old) ≡ machine.measure_of self.old →
             IfOk result
-            (λ measure. machine.measure_of measure
-            ≡ machine.cut (limits.statement at (machine.measure_of self))) }
+            (λ _. machine.measure_of self.new
+            ≡ machine.cut (limits.statement at (machine.measure_of self.old))) }
     {
-        self.statements = before(at, self.statements, Limit::Statements)?;
-        self.blocks = before(at, self.blocks, Limit::Blocks)?;
-        Ok(self.outermost(alloc))
+        before(at, &mut self.statements, Limit::Statements)?;
+        before(at, &mut self.blocks, Limit::Blocks)?;
+        self.leave();
+        Ok(())
     }
 
     /// The declarator of a local, with these parts and the locals behind it.
-    pub(super) fn local(mut self, alloc: Global, at: usize) -> Result<Measure, AllocError>
-        ensures { machine.cut (machine.measure_of self) ≡ machine.measure_of self →
+    pub(super) fn local(&mut self, at: usize) -> Result<(), AllocError>
+        ensures { machine.cut (machine.measure_of self.old) ≡ machine.measure_of self.old →
             IfOk result
-            (λ measure. machine.measure_of measure
-            ≡ machine.cut (limits.local at (machine.measure_of self))) }
+            (λ _. machine.measure_of self.new
+            ≡ machine.cut (limits.local at (machine.measure_of self.old))) }
     {
-        self.statements = before(at, self.statements, Limit::Statements)?;
-        Ok(self.outermost(alloc))
+        before(at, &mut self.statements, Limit::Statements)?;
+        self.leave();
+        Ok(())
     }
 
     /// A function around these parts.
-    pub(super) fn function(self, alloc: Global, at: usize) -> Result<Measure, AllocError>
+    pub(super) fn function(&mut self, at: usize) -> Result<(), AllocError>
         ensures { IfOk result
-            (λ measure. machine.measure_of measure
-            ≡ machine.cut (limits.function at (machine.measure_of self))) }
+            (λ _. machine.measure_of self.new
+            ≡ machine.cut (limits.function at (machine.measure_of self.old))) }
     {
         let inner = earlier(past(Limit::Blocks, &self.blocks), self.fault);
-        let mut measure = Measure::nothing(alloc);
-        measure.functions.push(at)?;
-        measure.fault = earlier(past(Limit::Statements, &self.statements), inner);
-        Ok(measure)
+        self.fault = earlier(past(Limit::Statements, &self.statements), inner);
+        self.functions.clear();
+        self.functions.push(at)?;
+        self.statements.clear();
+        self.blocks.clear();
+        self.leave();
+        Ok(())
     }
 
     /// The first limit that a whole text passes.
@@ -167,4 +201,53 @@ impl Measure {
     {
         earlier(past(Limit::Functions, &self.functions), self.fault)
     }
+}
+
+/// What counts, with room for more.
+pub(super) fn counted(
+    alloc: Global,
+    measure: Option<Box<Measure>>,
+) -> Result<Box<Measure>, AllocError>
+    ensures { IfOk result (λ b. machine.measure_of b.value ≡ machine.counted measure) }
+{
+    match measure {
+        Some(measure) => Ok(measure),
+        None => Ok(Box::new(alloc, Measure::nothing(alloc))?),
+    }
+}
+
+/// Two parts side by side.
+#[tactic(auto, using(crate::proofs::LimitsCut::cut_alone))]
+pub(super) fn beside(
+    left: Option<Box<Measure>>,
+    right: Option<Box<Measure>>,
+) -> Result<Option<Box<Measure>>, AllocError>
+    ensures { IfOk result
+        (λ measure. machine.counted measure
+        ≡ machine.cut (limits.beside (machine.counted left) (machine.counted right))) }
+{
+    let Some(mut left) = left else {
+        let Some(mut right) = right else {
+            return Ok(None);
+        };
+        right.cut();
+        return Ok(Some(right));
+    };
+    match right {
+        Some(right) => left.join(Box::into_inner(right))?,
+        None => left.cut(),
+    }
+    Ok(Some(left))
+}
+
+/// These parts where their expressions stand in no other.
+pub(super) fn outermost(measure: Option<Box<Measure>>) -> Option<Box<Measure>>
+    ensures { machine.counted result ≡ limits.outermost (machine.counted measure) }
+{
+    let mut measure = measure?;
+    measure.leave();
+    if measure.is_nothing() {
+        return None;
+    }
+    Some(measure)
 }

@@ -6,53 +6,56 @@ ghost use Rattle.c_limits.specs.Limits as limits;
 use super::Limit;
 use std::alloc::AllocError;
 
+/// Keeps the nodes up to the first one past a limit.
+pub(super) fn shorten(offsets: &mut Vec<usize>, limit: Limit)
+    ensures { offsets.new.items ≡ take (limits.most limit + 1) offsets.old.items }
+{
+    offsets.truncate(limit.most() + 1);
+}
+
 /// A node before others.
-pub(super) fn before(
-    at: usize,
-    mut others: Vec<usize>,
-    limit: Limit,
-) -> Result<Vec<usize>, AllocError>
+pub(super) fn before(at: usize, others: &mut Vec<usize>, limit: Limit) -> Result<(), AllocError>
     ensures { IfOk result
-        (λ offsets. offsets.items ≡ take (limits.most limit + 1) (at ∷ others.items)) }
+        (λ _. others.new.items ≡ take (limits.most limit + 1) (at ∷ others.old.items)) }
 {
     others.insert(0, at)?;
     others.truncate(limit.most() + 1);
-    Ok(others)
+    Ok(())
 }
 
 /// The nodes of two parts.
 pub(super) fn joined(
-    mut left: Vec<usize>,
+    left: &mut Vec<usize>,
     right: Vec<usize>,
     limit: Limit,
-) -> Result<Vec<usize>, AllocError>
+) -> Result<(), AllocError>
     ensures { IfOk result
-        (λ offsets. offsets.items ≡ take (limits.most limit + 1) (left.items ++ right.items)) }
+        (λ _. left.new.items ≡ take (limits.most limit + 1) (left.old.items ++ right.items)) }
 {
     if left.is_empty() {
-        left = right;
+        *left = right;
     } else {
         left.extend_from_slice(&right)?;
     }
     left.truncate(limit.most() + 1);
-    Ok(left)
+    Ok(())
 }
 
 /// The first node on each level of two parts.
 pub(super) fn leftmost(
-    mut left: Vec<usize>,
+    left: &mut Vec<usize>,
     right: Vec<usize>,
     limit: Limit,
-) -> Result<Vec<usize>, AllocError>
+) -> Result<(), AllocError>
     ensures { IfOk result
-        (λ offsets. offsets.items
-        ≡ take (limits.most limit + 1) (limits.leftmost left.items right.items)) }
+        (λ _. left.new.items
+        ≡ take (limits.most limit + 1) (limits.leftmost left.old.items right.items)) }
 {
     if left.is_empty() {
-        left = right;
+        *left = right;
     } else if left.len() < right.len() {
         left.extend_from_slice(&right[left.len()..])?;
     }
     left.truncate(limit.most() + 1);
-    Ok(left)
+    Ok(())
 }

@@ -3,7 +3,7 @@
 ghost use Rattle.std.specs.Prelude.{◌≡◌, IfOk, map, option_map, reverse};
 ghost use Rattle.c_limits.specs.CodeMeasure as machine;
 
-use super::measure::Measure;
+use super::measure::{Measure, beside, counted, outermost};
 use super::role::{Role, arity, role_of};
 use c_grammar::Production;
 use std::alloc::{AllocError, Global};
@@ -13,28 +13,28 @@ use std::alloc::{AllocError, Global};
 pub(super) struct Part {
     /// The offset of its first token, where that can be the first one of a node.
     pub(super) first: Option<usize>,
-    /// What counts in it.
-    pub(super) measure: Measure,
+    /// What counts in it, if anything.
+    pub(super) measure: Option<Box<Measure>>,
 }
 
 impl Part {
     /// The part without tokens.
-    pub(super) fn empty(alloc: Global) -> Part
+    pub(super) fn empty() -> Part
         ensures { machine.part_of result ≡ machine.empty }
     {
         Part {
             first: None,
-            measure: Measure::nothing(alloc),
+            measure: None,
         }
     }
 
     /// A token at an offset.
-    pub(super) fn token(alloc: Global, at: usize) -> Part
+    pub(super) fn token(at: usize) -> Part
         ensures { machine.part_of result ≡ machine.token at }
     {
         Part {
             first: Some(at),
-            measure: Measure::nothing(alloc),
+            measure: None,
         }
     }
 
@@ -46,7 +46,7 @@ impl Part {
     {
         Ok(Part {
             first: self.first.or(right.first),
-            measure: self.measure.beside(right.measure)?,
+            measure: beside(self.measure, right.measure)?,
         })
     }
 
@@ -59,29 +59,65 @@ impl Part {
     {
         let Part { first, measure } = self;
         let at = first.unwrap_or(0);
-        let (first, measure) = match role {
-            Role::Nothing => return Ok(None),
-            Role::Node => (first, measure.node(at)?),
-            Role::Specifier => (first, measure),
-            Role::Part => (None, measure),
-            Role::Simple => (first, measure.outermost(alloc)),
-            Role::Outermost => (None, measure.outermost(alloc)),
-            Role::Statement => (None, measure.statement(alloc, at)?),
-            Role::Local => (None, measure.local(alloc, at)?),
-            Role::Function => (None, measure.function(alloc, at)?),
-        };
-        Ok(Some(Part { first, measure }))
+        match role {
+            Role::Nothing => Ok(None),
+            Role::Node => {
+                let mut measure = counted(alloc, measure)?;
+                measure.node(at)?;
+                Ok(Some(Part {
+                    first,
+                    measure: Some(measure),
+                }))
+            }
+            Role::Specifier => Ok(Some(Part { first, measure })),
+            Role::Part => Ok(Some(Part {
+                first: None,
+                measure,
+            })),
+            Role::Simple => Ok(Some(Part {
+                first,
+                measure: outermost(measure),
+            })),
+            Role::Outermost => Ok(Some(Part {
+                first: None,
+                measure: outermost(measure),
+            })),
+            Role::Statement => {
+                let mut measure = counted(alloc, measure)?;
+                measure.statement(at)?;
+                Ok(Some(Part {
+                    first: None,
+                    measure: Some(measure),
+                }))
+            }
+            Role::Local => {
+                let mut measure = counted(alloc, measure)?;
+                measure.local(at)?;
+                Ok(Some(Part {
+                    first: None,
+                    measure: Some(measure),
+                }))
+            }
+            Role::Function => {
+                let mut measure = counted(alloc, measure)?;
+                measure.function(at)?;
+                Ok(Some(Part {
+                    first: None,
+                    measure: Some(measure),
+                }))
+            }
+        }
     }
 }
 
 /// Takes some parts from the stack, and puts them side by side.
-fn gather(alloc: Global, parts: &mut Vec<Part>, count: usize) -> Result<Part, AllocError>
+fn gather(parts: &mut Vec<Part>, count: usize) -> Result<Part, AllocError>
     ensures { IfOk result
         (λ part. (machine.part_of part, reverse (map machine.part_of parts.new.items))
         ≡ machine.gathered machine.cut count
         (reverse (map machine.part_of parts.old.items)) machine.empty) }
 {
-    let mut sum = Part::empty(alloc);
+    let mut sum = Part::empty();
     for _ in 0..count {
         match parts.pop() {
             Some(part) => sum = part.beside(sum)?,
@@ -101,7 +137,7 @@ pub(super) fn reduce(
         (λ _. reverse (map machine.part_of parts.new.items) ≡ machine.reduced machine.cut production
         (reverse (map machine.part_of parts.old.items))) }
 {
-    let sum = gather(alloc, parts, arity(production))?;
+    let sum = gather(parts, arity(production))?;
     if let Some(part) = sum.made(alloc, role_of(production))? {
         parts.push(part)?;
     }
