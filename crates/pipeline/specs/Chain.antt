@@ -2,11 +2,8 @@
 -- relates functions of two units at one bound: to calls that are related, and whatever the limit of nested calls, they have
 -- related answers, fail alike and stop alike. Exactness follows from the five phases and from the theorem on generation, by
 -- composition alone (docs/CHAIN.md).
-use Rattle.std.specs.Prelude.{◌≡◌, ℕ, List, [], ◌∷◌, Option, Some, None}
-use Rattle.correspondence.specs.Bound.{Functions}
-use Rattle.correspondence.specs.Corresponds.{Corresponds}
+use Rattle.std.specs.Prelude.{◌≡◌, ℕ, List, [], Option, Some, None}
 use Rattle.c_values.specs.Name.{Name}
-use Rattle.c_values.specs.Value.{Value}
 use Rattle.c_values.specs.Layout.{Layout}
 use Rattle.c_values.specs.Choice.{Choice}
 use Rattle.c_memory.specs.Memory.{Memory}
@@ -16,44 +13,25 @@ use Rattle.c_memory.specs.Heap.{OnBytes}
 use Rattle.ac_expr.specs.Sort.{Level, Kind, is_lifted}
 use Rattle.ac_expr.specs.View.{views_at, AreOfKinds}
 use Rattle.ac_expr.specs.Signature.{Invocation, kinds_of}
-use Rattle.ac_expr.specs.Machine.{Returned}
 use Rattle.simpl_lang.specs.Command.{SimplUnit}
 use Rattle.simpl_lang.specs.Exec as Simpl
 use Rattle.monad_lang.specs.Program.{FinalUnit, FinalFn, final_fn}
 use Rattle.monad_lang.specs.Run as Mon
-use Rattle.monad_lang.specs.Run.{Answer, Failure}
+use Rattle.monad_lang.specs.Run.{Answer}
+use Rattle.rule_local.specs.Kept.{Related, BothFail, LocalsKept}
 use Rattle.c_lang.specs.Typed.{TypedUnit}
 use Rattle.generation.specs.SameEnds.{HasEndsOf}
 use Rattle.exactness.specs.Exact.{heap_for}
 
--- Functions of two units at one bound: calls that are related have ends that correspond. How answers are related may depend on
--- the call.
-abbrev pub Related : {Call Call' A B F G : Type 0} → (Call → Call' → Type 0) → (Call → A → B → Type 0) → (F → G → Type 0) → Functions Call A F → Functions Call' B G → Type 0
-Related {Call} {Call'} calls answers faults f g = (depth : Option ℕ) (c : Call) (c' : Call') → calls c c' → Corresponds (answers c) faults (f depth c) (g depth c')
-
 abbrev pub Same : {A : Type 0} → A → A → Type 0
 Same a b = b ≡ a
-
--- whatever the faults
-abbrev pub BothFail : {F G : Type 0} → F → G → Type 0
-BothFail f g = Unit {0}
 
 -- 1. Exceptions: commands with throws, and flat ones. Everything stays.
 abbrev pub ExceptionsKept : Simpl.Runs → Simpl.Runs → Type 0
 ExceptionsKept f g = Related Same (λ c. Same) Same f g
 
--- the result of a function as a list
-abbrev pub as_values : Option Value → List Value
-as_values None = []
-as_values (Some v) = v ∷ []
-
-pub record SameResult (r : Returned) (a : Answer) : Type 0 where
-  pub values : a.values ≡ as_values r.result
-  pub state : a.state ≡ r.state
-
--- 2. Locals: flat commands on machines, and programs that bind what the locals hold. The kind of a fault is no longer told.
-abbrev pub LocalsKept : Simpl.Runs → Mon.Runs → Type 0
-LocalsKept f g = Related Same (λ c. SameResult) BothFail f g
+-- 2. Locals: `LocalsKept`, of flat commands on machines and programs that bind what the locals hold, at calls with an argument for
+-- each parameter. The kind of a fault is no longer told.
 
 -- a call on bytes, and the same call on the heap that its function's level gives it for those bytes
 pub record OnItsHeap (l : Layout) (levels : Name → Level) (c c' : Invocation) : Type 0 where
@@ -125,7 +103,7 @@ EqualKept a f g = Related (SameInRange a) (λ c. Same) BothFail f g
 pub record IsChain (u : TypedUnit) (levels : Name → Level) (generated flat : SimplUnit) (local heap word last : FinalUnit) : Type 0 where
   pub generation : HasEndsOf u levels generated
   pub exceptions : (p : Choice) (n : ℕ) → ExceptionsKept (Simpl.simpl_runs generated p n) (Simpl.simpl_runs flat p n)
-  pub locals : (p : Choice) (n : ℕ) → LocalsKept (Simpl.simpl_runs flat p n) (Mon.program_runs local p n)
+  pub locals : (p : Choice) (n : ℕ) → LocalsKept flat.signatures (Simpl.simpl_runs flat p n) (Mon.program_runs local p n)
   pub heaps : (p : Choice) (n : ℕ) → HeapsKept u.layout levels (Mon.program_runs local p n) (Mon.program_runs heap p n)
   pub words : (p : Choice) (n : ℕ) → WordsKept last (Mon.program_runs heap p n) (Mon.program_runs word p n)
   pub equality : (p : Choice) (n : ℕ) → EqualKept last (Mon.program_runs word p n) (Mon.program_runs last p n)
