@@ -4,8 +4,10 @@ use c_lex::tokens;
 use c_parse::parse;
 use c_types::check_unit;
 use c_values::Target;
+use exception_elim::translate;
+use rule_exn::check;
 use simpl_gen::{default_modes, generate};
-use simpl_lang::{SimplUnit, commands};
+use simpl_lang::{SimplUnit, commands, is_flat};
 use std::alloc::{AllocError, Global};
 use std::test::Fail;
 
@@ -114,5 +116,38 @@ fn deep_types_are_generated(rt: HostRuntime) -> Result<(), Fail> {
     let text = deep_copies(alloc, 80_000)?;
     let u = generated(alloc, text.as_str(), &on_bytes)?;
     assert!(rt; u.functions.len() == 3);
+    Ok(())
+}
+
+// Whether the rules take each body to its translation, in which nothing is thrown.
+fn lose_exceptions(alloc: Global, u: &SimplUnit) -> Result<bool, Fail> {
+    for f in &u.functions {
+        let (right, tree) = translate(alloc, &f.body)?;
+        if check(&tree, &f.body, &right).is_err() || !is_flat(&right) {
+            return Ok(false);
+        }
+    }
+    Ok(true)
+}
+
+#[test]
+fn bodies_lose_their_exceptions(rt: HostRuntime) -> Result<(), Fail> {
+    let alloc = rt.alloc();
+    let texts = [
+        "unsigned f(void){return 7u;}",
+        "void w(unsigned*p){*p=0u;if(*p)return;*p=1u;}",
+        "int g(int n){int s=0;int i;for(i=0;i<n;i++){if(i==3)continue;if(i>9)break;s=s+i;}return s;}",
+        "int d(int n){do{n=n-1;if(n==5)continue;if(n==3)break;}while(n>1);return n;}",
+        "int l(int n){while(1){while(n>0){n=n-1;if(n==5)return n;}if(n<0)break;n=n+9;}return 0;}",
+        "int s(int x){switch(x){case 1:return 2;case 2:x=3;break;default:x=4;}return x;}",
+        "int c(int n){int r;if(n<1)return 0;r=c(n-1);c(r);return r+1;}",
+    ];
+    for text in texts {
+        let u = generated(alloc, text, &[])?;
+        assert!(rt; lose_exceptions(alloc, &u)?, "{text}");
+    }
+    let long = functions(alloc, 4)?;
+    let u = generated(alloc, long.as_str(), &[])?;
+    assert!(rt; lose_exceptions(alloc, &u)?);
     Ok(())
 }

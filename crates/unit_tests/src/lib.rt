@@ -1,5 +1,5 @@
-//! The tests of the crates below generation, each by itself, through its public calls: words, heaps, expressions, levels and
-//! forms at values that are known from elsewhere. They stand in a crate of their own, since a crate with tests is proved twice.
+//! The tests of the crates below commands, each by itself, through its public calls: words, heaps, expressions and levels at
+//! values that are known from elsewhere. They stand in a crate of their own, since a crate with tests is proved twice.
 #![tactic(auto)]
 
 #[cfg(test)]
@@ -10,12 +10,6 @@ mod expressions;
 mod heaps;
 #[cfg(test)]
 mod levels;
-#[cfg(test)]
-mod program_sequences;
-#[cfg(test)]
-mod simpl_forms;
-#[cfg(test)]
-mod simpl_sequences;
 #[cfg(test)]
 mod typed_heaps;
 #[cfg(test)]

@@ -1,0 +1,3 @@
+pub mod AskedPush
+pub mod Translated
+pub mod WithFronts

@@ -1,0 +1,2 @@
+pub mod CodeDone
+pub mod CodeFront
