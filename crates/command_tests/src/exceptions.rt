@@ -206,3 +206,34 @@ fn deep_nesting_is_translated_and_checked(rt: HostRuntime) -> Result<(), Fail> {
     }
     Ok(())
 }
+
+// `set` with words before and after it, each so many times.
+fn within(alloc: Global, before: &str, after: &str, times: u32) -> Result<Simpl, Fail> {
+    let mut words = String::new(alloc);
+    for _ in 0..times {
+        words.push_str(before)?;
+    }
+    words.push_str("set")?;
+    for _ in 0..times {
+        words.push_str(after)?;
+    }
+    command(alloc, words.as_str())
+}
+
+// A straight line, nested loops that are left, and nested choices.
+#[test]
+fn commands_of_many_sizes(rt: HostRuntime) -> Result<(), Fail> {
+    let alloc = rt.alloc();
+    let shapes = [
+        ("seq set ", "", 2u32),
+        ("catch while catch seq cond throw skip ", " skip skip", 9),
+        ("cond seq set ", " skip", 4),
+    ];
+    for (before, after, size) in shapes {
+        for commands in [100u32, 200, 400, 800] {
+            let c = within(alloc, before, after, commands / size)?;
+            assert!(rt; is_taken(alloc, &c)?, "{before}");
+        }
+    }
+    Ok(())
+}
