@@ -20,3 +20,11 @@ pub mod Least
 pub mod InRange
 pub mod Unfilled
 pub mod Worked
+pub mod Unbound
+pub mod ExpressionLists
+pub mod Conjunctions
+pub mod Zeros
+pub mod Lost
+pub mod NoStrays
+pub mod Rows
+pub mod Walked

@@ -7,3 +7,8 @@ pub mod Exact
 pub mod Units
 pub mod CommandForm
 pub mod Lifted
+pub mod CodeRule
+pub mod CodeRow
+pub mod CodeVerdict
+pub mod CodeAssigned
+pub mod CodeFree

@@ -1,0 +1,55 @@
+//! Whether the free names of a program are parameters.
+
+ghost use Rattle.std.specs.Prelude.{◌↔◌, IsTrue, map};
+ghost use Rattle.ac_expr.specs.CodeSignature.{binder_of};
+ghost use Rattle.ac_expr.specs.Signature.{names_of};
+ghost use Rattle.monad_lang.specs.CodeProgram.{mon_of};
+ghost use Rattle.rule_local.specs.Table.{AllFreeAmong};
+ghost use Rattle.rule_local.specs.CodeFree.{is_stray};
+
+use crate::free_names::is_free;
+use crate::name_lists::is_bound;
+use ac_expr::{Binder, Exp, Test};
+use monad_lang::{Mon, NoPlace};
+
+/// A name that is free in the program, and no parameter.
+#[derive(Clone, Copy)]
+struct IsStray<'a> {
+    program: &'a Mon,
+    parameters: &'a [Binder],
+}
+
+impl Test for IsStray<'_> {
+    ghost use Rattle.std.specs.Prelude.{map};
+    ghost use Rattle.ac_expr.specs.CodeSignature.{binder_of};
+    ghost use Rattle.ac_expr.specs.Signature.{names_of};
+    ghost use Rattle.monad_lang.specs.CodeProgram.{mon_of};
+    ghost use Rattle.rule_local.specs.CodeFree.{is_stray};
+
+    ghost holds = { λ test e.
+        is_stray (mon_of test.program.now) (names_of (map binder_of test.parameters.now)) e };
+
+    fn holds(&self, e: &Exp) -> bool {
+        match e {
+            Exp::Var(name) => {
+                is_free(name.as_str(), self.program) && !is_bound(name.as_str(), self.parameters)
+            }
+            _ => false,
+        }
+    }
+}
+
+/// Whether the free names of a program are parameters. Each name in the program is looked at, since there is no memory to keep
+/// names in.
+pub(crate) fn are_free_parameters(m: &Mon, parameters: &[Binder]) -> bool
+    ensures { IsTrue result
+        ↔ AllFreeAmong (names_of (map binder_of parameters.now)) (mon_of m.now) }
+{
+    !m.any(
+        &IsStray {
+            program: m,
+            parameters,
+        },
+        &NoPlace,
+    )
+}
