@@ -9,11 +9,29 @@ use simpl_lang::{Simpl, is_flat};
 use std::alloc::{AllocError, Global};
 use std::test::Fail;
 
+// The rules by name.
+const RULES: [(&str, Rule); 14] = [
+    ("skip", Rule::Skip),
+    ("set", Rule::Set),
+    ("pick", Rule::Pick),
+    ("call", Rule::Call),
+    ("throw", Rule::Throw),
+    ("seq_plain", Rule::SeqPlain),
+    ("seq_test", Rule::SeqTest),
+    ("cond", Rule::Cond),
+    ("guard", Rule::Guard),
+    ("while_plain", Rule::WhilePlain),
+    ("while_test", Rule::WhileTest),
+    ("catch_plain", Rule::CatchPlain),
+    ("catch_test", Rule::CatchTest),
+    ("catch_skip", Rule::CatchSkip),
+];
+
 // The first bad node.
 fn bad_node(alloc: Global, rules: &str, left: &str, right: &str) -> Result<Option<u32>, Fail> {
     let left = command(alloc, left)?;
     let right = command(alloc, right)?;
-    Ok(match check(&tree(alloc, rules)?, &left, &right) {
+    Ok(match check(&tree(alloc, &RULES, rules)?, &left, &right) {
         Ok(()) => None,
         Err(At(at)) => Some(at),
     })

@@ -4,6 +4,8 @@
 #[cfg(test)]
 mod exceptions;
 #[cfg(test)]
+mod locals;
+#[cfg(test)]
 mod notation;
 #[cfg(test)]
 mod program_sequences;

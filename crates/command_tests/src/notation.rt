@@ -1,9 +1,9 @@
-//! Commands and trees of rules from words, heads before their parts (Polish notation). The words are read from the last to the
-//! first, with a stack for what has been read.
+//! Commands, programs and trees of rules from words, heads before their parts (Polish notation). The words are read from the last to
+//! the first, with a stack for what has been read.
 
-use ac_expr::{Exp, Path};
+use ac_expr::{Exp, Kind, Path};
 use c_values::{CType, IntType, Word};
-use rule_exn::Rule;
+use monad_lang::{Mon, Place, Start};
 use rule_trees::Tree;
 use simpl_lang::{Condition, GuardKind, Simpl};
 use std::alloc::{AllocError, Global};
@@ -87,6 +87,8 @@ fn step(alloc: Global, word: &str) -> Result<Simpl, Fail> {
         "pick_y" => Simpl::Pick(text(alloc, "y")?),
         "call" => call(alloc, "f")?,
         "call_g" => call(alloc, "g")?,
+        "set_ret" => set(alloc, "$ret", one)?,
+        "set_exn" => set(alloc, "$exn", one)?,
         "raise" => set(alloc, "$thrown", Exp::Truth(true))?,
         "clear" => set(alloc, "$thrown", Exp::Truth(false))?,
         _ => return Err(Fail::from("no such word")),
@@ -99,6 +101,13 @@ fn over_one(alloc: Global, word: &str, part: Simpl) -> Result<Simpl, Fail> {
         "guard" => guard(alloc, GuardKind::Div, "g", part)?,
         "guard_h" => guard(alloc, GuardKind::Div, "h", part)?,
         "guard_tag" => guard(alloc, GuardKind::Tag, "g", part)?,
+        "guard_unreached" => Simpl::Guard(
+            Condition {
+                kind: GuardKind::Unreached,
+                exp: Exp::Truth(false),
+            },
+            Box::new(alloc, part)?,
+        ),
         "while" => repeat(alloc, false, false, part)?,
         "while_unless" => repeat(alloc, true, true, part)?,
         "while_guards" => repeat(alloc, true, false, part)?,
@@ -128,6 +137,7 @@ pub(crate) fn command(alloc: Global, words: &str) -> Result<Simpl, Fail> {
             "guard"
             | "guard_h"
             | "guard_tag"
+            | "guard_unreached"
             | "while"
             | "while_unless"
             | "while_guards"
@@ -143,44 +153,143 @@ pub(crate) fn command(alloc: Global, words: &str) -> Result<Simpl, Fail> {
     popped(&mut stack)
 }
 
-fn rule(word: &str) -> Result<Rule, Fail> {
-    Ok(match word {
-        "skip" => Rule::Skip,
-        "set" => Rule::Set,
-        "pick" => Rule::Pick,
-        "call" => Rule::Call,
-        "throw" => Rule::Throw,
-        "seq_plain" => Rule::SeqPlain,
-        "seq_test" => Rule::SeqTest,
-        "cond" => Rule::Cond,
-        "guard" => Rule::Guard,
-        "while_plain" => Rule::WhilePlain,
-        "while_test" => Rule::WhileTest,
-        "catch_plain" => Rule::CatchPlain,
-        "catch_test" => Rule::CatchTest,
-        "catch_skip" => Rule::CatchSkip,
-        _ => return Err(Fail::from("no such rule")),
-    })
-}
-
-/// The tree that words spell: a rule, and in front of one with parts how many, as `2seq_plain set throw`.
-pub(crate) fn tree(alloc: Global, words: &str) -> Result<Tree<Rule>, Fail> {
+/// The tree that words spell, whose rules have these names: a rule, and in front of one with parts how many, as
+/// `2seq_plain set throw`.
+pub(crate) fn tree<R: Copy>(
+    alloc: Global,
+    rules: &[(&str, R)],
+    words: &str,
+) -> Result<Tree<R>, Fail> {
     let mut stack = Vec::new(alloc);
     for word in words.rsplit(' ') {
-        let (count, name) = match word.split_at(1) {
-            ("1", name) => (1u32, name),
-            ("2", name) => (2, name),
-            ("3", name) => (3, name),
-            _ => (0, word),
-        };
+        let (count, name) = counted(word);
         let mut parts = Vec::new(alloc);
         for _ in 0..count {
             parts.push(popped(&mut stack)?)?;
         }
         stack.push(Tree {
-            rule: rule(name)?,
+            rule: rule(rules, name)?,
             parts,
         })?;
+    }
+    popped(&mut stack)
+}
+
+// The rule of a name.
+fn rule<R: Copy>(rules: &[(&str, R)], name: &str) -> Result<R, Fail> {
+    for (known, rule) in rules {
+        if *known == name {
+            return Ok(*rule);
+        }
+    }
+    Err(Fail::from("no such rule"))
+}
+
+// A word with a number in front, and without one.
+fn counted(word: &str) -> (u32, &str) {
+    for (digit, count) in [('0', 0u32), ('1', 1), ('2', 2), ('3', 3)] {
+        if let Some(name) = word.strip_prefix(digit) {
+            return (count, name);
+        }
+    }
+    (0, word)
+}
+
+// An expression without parts: a constant or a name.
+fn atom(alloc: Global, word: &str) -> Result<Exp, AllocError> {
+    match word {
+        "one" => Ok(Exp::Word(Word::new(32, 1))),
+        "zero" => Ok(Exp::Word(Word::new(32, 0))),
+        "true" => Ok(Exp::Truth(true)),
+        "false" => Ok(Exp::Truth(false)),
+        _ => var(alloc, word),
+    }
+}
+
+// The first so many words that are put aside, as expressions.
+fn atoms(alloc: Global, words: &mut Vec<&str>, count: u32) -> Result<Vec<Exp>, Fail> {
+    let mut exps = Vec::new(alloc);
+    for _ in 0..count {
+        exps.push(atom(alloc, popped(words)?)?)?;
+    }
+    Ok(exps)
+}
+
+// The same, as names.
+fn names(alloc: Global, words: &mut Vec<&str>, count: u32) -> Result<Vec<String>, Fail> {
+    let mut names = Vec::new(alloc);
+    for _ in 0..count {
+        names.push(text(alloc, popped(words)?)?)?;
+    }
+    Ok(names)
+}
+
+// So many names, each of which begins with what it holds.
+fn starts(alloc: Global, words: &mut Vec<&str>, count: u32) -> Result<Vec<Start>, Fail> {
+    let mut starts = Vec::new(alloc);
+    for _ in 0..count {
+        let name = popped(words)?;
+        starts.push(Start {
+            name: text(alloc, name)?,
+            exp: var(alloc, name)?,
+        })?;
+    }
+    Ok(starts)
+}
+
+// The guards of a loop, as one.
+fn both_guards(alloc: Global) -> Result<Exp, AllocError> {
+    let first = Box::new(alloc, var(alloc, "g")?)?;
+    let last = Box::new(alloc, var(alloc, "g")?)?;
+    Ok(Exp::And(first, last))
+}
+
+/// The program that words spell. `2ret x one` gives two values, `2bind M x y N` binds two names of M in N, `2loop M x y` goes on
+/// with two names, `if M N` asks `e`, and other words are names and constants.
+pub(crate) fn program(alloc: Global, spelled: &str) -> Result<Mon, Fail> {
+    let mut stack = Vec::new(alloc);
+    let mut words = Vec::new(alloc);
+    for word in spelled.rsplit(' ') {
+        let (count, head) = counted(word);
+        let read = match head {
+            "ret" => Mon::Ret(atoms(alloc, &mut words, count)?),
+            "bind" => {
+                let first = popped(&mut stack)?;
+                let last = Box::new(alloc, popped(&mut stack)?)?;
+                let bound = names(alloc, &mut words, count)?;
+                Mon::Bind(Box::new(alloc, first)?, bound, last)
+            }
+            "guard" => Mon::Guard(atom(alloc, popped(&mut words)?)?),
+            "if" => {
+                let test = atom(alloc, popped(&mut words)?)?;
+                let first = Box::new(alloc, popped(&mut stack)?)?;
+                Mon::If(test, first, Box::new(alloc, popped(&mut stack)?)?)
+            }
+            "loop" => {
+                let body = Box::new(alloc, popped(&mut stack)?)?;
+                let starts = starts(alloc, &mut words, count)?;
+                Mon::Loop(starts, both_guards(alloc)?, var(alloc, "e")?, body)
+            }
+            "gset" => Mon::Write(
+                Place::Global(text(alloc, "x")?, Path::Here),
+                Exp::Word(Word::new(32, 1)),
+            ),
+            "store" => Mon::Write(
+                Place::Stored(CType::Int(IntType::UInt), var(alloc, "p")?, Path::Here),
+                Exp::Word(Word::new(32, 1)),
+            ),
+            "pick" => Mon::Pick(Kind::Word(32)),
+            "call" => {
+                let mut arguments = Vec::new(alloc);
+                arguments.push(var(alloc, "x")?)?;
+                Mon::Call(text(alloc, "f")?, arguments)
+            }
+            _ => {
+                words.push(word)?;
+                continue;
+            }
+        };
+        stack.push(read)?;
     }
     popped(&mut stack)
 }
