@@ -75,15 +75,15 @@ carried us needed a h y k n = by_place (is_among y us) refl
   where
     by_place : (b : Bool) → is_among y us ≡ b → is_among y us ≡ true
     by_place true e = e
-    by_place false e = absurd (false≢true (sym h ∙ there (is_lost us needed) y a k (and_from (needed y) (not (is_among y us)) n (ap not e))))
+    by_place false e = absurd (false≢true (sym h ∙ there (is_lost us needed) y a k (and_from (not (is_among y us)) (needed y) (ap not e) n)))
 
 none_is_lost : (us : List Name) (needed : Name → Bool) (a : Simpl) → Carries us a needed → assigns_some (is_lost us needed) a ≡ false
 none_is_lost us needed a h = false_from_ne_true (assigns_some (is_lost us needed) a) (λ e. clash (some_passes (is_lost us needed) a e))
   where
     clash : Passes (is_lost us needed) (λ y. assigns y a) → ⊥
     clash p =
-        let parts = and_parts (needed p.name) (not (is_among p.name us)) p.passes in
-        false≢true (ap not (sym (h p.name p.assigned parts.0)) ∙ parts.1)
+        let parts = and_parts (not (is_among p.name us)) (needed p.name) p.passes in
+        false≢true (ap not (sym (h p.name p.assigned parts.1)) ∙ parts.0)
 
 pub none_lost : (us : List Name) (needed : Name → Bool) (a : Simpl) (b : Bool) → b ≡ assigns_some (is_lost us needed) a → (not b ≡ true) ↔ Carries us a needed
 none_lost us needed a b e = (

@@ -164,10 +164,10 @@ all_parameters ps m h y f = by_place (is_among y ps) refl
   where
     by_place : (b : Bool) → is_among y ps ≡ b → is_among y ps ≡ true
     by_place true e = e
-    by_place false e = absurd (false≢true (sym h ∙ free_there (is_stray m ps) y (and_from (is_free y m) (not (is_among y ps)) f (ap not e)) m f))
+    by_place false e = absurd (false≢true (sym h ∙ free_there (is_stray m ps) y (and_from (not (is_among y ps)) (is_free y m) (ap not e) f) m f))
 
 none_is_stray : (ps : List Name) (m : Mon) → AllFreeAmong ps m → (e : Exp) → is_stray m ps e ≡ true → ⊥
-none_is_stray ps m h (Var x) k = let p = and_parts (is_free x m) (not (is_among x ps)) k in false≢true (ap not (sym (h x p.0)) ∙ p.1)
+none_is_stray ps m h (Var x) k = let p = and_parts (not (is_among x ps)) (is_free x m) k in false≢true (ap not (sym (h x p.1)) ∙ p.0)
 none_is_stray ps m h e k = false≢true k
 
 pub no_strays : (ps : List Name) (m : Mon) (b : Bool) → b ≡ program_has (is_stray m ps) no_place m → (not b ≡ true) ↔ AllFreeAmong ps m

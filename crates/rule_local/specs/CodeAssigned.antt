@@ -22,6 +22,6 @@ assigns_some test (Catch a b) = assigns_some test a || assigns_some test b
 assigns_some test (While cs e a) = assigns_some test a
 assigns_some test (Call x f es) = target_passes test x
 
--- needed, and not among those that are handed on
+-- not among those that are handed on, and needed
 abbrev pub is_lost : List Name → (Name → Bool) → Name → Bool
-is_lost us needed y = needed y && not (is_among y us)
+is_lost us needed y = not (is_among y us) && needed y

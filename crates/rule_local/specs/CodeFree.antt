@@ -1,4 +1,4 @@
--- Names that are free in a program and are none of a function's parameters.
+-- Names that are none of a function's parameters and are free in a program.
 use Rattle.std.specs.Prelude.{Bool, false, not, ◌&&◌, List}
 use Rattle.c_values.specs.Name.{Name, is_among}
 use Rattle.ac_expr.specs.Expression.{Exp, Var}
@@ -6,5 +6,5 @@ use Rattle.monad_lang.specs.Program.{Mon}
 use Rattle.monad_lang.specs.Names.{is_free}
 
 abbrev pub is_stray : Mon → List Name → Exp → Bool
-is_stray m ps (Var x) = is_free x m && not (is_among x ps)
+is_stray m ps (Var x) = not (is_among x ps) && is_free x m
 is_stray m ps _ = false

@@ -28,7 +28,7 @@ pub(crate) trait NameTest {
         ensures { result ≡ holds self.now name.now };
 }
 
-/// A name that is free in the program, and that isn't handed on.
+/// A name that isn't handed on, and that is free in the program.
 #[derive(Clone, Copy)]
 struct IsLostAfterwards<'a> {
     handed_on: &'a [String],
@@ -45,11 +45,11 @@ impl NameTest for IsLostAfterwards<'_> {
         (λ y. is_free y (mon_of test.program.now)) x };
 
     fn holds(&self, name: &str) -> bool {
-        is_free(name, self.program) && !is_among(name, self.handed_on)
+        !is_among(name, self.handed_on) && is_free(name, self.program)
     }
 }
 
-/// A name that a loop looks at again or that is looked at afterwards, and that isn't handed on.
+/// A name that isn't handed on, and that a loop looks at again or that is looked at afterwards.
 #[derive(Clone, Copy)]
 struct IsLostInTurns<'a> {
     handed_on: &'a [String],
@@ -71,8 +71,8 @@ impl NameTest for IsLostInTurns<'_> {
         (map string_bytes test.outputs.now)) x };
 
     fn holds(&self, name: &str) -> bool {
-        is_needed(name, self.guard, self.turn, self.body, self.outputs)
-            && !is_among(name, self.handed_on)
+        !is_among(name, self.handed_on)
+            && is_needed(name, self.guard, self.turn, self.body, self.outputs)
     }
 }
 

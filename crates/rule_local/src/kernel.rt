@@ -1,11 +1,11 @@
 //! The kernel of the rules that lift locals.
 
-ghost use Rattle.std.specs.Prelude.{◌↔◌, IsTrue, map, string_bytes, true};
+ghost use Rattle.std.specs.Prelude.{◌↔◌, IsTrue, map, string_bytes};
 ghost use Rattle.simpl_lang.specs.CodeCommand.{simpl_of};
 ghost use Rattle.monad_lang.specs.CodeProgram.{mon_of};
+ghost use Rattle.monad_lang.specs.Reach.{IfTrue};
 ghost use Rattle.rule_trees.specs.RuleTree.{Checked, IsVerdict};
 ghost use Rattle.rule_local.specs.Rule.{whole};
-ghost use Rattle.monad_lang.specs.Reach.{IfTrue};
 ghost use Rattle.rule_local.specs.Table.{table, AllFreeAmong};
 ghost use Rattle.rule_local.specs.CodeRow.{claim};
 ghost use Rattle.rule_local.specs.CodeRule.{rule_of, tree_of, context_of};

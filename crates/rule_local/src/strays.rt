@@ -12,7 +12,7 @@ use crate::name_lists::is_bound;
 use ac_expr::{Binder, Exp, Test};
 use monad_lang::{Mon, NoPlace};
 
-/// A name that is free in the program, and no parameter.
+/// A name that is no parameter, and free in the program.
 #[derive(Clone, Copy)]
 struct IsStray<'a> {
     program: &'a Mon,
@@ -32,7 +32,7 @@ impl Test for IsStray<'_> {
     fn holds(&self, e: &Exp) -> bool {
         match e {
             Exp::Var(name) => {
-                is_free(name.as_str(), self.program) && !is_bound(name.as_str(), self.parameters)
+                !is_bound(name.as_str(), self.parameters) && is_free(name.as_str(), self.program)
             }
             _ => false,
         }
