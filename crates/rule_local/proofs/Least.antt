@@ -128,7 +128,7 @@ module _ (y : Name) where
   outputs_grow vs ws i h = in_vars y ws ∙ i y (sym (in_vars y vs) ∙ h)
 
   -- the expression where its local is an output, and the other outputs
-  with_exp : (x : Name) (e : Exp) (vs : List Name) → is_among x vs ≡ true → names y e ≡ true → is_in_some y (vars_with x e vs) ≡ true
+  pub with_exp : (x : Name) (e : Exp) (vs : List Name) → is_among x vs ≡ true → names y e ≡ true → is_in_some y (vars_with x e vs) ≡ true
   with_exp x e [] h k = absurd (false≢true h)
   with_exp x e (v ∷ vs) h k =
       either (same_name x v) (is_among x vs) h (λ t. or_left (names y (cond (same_name x v) e (Var v))) (is_in_some y (vars_with x e vs)) (here (same_name x v) t))
@@ -138,7 +138,7 @@ module _ (y : Name) where
       here true t = k
       here false t = absurd (false≢true t)
 
-  with_other : (x : Name) (e : Exp) (vs : List Name) → is_among y vs ≡ true → same_name x y ≡ false → is_in_some y (vars_with x e vs) ≡ true
+  pub with_other : (x : Name) (e : Exp) (vs : List Name) → is_among y vs ≡ true → same_name x y ≡ false → is_in_some y (vars_with x e vs) ≡ true
   with_other x e [] h k = absurd (false≢true h)
   with_other x e (v ∷ vs) h k =
       either (same_name y v) (is_among y vs) h (λ t. or_left (names y (cond (same_name x v) e (Var v))) (is_in_some y (vars_with x e vs)) (here t))
@@ -148,7 +148,7 @@ module _ (y : Name) where
       here t = subst (λ b. names y (cond b e (Var v)) ≡ true) (sym (ap (λ z. same_name x z) (sym (name_is y v t)) ∙ k)) t
 
   -- and nothing else
-  with_parts : (x : Name) (e : Exp) (vs : List Name) → is_in_some y (vars_with x e vs) ≡ true → (names y e ≡ true) ⊎ ((is_among y vs ≡ true) × (same_name x y ≡ false))
+  pub with_parts : (x : Name) (e : Exp) (vs : List Name) → is_in_some y (vars_with x e vs) ≡ true → (names y e ≡ true) ⊎ ((is_among y vs ≡ true) × (same_name x y ≡ false))
   with_parts x e [] h = absurd (false≢true h)
   with_parts x e (v ∷ vs) h =
       either (names y (cond (same_name x v) e (Var v))) (is_in_some y (vars_with x e vs)) h (here (same_name x v) refl) (λ k. later (with_parts x e vs k))
@@ -171,11 +171,11 @@ module _ (y : Name) where
   set_grows x e vs ws i false true h k n = with_other x e ws (i y (sym (in_vars y vs) ∙ n)) (false_from_ne_true (same_name x y) (λ t. true≢false (sym (subst (λ z. is_among z vs ≡ true) (sym (name_is x y t)) (sym (in_vars y vs) ∙ n)) ∙ h)))
   set_grows x e vs ws i false false h k n = outputs_grow vs ws i n
 
-  start_of : (us : List Name) → is_among y us ≡ true → is_in_start y (as_starts us) ≡ true
+  pub start_of : (us : List Name) → is_among y us ≡ true → is_in_start y (as_starts us) ≡ true
   start_of [] h = h
   start_of (x ∷ xs) h = either (same_name y x) (is_among y xs) h (or_left (same_name y x) (is_in_start y (as_starts xs))) (λ k. or_right (same_name y x) (is_in_start y (as_starts xs)) (start_of xs k))
 
-  start_is : (us : List Name) → is_in_start y (as_starts us) ≡ true → is_among y us ≡ true
+  pub start_is : (us : List Name) → is_in_start y (as_starts us) ≡ true → is_among y us ≡ true
   start_is [] h = h
   start_is (x ∷ xs) h = either (same_name y x) (is_in_start y (as_starts xs)) h (or_left (same_name y x) (is_among y xs)) (λ k. or_right (same_name y x) (is_among y xs) (start_is xs k))
 
