@@ -342,11 +342,11 @@ module _ (bs : List Binder) where
       let p = both a (first_owned a b o) in
       let q = both b (second_owned a b o) in record {
         sound = λ vs y. let m = is_free y (lifted bs a vs).right in
-          let l = live (names_of bs) a (among vs) y in
-          or_both (names y e || m) (is_free y (lifted bs b vs).right) (names y e || l) (live (names_of bs) b (among vs) y) (or_both (names y e) m (names y e) l (λ t. t) (p.sound vs y)) (q.sound vs y);
+            let l = live (names_of bs) a (among vs) y in
+            or_both (names y e || m) (is_free y (lifted bs b vs).right) (names y e || l) (live (names_of bs) b (among vs) y) (or_both (names y e) m (names y e) l (λ t. t) (p.sound vs y)) (q.sound vs y);
         complete = λ vs y. let m = is_free y (lifted bs a vs).right in
-          let l = live (names_of bs) a (among vs) y in
-          or_both (names y e || l) (live (names_of bs) b (among vs) y) (names y e || m) (is_free y (lifted bs b vs).right) (or_both (names y e) l (names y e) m (λ t. t) (p.complete vs y)) (q.complete vs y);
+            let l = live (names_of bs) a (among vs) y in
+            or_both (names y e || l) (live (names_of bs) b (among vs) y) (names y e || m) (is_free y (lifted bs b vs).right) (or_both (names y e) l (names y e) m (λ t. t) (p.complete vs y)) (q.complete vs y);
       }
   both (Guard g a) o =
       let p = both a o in record {
@@ -371,7 +371,7 @@ module _ (bs : List Binder) where
   pub seq_hands_on : (a b : Simpl) → AssignsThese bs a → AssignsThese bs b → (vs : List Name) →
       chosen (λ y. assigns y a && is_free y (lifted bs b vs).right) (names_of bs) ≡ carried (names_of bs) a (live (names_of bs) b (among vs))
   seq_hands_on a b o o' vs = let q = both b o' in chosen_same (λ z. assigns z a && is_free z (lifted bs b vs).right) (λ z. assigns z a && live (names_of bs) b (among vs) z) (names_of bs)
-        (λ y m. ap (λ t. assigns y a && t) (live_is_free b o' vs y))
+      (λ y m. ap (λ t. assigns y a && t) (live_is_free b o' vs y))
 
   pub loop_hands_on : (gs : List Condition) (e : Exp) (a : Simpl) → AssignsThese bs a → (vs : List Name) →
       handed_on (names_of bs) gs e a (λ us. (lifted bs a us).right) vs ≡ carried (names_of bs) a (live (names_of bs) (While gs e a) (among vs))

@@ -188,8 +188,8 @@ module _ (xs : List Name) where
         name = x;
         after = t.1;
         before =
-          or_left ((is_among x xs && same_name x x) && names y e) (not (same_name y x) && same_name x y)
-          (and_from (is_among x xs && same_name x x) (names y e) (and_from (is_among x xs) (same_name x x) t.0 (same_name-refl x)) s.1);
+            or_left ((is_among x xs && same_name x x) && names y e) (not (same_name y x) && same_name x y)
+            (and_from (is_among x xs && same_name x x) (names y e) (and_from (is_among x xs) (same_name x x) t.0 (same_name-refl x)) s.1);
       }))
       (λ k. let s = and_parts (not (same_name y x)) (p y) k in
       self (Set x e) p y s.1

@@ -1,2 +1,5 @@
 pub mod Live
 pub mod LiftedByLive
+pub mod CodeRows
+pub mod CodeNames
+pub mod CodeSpine

@@ -1,0 +1,16 @@
+-- Names of conditions as one.
+use Rattle.std.proofs.Common.{◌≡◌, Bool, true, false, ◌||◌, List, [], ◌∷◌, refl, ap}
+use Rattle.c_values.specs.Name.{Name}
+use Rattle.ac_expr.specs.Facts.{names}
+use Rattle.simpl_lang.specs.Command.{Condition}
+use Rattle.simpl_lang.specs.Names.{conditions_name}
+use Rattle.rule_local.specs.Table.{conj}
+
+none_more : (b : Bool) → (b || false) ≡ b
+none_more true = refl
+none_more false = refl
+
+pub conj_names : (y : Name) (gs : List Condition) → conditions_name y gs ≡ names y (conj gs)
+conj_names y [] = refl
+conj_names y (g ∷ []) = none_more (names y g.exp)
+conj_names y (g ∷ d ∷ gs) = ap (λ b. names y g.exp || b) (conj_names y (d ∷ gs))

@@ -1,0 +1,6 @@
+use Rattle.ac_expr.specs.CodeExpression.{exp_of}
+use Rattle.ac_expr.specs.Facts.{names}
+use Rattle.local_lift.proofs.liveness.before_set.Goals as goal
+
+pub returns : goal.returns
+returns c = c.in_ok-before.ensures (λ y. names y (exp_of c.args.value.now)) c.in_ok-named.ensures
