@@ -5,3 +5,4 @@ pub mod RowLaws
 pub mod SpineLaws
 pub mod ConjNames
 pub mod MatrixLaws
+pub mod ListLaws

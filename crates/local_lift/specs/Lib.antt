@@ -3,3 +3,5 @@ pub mod LiftedByLive
 pub mod CodeRows
 pub mod CodeNames
 pub mod CodeSpine
+pub mod CodeLists
+pub mod CodeLifted

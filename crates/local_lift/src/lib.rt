@@ -3,6 +3,8 @@
 
 mod changes;
 mod laws;
+mod lifted;
+mod lists;
 mod liveness;
 mod names;
 mod rows;

@@ -1,0 +1,50 @@
+-- One more of a list, and the names that are carried.
+use Rattle.std.proofs.Common.{◌≡◌, Bool, true, false, cond, ◌&&◌, List, [], ◌∷◌, ◌++◌, map, string_bytes, refl, sym, ap, ◌∙◌}
+use Rattle.c_values.specs.Name.{Name}
+use Rattle.ac_expr.specs.Expression.{Exp, And}
+use Rattle.ac_expr.specs.declared.signatures.Binder as B
+use Rattle.simpl_lang.specs.Command.{Condition, Simpl}
+use Rattle.rule_local.specs.Assigned.{assigns}
+use Rattle.rule_local.specs.Table.{conj}
+use Rattle.local_lift.specs.CodeNames.{names}
+use Rattle.local_lift.specs.CodeLists.{carried_in, conj_before}
+use Rattle.local_lift.specs.CodeRows.{marks}
+use Rattle.local_lift.specs.LiftedByLive.{carried}
+
+pub mapped_push : {A B : Type 0} (f : A → B) (xs : List A) (x : A) (ys : List B) → map f (xs ++ x ∷ []) ++ ys ≡ map f xs ++ f x ∷ ys
+mapped_push f [] x ys = refl
+mapped_push f (a ∷ xs) x ys = ap (λ r. f a ∷ r) (mapped_push f xs x ys)
+
+pub carried_here : (a : Simpl) (b : B.Binder) (bs : List B.Binder) (f : Bool) (fs : List Bool) → assigns (string_bytes b.name) a ≡ true → f ≡ true → carried_in a (b ∷ bs) (f ∷ fs) ≡ string_bytes b.name ∷ carried_in a bs fs
+carried_here a b bs f fs h k = ap (λ t. cond (t && f) (string_bytes b.name ∷ carried_in a bs fs) (carried_in a bs fs)) h ∙ ap (λ t. cond t (string_bytes b.name ∷ carried_in a bs fs) (carried_in a bs fs)) k
+
+pub carried_later : (a : Simpl) (b : B.Binder) (bs : List B.Binder) (f : Bool) (fs : List Bool) → (f && assigns (string_bytes b.name) a) ≡ false → carried_in a (b ∷ bs) (f ∷ fs) ≡ carried_in a bs fs
+carried_later a b bs f fs h = by_tests (assigns (string_bytes b.name) a) f h
+  where
+    by_tests : (s t : Bool) → (t && s) ≡ false → cond (s && t) (string_bytes b.name ∷ carried_in a bs fs) (carried_in a bs fs) ≡ carried_in a bs fs
+    by_tests true true h = cc
+    by_tests true false h = refl
+    by_tests false t h = refl
+
+pub carried_marks : (a : Simpl) (p : Name → Bool) (bs : List B.Binder) → carried_in a bs (marks p bs) ≡ carried (names bs) a p
+carried_marks a p [] = refl
+carried_marks a p (b ∷ bs) = ap (λ r. cond (assigns (string_bytes b.name) a && p (string_bytes b.name)) (string_bytes b.name ∷ r) r) (carried_marks a p bs)
+
+pub conj_last : (cs : List Condition) (c : Condition) → conj (cs ++ c ∷ []) ≡ conj_before cs c.exp
+conj_last [] c = refl
+conj_last (x ∷ []) c = refl
+conj_last (x ∷ y ∷ cs) c = ap (λ e. And x.exp e) (conj_last (y ∷ cs) c)
+
+pub before_last : (cs : List Condition) (c : Condition) (e : Exp) → conj_before (cs ++ c ∷ []) e ≡ conj_before cs (And c.exp e)
+before_last [] c e = refl
+before_last (x ∷ cs) c e = ap (λ d. And x.exp d) (before_last cs c e)
+
+map_more : {A B : Type 0} (f : A → B) (xs : List A) (x : A) → map f (xs ++ x ∷ []) ≡ map f xs ++ f x ∷ []
+map_more f [] x = refl
+map_more f (a ∷ xs) x = ap (λ r. f a ∷ r) (map_more f xs x)
+
+pub conj_of_last : {A : Type 0} (f : A → Condition) (all init : List A) (last : A) (w : Exp) → all ≡ init ++ last ∷ [] → w ≡ (f last).exp → conj_before (map f init) w ≡ conj (map f all)
+conj_of_last f all init last w e h = ap (conj_before (map f init)) h ∙ sym (conj_last (map f init) (f last)) ∙ ap conj (sym (map_more f init last)) ∙ ap (λ cs. conj (map f cs)) (sym e)
+
+pub before_of_last : {A : Type 0} (f : A → Condition) (all init : List A) (c : A) (v w : Exp) → all ≡ init ++ c ∷ [] → v ≡ And (f c).exp w → conj_before (map f init) v ≡ conj_before (map f all) w
+before_of_last f all init c v w e h = ap (conj_before (map f init)) h ∙ sym (before_last (map f init) (f c) w) ∙ ap (λ cs. conj_before cs w) (sym (map_more f init c)) ∙ ap (λ cs. conj_before (map f cs) w) (sym e)

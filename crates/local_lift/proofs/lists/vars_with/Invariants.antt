@@ -1,0 +1,11 @@
+-- What is made so far, and what is left, are all.
+use Rattle.std.proofs.Common.{◌≡◌, ◌++◌, length, map, string_bytes}
+use Rattle.ac_expr.specs.CodeExpression.{exp_of}
+use Rattle.rule_local.specs.Table.{vars_with}
+use Rattle.local_lift.proofs.lists.vars_with.Given as goal
+
+abbrev pub invariant-along : goal.invariant-along
+invariant-along l = map exp_of l.exps.items ++ vars_with l.taking (exp_of l.value) (map string_bytes l.rest) ≡ vars_with l.taking (exp_of l.value) (map string_bytes l.names)
+
+abbrev pub decreases-along : goal.decreases-along
+decreases-along l = length l.rest
