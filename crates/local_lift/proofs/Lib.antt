@@ -6,3 +6,6 @@ pub mod SpineLaws
 pub mod ConjNames
 pub mod MatrixLaws
 pub mod ListLaws
+pub mod LiftSteps
+pub mod ZeroLaws
+pub mod BodyLifted

@@ -1,13 +1,14 @@
 -- One more of a list, and the names that are carried.
-use Rattle.std.proofs.Common.{◌≡◌, Bool, true, false, cond, ◌&&◌, List, [], ◌∷◌, ◌++◌, map, string_bytes, refl, sym, ap, ◌∙◌}
-use Rattle.c_values.specs.Name.{Name}
+use Rattle.std.proofs.Common.{◌≡◌, Bool, true, false, cond, not, ◌&&◌, List, [], ◌∷◌, ◌++◌, map, length, string_bytes, arith, refl, sym, ap, ◌∙◌}
+use Rattle.c_values.specs.Name.{Name, is_among}
 use Rattle.ac_expr.specs.Expression.{Exp, And}
 use Rattle.ac_expr.specs.declared.signatures.Binder as B
 use Rattle.simpl_lang.specs.Command.{Condition, Simpl}
 use Rattle.rule_local.specs.Assigned.{assigns}
 use Rattle.rule_local.specs.Table.{conj}
+use Rattle.rule_local.specs.Lifted.{chosen}
 use Rattle.local_lift.specs.CodeNames.{names}
-use Rattle.local_lift.specs.CodeLists.{carried_in, conj_before}
+use Rattle.local_lift.specs.CodeLists.{carried_in, conj_before, begun_in}
 use Rattle.local_lift.specs.CodeRows.{marks}
 use Rattle.local_lift.specs.LiftedByLive.{carried}
 
@@ -48,3 +49,21 @@ conj_of_last f all init last w e h = ap (conj_before (map f init)) h ∙ sym (co
 
 pub before_of_last : {A : Type 0} (f : A → Condition) (all init : List A) (c : A) (v w : Exp) → all ≡ init ++ c ∷ [] → v ≡ And (f c).exp w → conj_before (map f init) v ≡ conj_before (map f all) w
 before_of_last f all init c v w e h = ap (conj_before (map f init)) h ∙ sym (before_last (map f init) (f c) w) ∙ ap (λ cs. conj_before cs w) (sym (map_more f init c)) ∙ ap (λ cs. conj_before (map f cs) w) (sym e)
+
+pub begun_here : (ps : List Name) (b : B.Binder) (bs : List B.Binder) (f : Bool) (fs : List Bool) → (f && not (is_among (string_bytes b.name) ps)) ≡ true → begun_in ps (b ∷ bs) (f ∷ fs) ≡ string_bytes b.name ∷ begun_in ps bs fs
+begun_here ps b bs f fs h = ap (λ t. cond t (string_bytes b.name ∷ begun_in ps bs fs) (begun_in ps bs fs)) h
+
+pub begun_later : (ps : List Name) (b : B.Binder) (bs : List B.Binder) (f : Bool) (fs : List Bool) → (f && not (is_among (string_bytes b.name) ps)) ≡ false → begun_in ps (b ∷ bs) (f ∷ fs) ≡ begun_in ps bs fs
+begun_later ps b bs f fs h = ap (λ t. cond t (string_bytes b.name ∷ begun_in ps bs fs) (begun_in ps bs fs)) h
+
+pub begun_marks : (ps : List Name) (p : Name → Bool) (bs : List B.Binder) → begun_in ps bs (marks p bs) ≡ chosen (λ y. p y && not (is_among y ps)) (names bs)
+begun_marks ps p [] = refl
+begun_marks ps p (b ∷ bs) = ap (λ r. cond (p (string_bytes b.name) && not (is_among (string_bytes b.name) ps)) (string_bytes b.name ∷ r) r) (begun_marks ps p bs)
+
+pub mapped_none : {A B : Type 0} (f : A → B) (xs : List A) → map f xs ≡ [] → length xs ≡ 0
+mapped_none f [] h = refl
+mapped_none f (x ∷ xs) h = let clash : f x ∷ map f xs ≡ [] = h in cc
+
+pub no_length : {A : Type 0} (xs : List A) → length xs ≡ 0 → xs ≡ []
+no_length [] h = refl
+no_length (x ∷ xs) h = absurd (omega (arith, h))

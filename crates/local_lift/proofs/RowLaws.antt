@@ -204,3 +204,15 @@ spread_row bs leads g reached own row from all e k h n p m =
 -- a row more, and then the rest
 pub rows_more : (P : List Row → Type 0) (rs all : List Row) (r : Row) (others : List Row) → all ≡ rs ++ r ∷ [] → P (rs ++ r ∷ others) → P (all ++ others)
 rows_more P rs all r others e h = subst P (sym (ap (λ xs. xs ++ others) e ∙ append_assoc rs (r ∷ []) others)) h
+
+-- the only row
+pub only_moves : (bs : List B.Binder) (t : Change) (r : Row) (ss xs : List Row) (x : Row) → Moves bs t (r ∷ []) ss → ss ≡ xs ++ x ∷ [] → RowMoves bs t r.flags.items x.flags.items
+only_moves bs t r [] xs x h e = absurd h
+only_moves bs t r (s ∷ []) [] x h e = let same : s ∷ [] ≡ x ∷ [] = e in let first : s ≡ x = cc in subst (λ (z : Row). RowMoves bs t r.flags.items z.flags.items) first h.0
+only_moves bs t r (s ∷ []) (y ∷ []) x h e = let clash : s ∷ [] ≡ y ∷ x ∷ [] = e in cc
+only_moves bs t r (s ∷ []) (y ∷ z ∷ ys) x h e = let clash : s ∷ [] ≡ y ∷ z ∷ (ys ++ x ∷ []) = e in cc
+only_moves bs t r (s ∷ q ∷ ss) xs x h e = absurd h.1
+
+pub no_moves : (bs : List B.Binder) (t : Change) (r : Row) (ss : List Row) → Moves bs t (r ∷ []) ss → ss ≡ [] → ⊥
+no_moves bs t r [] h e = h
+no_moves bs t r (s ∷ ss) h e = let clash : s ∷ ss ≡ [] = e in cc

@@ -5,3 +5,4 @@ pub mod CodeNames
 pub mod CodeSpine
 pub mod CodeLists
 pub mod CodeLifted
+pub mod Ready

@@ -4,10 +4,13 @@
 mod changes;
 mod laws;
 mod lifted;
+mod lifting;
 mod lists;
 mod liveness;
 mod names;
 mod rows;
 mod spine;
+mod translation;
 
 pub use laws::lifted_by_live;
+pub use translation::translate;

@@ -90,7 +90,7 @@ fn then_given(
 ) -> Result<Box<Mon>, AllocError>
     ensures { IfOk result (λ m. mon_of m.value
         ≡ M.Bind (mon_of first) (map string_bytes names.items)
-            (M.Ret (vars (map string_bytes outputs.now)))) }
+        (M.Ret (vars (map string_bytes outputs.now)))) }
 {
     let first = boxed(alloc, first)?;
     let last = given(alloc, outputs)?;
@@ -127,7 +127,7 @@ pub(crate) fn set(
 ) -> Result<Lifted, AllocError>
     ensures { IfOk result (λ l. lifted_of l
         ≡ spec.set_lifted (is_among name.now (map string_bytes outputs.now)) name.now
-            (exp_of value.now) (map string_bytes outputs.now)) }
+        (exp_of value.now) (map string_bytes outputs.now)) }
 {
     if is_among(name, outputs) {
         let exps = vars_with(alloc, name, value, outputs)?;
@@ -155,8 +155,8 @@ pub(crate) fn global_set(
 ) -> Result<Lifted, AllocError>
     ensures { IfOk result (λ l. lifted_of l
         ≡ spec.leaf rules.Global
-            (M.Bind (M.Write (M.Global (string_bytes name.now) (path_of path.now)) (exp_of value.now)) []
-                (M.Ret (vars (map string_bytes outputs.now))))) }
+        (M.Bind (M.Write (M.Global (string_bytes name.now) (path_of path.now)) (exp_of value.now)) []
+        (M.Ret (vars (map string_bytes outputs.now))))) }
 {
     let value = value.boxed_copy(alloc)?;
     let place = Place::Global(name.clone()?, path.copy(alloc)?);
@@ -179,9 +179,9 @@ pub(crate) fn stored(
 ) -> Result<Lifted, AllocError>
     ensures { IfOk result (λ l. lifted_of l
         ≡ spec.leaf rules.Memory
-            (M.Bind
-                (M.Write (M.Stored (type_of ty.now) (exp_of pointer.now) (path_of path.now))
-                    (exp_of value.now)) [] (M.Ret (vars (map string_bytes outputs.now))))) }
+        (M.Bind
+        (M.Write (M.Stored (type_of ty.now) (exp_of pointer.now) (path_of path.now))
+        (exp_of value.now)) [] (M.Ret (vars (map string_bytes outputs.now))))) }
 {
     let value = value.boxed_copy(alloc)?;
     let pointer = pointer.boxed_copy(alloc)?;
@@ -204,7 +204,7 @@ pub(crate) fn picked(
 ) -> Result<Lifted, AllocError>
     ensures { IfOk result (λ l. lifted_of l
         ≡ by_live (map binder_of locals.now) (plain.Pick (string_bytes name.now))
-            (map string_bytes outputs.now)) }
+        (map string_bytes outputs.now)) }
 {
     let first = Mon::Pick(kind_held(locals, name.as_str()));
     let names = alone(alloc, name)?;
@@ -225,8 +225,8 @@ pub(crate) fn called(
 ) -> Result<Lifted, AllocError>
     ensures { IfOk result (λ l. (bs : List sign.Binder) → lifted_of l
         ≡ by_live bs
-            (plain.Call (option_map string_bytes target.now) (string_bytes function.now)
-                (map exp_of arguments.now)) (map string_bytes outputs.now)) }
+        (plain.Call (option_map string_bytes target.now) (string_bytes function.now)
+        (map exp_of arguments.now)) (map string_bytes outputs.now)) }
 {
     let arguments = copy_exps(alloc, arguments)?;
     let first = Mon::Call(function.clone()?, arguments);
@@ -258,8 +258,8 @@ pub(crate) fn in_sequence(
 ) -> Result<Lifted, AllocError>
     ensures { IfOk result (λ l. lifted_of l
         ≡ spec.over_two rules.Seq
-            (M.Bind (lifted_of first).right (map string_bytes names.items) (lifted_of last).right)
-            (lifted_of first) (lifted_of last)) }
+        (M.Bind (lifted_of first).right (map string_bytes names.items) (lifted_of last).right)
+        (lifted_of first) (lifted_of last)) }
 {
     let Lifted { right: a, tree: s } = first;
     let Lifted { right: b, tree: t } = last;
@@ -276,8 +276,8 @@ pub(crate) fn guarded(
 ) -> Result<Lifted, AllocError>
     ensures { IfOk result (λ l. lifted_of l
         ≡ spec.over_one rules.Guard
-            (M.Bind (M.Guard (condition_of condition.now).exp) [] (lifted_of last).right)
-            (lifted_of last)) }
+        (M.Bind (M.Guard (condition_of condition.now).exp) [] (lifted_of last).right)
+        (lifted_of last)) }
 {
     let Lifted { right: b, tree: t } = last;
     let tree = over_one(alloc, Rule::Guard, t)?;
@@ -296,8 +296,8 @@ pub(crate) fn tested(
 ) -> Result<Lifted, AllocError>
     ensures { IfOk result (λ l. lifted_of l
         ≡ spec.over_two rules.Cond
-            (M.If (exp_of test.now) (lifted_of first).right (lifted_of last).right)
-            (lifted_of first) (lifted_of last)) }
+        (M.If (exp_of test.now) (lifted_of first).right (lifted_of last).right)
+        (lifted_of first) (lifted_of last)) }
 {
     let Lifted { right: a, tree: s } = first;
     let Lifted { right: b, tree: t } = last;
@@ -318,7 +318,7 @@ pub(crate) fn looped(
 ) -> Result<Lifted, AllocError>
     ensures { IfOk result (λ l. lifted_of l
         ≡ spec.while_lifted (map condition_of conditions.now) (exp_of test.now)
-            (map string_bytes outputs.now) (map string_bytes names.items) (λ us. lifted_of body)) }
+        (map string_bytes outputs.now) (map string_bytes names.items) (λ us. lifted_of body)) }
 {
     let Lifted { right: b, tree: t } = body;
     let tree = over_one(alloc, Rule::While, t)?;
@@ -327,5 +327,24 @@ pub(crate) fn looped(
     let starts = starts(alloc, names.as_slice())?;
     let first = Mon::Loop(starts, Box::into_inner(guard), Box::into_inner(test), b);
     let right = then_given(alloc, first, names, outputs)?;
+    Ok(Lifted { right, tree })
+}
+
+/// A start: names that begin with these values, and then a program.
+pub(crate) fn starting(
+    alloc: Global,
+    names: Vec<String>,
+    values: Vec<Exp>,
+    last: Lifted,
+) -> Result<Lifted, AllocError>
+    ensures { IfOk result (λ l. lifted_of l
+        ≡ spec.over_one rules.Start
+        (M.Bind (M.Ret (map exp_of values.items)) (map string_bytes names.items)
+        (lifted_of last).right) (lifted_of last)) }
+{
+    let Lifted { right: b, tree: t } = last;
+    let tree = over_one(alloc, Rule::Start, t)?;
+    let first = boxed(alloc, Mon::Ret(values))?;
+    let right = boxed(alloc, Mon::Bind(first, names, b))?;
     Ok(Lifted { right, tree })
 }

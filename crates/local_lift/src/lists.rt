@@ -94,10 +94,7 @@ pub(crate) fn starts(alloc: Global, names: &[String]) -> Result<Vec<Start>, Allo
 }
 
 /// The conditions as one.
-pub(crate) fn conjunction(
-    alloc: Global,
-    conditions: &[Condition],
-) -> Result<Box<Exp>, AllocError>
+pub(crate) fn conjunction(alloc: Global, conditions: &[Condition]) -> Result<Box<Exp>, AllocError>
     ensures { IfOk result (λ e. exp_of e.value ≡ conj (map condition_of conditions.now)) }
 {
     let Some((last, first)) = conditions.split_last() else {
@@ -126,10 +123,8 @@ fn assigns(name: &str, c: &Simpl) -> bool
     let mut rest = c;
     'along: loop {
         match rest {
-            Simpl::Skip
-            | Simpl::Throw
-            | Simpl::SetGlobal(_, _, _)
-            | Simpl::Store(_, _, _, _) => return false,
+            Simpl::Skip | Simpl::Throw | Simpl::SetGlobal(_, _, _) | Simpl::Store(_, _, _, _) =>
+                return false,
             Simpl::Set(other, _) | Simpl::Pick(other) => return name == other.as_str(),
             Simpl::Call(target, _, _) => return is_target(name, target),
             Simpl::Seq(first, last) | Simpl::Cond(_, first, last) | Simpl::Catch(first, last) => {

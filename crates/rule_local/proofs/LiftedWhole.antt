@@ -64,7 +64,7 @@ more_zeros bs x xs k e h = record {
   unnamed = λ y. ap (λ b. b || is_in_some y h.all) (zero_unnamed y k) ∙ h.unnamed y;
 }
 
-have_zeros : (bs : List Binder) (xs : List Name) → ((y : Name) → is_among y xs ≡ true → is_among y (names_of bs) ≡ true) → HaveZeros bs xs
+pub have_zeros : (bs : List Binder) (xs : List Name) → ((y : Name) → is_among y xs ≡ true → is_among y (names_of bs) ≡ true) → HaveZeros bs xs
 have_zeros bs [] h = record { all = []; are = refl; unnamed = λ y. refl }
 have_zeros bs (x ∷ xs) h =
     let k = local_kind bs x (h x (or_left (same_name x x) (is_among x xs) (same_name-refl x))) in
