@@ -1,13 +1,15 @@
 //! Tests of generation, from texts. `worked_rows::generation_rows` has a row for each form of an expression and of a statement.
 
+use ac_expr::Signature;
 use c_lex::tokens;
 use c_parse::parse;
 use c_types::check_unit;
 use c_values::Target;
 use exception_elim::translate;
 use rule_exn::check;
+use rule_local::Context;
 use simpl_gen::{default_modes, generate};
-use simpl_lang::{SimplUnit, commands, is_flat};
+use simpl_lang::{Simpl, SimplFn, SimplUnit, commands, is_flat};
 use std::alloc::{AllocError, Global};
 use std::test::Fail;
 
@@ -119,11 +121,33 @@ fn deep_types_are_generated(rt: HostRuntime) -> Result<(), Fail> {
     Ok(())
 }
 
-// Whether the rules take each body to its translation, in which nothing is thrown.
-fn lose_exceptions(alloc: Global, u: &SimplUnit) -> Result<bool, Fail> {
-    for f in &u.functions {
-        let (right, tree) = translate(alloc, &f.body)?;
-        if check(&tree, &f.body, &right).is_err() || !is_flat(&right) {
+// Whether the rules take a flat body to a program that binds its locals.
+fn lifts_locals(
+    alloc: Global,
+    flat: &Simpl,
+    f: &SimplFn,
+    signature: &Signature,
+) -> Result<bool, Fail> {
+    let context = Context {
+        locals: &f.locals,
+        parameters: &signature.params,
+    };
+    let mut outputs = Vec::new(alloc);
+    if signature.result.is_some() {
+        outputs.push(String::from_str(alloc, "$ret")?)?;
+    }
+    let (program, tree) = local_lift::translate(alloc, flat, context, &outputs)?;
+    Ok(rule_local::check(&tree, flat, &program, &outputs, context).is_ok() && program.is_bytes())
+}
+
+// Whether the rules take each body to its translation, in which nothing is thrown, and that to a program on bytes.
+fn become_programs(alloc: Global, u: &SimplUnit) -> Result<bool, Fail> {
+    for (f, signature) in u.functions.iter().zip(&u.signatures) {
+        let (flat, tree) = translate(alloc, &f.body)?;
+        if check(&tree, &f.body, &flat).is_err() || !is_flat(&flat) {
+            return Ok(false);
+        }
+        if !lifts_locals(alloc, &flat, f, signature)? {
             return Ok(false);
         }
     }
@@ -131,7 +155,7 @@ fn lose_exceptions(alloc: Global, u: &SimplUnit) -> Result<bool, Fail> {
 }
 
 #[test]
-fn bodies_lose_their_exceptions(rt: HostRuntime) -> Result<(), Fail> {
+fn bodies_lose_their_exceptions_and_locals(rt: HostRuntime) -> Result<(), Fail> {
     let alloc = rt.alloc();
     let texts = [
         "unsigned f(void){return 7u;}",
@@ -144,10 +168,10 @@ fn bodies_lose_their_exceptions(rt: HostRuntime) -> Result<(), Fail> {
     ];
     for text in texts {
         let u = generated(alloc, text, &[])?;
-        assert!(rt; lose_exceptions(alloc, &u)?, "{text}");
+        assert!(rt; become_programs(alloc, &u)?, "{text}");
     }
     let long = functions(alloc, 4)?;
     let u = generated(alloc, long.as_str(), &[])?;
-    assert!(rt; lose_exceptions(alloc, &u)?);
+    assert!(rt; become_programs(alloc, &u)?);
     Ok(())
 }
