@@ -1,12 +1,6 @@
-//! The tests of commands and programs, and of the rules that take one to another, each by itself, through its public calls.
+//! The tests of commands and programs, each by itself, through its public calls.
 #![tactic(auto)]
 
-#[cfg(test)]
-mod exceptions;
-#[cfg(test)]
-mod locals;
-#[cfg(test)]
-mod notation;
 #[cfg(test)]
 mod program_sequences;
 #[cfg(test)]

@@ -238,18 +238,22 @@ fn within(alloc: Global, before: &str, after: &str, times: u32) -> Result<Simpl,
     command(alloc, words.as_str())
 }
 
-// A straight line, nested loops that are left, and nested choices.
+// A straight line, nested loops that are left, and nested choices, of 100, 200, 400 and 800 commands.
 #[test]
 fn commands_of_many_sizes(rt: HostRuntime) -> Result<(), Fail> {
     let alloc = rt.alloc();
     let shapes = [
-        ("seq set ", "", 2u32),
-        ("catch while catch seq cond throw skip ", " skip skip", 9),
-        ("cond seq set ", " skip", 4),
+        ("seq set ", "", [50u32, 100, 200, 400]),
+        (
+            "catch while catch seq cond throw skip ",
+            " skip skip",
+            [11, 22, 44, 89],
+        ),
+        ("cond seq set ", " skip", [25, 50, 100, 200]),
     ];
-    for (before, after, size) in shapes {
-        for commands in [100u32, 200, 400, 800] {
-            let c = within(alloc, before, after, commands / size)?;
+    for (before, after, sizes) in shapes {
+        for times in sizes {
+            let c = within(alloc, before, after, times)?;
             assert!(rt; is_taken(alloc, &c)?, "{before}");
         }
     }
