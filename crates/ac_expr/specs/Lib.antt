@@ -25,6 +25,7 @@ pub mod CodeSignature
 pub mod CodeFault
 pub mod CodeScene
 pub mod Facts
+pub mod Known
 pub mod CodeFacts
 pub mod GuardKind
 pub mod Machine
