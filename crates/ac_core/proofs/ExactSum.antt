@@ -10,12 +10,12 @@ use Rattle.c_values.specs.Word.{word}
 use Rattle.c_values.specs.Layout.{StructDef}
 use Rattle.c_memory.specs.Memory.{Memory}
 use Rattle.c_memory.specs.Heap.{Heap, OnBytes}
-use Rattle.ac_expr.specs.Expression.{Exp, Var, NumberLit, Arith, Between}
-use Rattle.ac_expr.specs.Sort.{Numbers}
-use Rattle.ac_expr.specs.Evaluation as E
-use Rattle.ac_expr.specs.Form.{has, is_load, is_word_arithmetic}
-use Rattle.ac_expr.specs.Signature.{bound, no_env}
-use Rattle.ac_expr.specs.GuardKind as K
+use Rattle.expression_lang.specs.Expression.{Exp, Var, NumberLit, Arith, Between}
+use Rattle.expression_lang.specs.Sort.{Numbers}
+use Rattle.expression_lang.specs.Evaluation as E
+use Rattle.expression_lang.specs.Form.{has, is_load, is_word_arithmetic}
+use Rattle.expression_lang.specs.Signature.{bound, no_env}
+use Rattle.expression_lang.specs.GuardKind as K
 use Rattle.monad_lang.specs.Program.{Place, Mon, Ret, Bind}
 use Rattle.monad_lang.specs.Form.{program_has, is_stored, no_place, is_numbers}
 use Rattle.monad_lang.specs.Run as M
@@ -23,7 +23,7 @@ use Rattle.c_lang.specs.Typed as C
 use Rattle.c_meaning.specs.CValue as V
 use Rattle.c_meaning.specs.Kinds.{variables}
 use Rattle.exactness.specs.Exact.{Begin, heap_for, ExactFrom, Exact, IsExact, ArePrograms, AreProgramsOf}
-use Rattle.ac_expr.specs.States.{state_with}
+use Rattle.expression_lang.specs.States.{state_with}
 use Rattle.c_meaning.specs.Fitting.{AreOfTypes}
 use Rattle.ac_core.specs.Answer.{AreInNumbers}
 use Rattle.ac_core.specs.Sum.{Sum, Named, Constant, Converted, Plus, SumFunction, IsSum, layout, c_sum, c_parameter, typed_fn_of, typed_unit_of, levels, constant, exp_of_sum, guard, guarded, body, parameter, final_fn_of, final_unit_of}

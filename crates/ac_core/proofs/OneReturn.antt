@@ -8,12 +8,12 @@ use Rattle.c_values.specs.Layout.{StructDef}
 use Rattle.c_values.specs.Value.{Value, Number}
 use Rattle.c_memory.specs.Memory.{Memory}
 use Rattle.c_memory.specs.Heap.{Heap, OnBytes, OnTypes}
-use Rattle.ac_expr.specs.Sort.{Level, Bytes, Numbers, NatKind}
-use Rattle.ac_expr.specs.Evaluation as E
-use Rattle.ac_expr.specs.View.{views_at}
-use Rattle.ac_expr.specs.Signature.{kinds_of, no_env}
-use Rattle.ac_expr.specs.GuardKind as K
-use Rattle.ac_expr.specs.Machine.{Machine, machine_with, Returned}
+use Rattle.expression_lang.specs.Sort.{Level, Bytes, Numbers, NatKind}
+use Rattle.expression_lang.specs.Evaluation as E
+use Rattle.expression_lang.specs.View.{views_at}
+use Rattle.expression_lang.specs.Signature.{kinds_of, no_env}
+use Rattle.expression_lang.specs.GuardKind as K
+use Rattle.expression_lang.specs.Machine.{Machine, machine_with, Returned}
 use Rattle.monad_lang.specs.Program.{Mon, FinalFn, FinalUnit}
 use Rattle.monad_lang.specs.Run as M
 use Rattle.c_lang.specs.Typed as C
@@ -22,7 +22,7 @@ use Rattle.c_meaning.specs.CRun as R
 use Rattle.c_meaning.specs.Kinds.{variables}
 use Rattle.c_memory.specs.Footprint.{KeepsMemory}
 use Rattle.exactness.specs.Exact.{Begin, c_ends, program_ends, Fails, IsUndefined, seen, ReturnsAs, ExactFrom}
-use Rattle.ac_expr.specs.States.{state_with}
+use Rattle.expression_lang.specs.States.{state_with}
 use Rattle.ac_core.specs.Sum.{unsigned_type, layout, c_parameter, parameter, levels}
 use Rattle.ac_core.proofs.Unsigned.{bits, same_itself, c_bound, m_bound, context}
 

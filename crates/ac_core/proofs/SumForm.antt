@@ -6,10 +6,10 @@ use Rattle.std.proofs.lemmas.Slice.Eq.{bytes_eq-Decides}
 use Rattle.c_values.specs.Name.{Name, same_name, with_name, is_among, are_distinct}
 use Rattle.c_values.specs.Word.{word}
 use Rattle.c_values.specs.Layout.{StructDef, IsLayout}
-use Rattle.ac_expr.specs.Form.{has, is_part_of_value}
-use Rattle.ac_expr.specs.Sort.{Scalar, NumberSort, sort_of, sort_of_kind, are_kinds, number_sort}
-use Rattle.ac_expr.specs.Sorted.{program_sort, names_with}
-use Rattle.ac_expr.specs.Signature.{names_of, kinds_of}
+use Rattle.expression_lang.specs.Form.{has, is_part_of_value}
+use Rattle.expression_lang.specs.Sort.{Scalar, NumberSort, sort_of, sort_of_kind, are_kinds, number_sort}
+use Rattle.expression_lang.specs.Sorted.{program_sort, names_with}
+use Rattle.expression_lang.specs.Signature.{names_of, kinds_of}
 use Rattle.monad_lang.specs.Program.{Mon, Ret, Bind}
 use Rattle.monad_lang.specs.Sorted.{Setting, scalars_given, setting_of, is_fn_sorted, IsWellFormed}
 use Rattle.typing_laws.proofs.Tests.{both, left, right}

@@ -12,12 +12,12 @@ use Rattle.c_values.specs.Number.{Add, number_op, is_between}
 use Rattle.c_values.specs.Value.{Value, Bits, Number, Truth, Parts, number_in}
 use Rattle.c_values.specs.Path.{IsBits}
 use Rattle.c_values.specs.Layout.{StructDef}
-use Rattle.ac_expr.specs.Expression.{Exp, Arith, Between}
-use Rattle.ac_expr.specs.Sort.{Level, Bytes, Numbers, NatKind}
-use Rattle.ac_expr.specs.Evaluation as E
-use Rattle.ac_expr.specs.View.{view_at, views_at}
-use Rattle.ac_expr.specs.Signature.{names_of, kinds_of, bound}
-use Rattle.ac_expr.specs.GuardKind as K
+use Rattle.expression_lang.specs.Expression.{Exp, Arith, Between}
+use Rattle.expression_lang.specs.Sort.{Level, Bytes, Numbers, NatKind}
+use Rattle.expression_lang.specs.Evaluation as E
+use Rattle.expression_lang.specs.View.{view_at, views_at}
+use Rattle.expression_lang.specs.Signature.{names_of, kinds_of, bound}
+use Rattle.expression_lang.specs.GuardKind as K
 use Rattle.monad_lang.specs.Run as M
 use Rattle.c_lang.specs.Typed as C
 use Rattle.c_meaning.specs.CValue as V

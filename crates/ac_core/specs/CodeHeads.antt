@@ -1,5 +1,5 @@
 -- Expressions by their heads.
-use Rattle.ac_expr.specs.Expression.{Exp, And, At, Between, Eq, Global, If, Imp, Le, Load, Lt, Not, Or, Padd, PtrOk, Read, Sel, Tagged, Upd}
+use Rattle.expression_lang.specs.Expression.{Exp, And, At, Between, Eq, Global, If, Imp, Le, Load, Lt, Not, Or, Padd, PtrOk, Read, Sel, Tagged, Upd}
 
 -- a test of numbers or of equality, an operation on truth values, or a choice
 abbrev pub IsTest : Exp → Type 0

@@ -5,8 +5,8 @@ use Rattle.std.specs.Char.{is_ascii_digit}
 use Rattle.c_lex.specs.Bytes.{is_letter}
 use Rattle.c_values.specs.Name.{Name}
 use Rattle.c_values.specs.Types.{CType, Integer, Void, Ptr, Struct, Array}
-use Rattle.ac_expr.specs.Expression as E
-use Rattle.ac_expr.specs.Signature.{names_of}
+use Rattle.expression_lang.specs.Expression as E
+use Rattle.expression_lang.specs.Signature.{names_of}
 use Rattle.monad_lang.specs.Program.{Place, Stored, Written, Global, Mon, Ret, Bind, Guard, If, Write, Loop, Call, Pick, FinalFn, FinalUnit}
 use Rattle.monad_lang.specs.Run.{start_names}
 use Rattle.monad_lang.specs.Form.{program_has}

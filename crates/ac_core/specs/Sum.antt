@@ -6,9 +6,9 @@ use Rattle.c_values.specs.Types.{Ilp32, Int, UInt, CType, Integer}
 use Rattle.c_values.specs.Number.{Add}
 use Rattle.c_values.specs.Word.{word, unsigned}
 use Rattle.c_values.specs.Layout.{Layout, StructDef}
-use Rattle.ac_expr.specs.Expression.{Exp, Var, NumberLit, Arith, Between}
-use Rattle.ac_expr.specs.Sort.{Level, Numbers, NatKind}
-use Rattle.ac_expr.specs.Signature.{Binder}
+use Rattle.expression_lang.specs.Expression.{Exp, Var, NumberLit, Arith, Between}
+use Rattle.expression_lang.specs.Sort.{Level, Numbers, NatKind}
+use Rattle.expression_lang.specs.Signature.{Binder}
 use Rattle.monad_lang.specs.Program.{Mon, Ret, Bind, Guard, FinalFn, FinalUnit}
 use Rattle.c_lang.specs.Typed as C
 

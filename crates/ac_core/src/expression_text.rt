@@ -5,12 +5,12 @@ ghost use Rattle.std.specs.Fmt.{decimal};
 ghost use Rattle.c_values.specs.CodeTypes.{int_type_of, type_of};
 ghost use Rattle.c_values.specs.CodeWord.{word_op_of, shift_op_of, unary_op_of, word_test_of};
 ghost use Rattle.c_values.specs.CodeNumber.{number_op_of};
-ghost use Rattle.ac_expr.specs.Expression.{WordLit};
+ghost use Rattle.expression_lang.specs.Expression.{WordLit};
 ghost use Rattle.ac_core.specs.CodeHeads.{IsTest, IsPlace};
-ghost use Rattle.ac_expr.specs.CodeExpression.{cast_op_of, exp_of, path_of};
+ghost use Rattle.expression_lang.specs.CodeExpression.{cast_op_of, exp_of, path_of};
 ghost use Rattle.ac_core.specs.ProgramText.{form, row, spaced, number_text, truth_text, int_type_text, type_text, word_op_text, shift_text, unary_text, test_text, cast_text, arith_text, exp_text, step_texts};
 
-use ac_expr::{CastOp, Exp, Path};
+use expression_lang::{CastOp, Exp, Path};
 use c_values::{CType, IntType, Number, NumberOp, ShiftOp, UnaryOp, Word, WordOp, WordTest};
 use itoa::Buffer;
 use std::alloc::AllocError;

@@ -9,15 +9,15 @@ ghost use Rattle.c_grammar.specs.Spells.{Spells};
 ghost use Rattle.c_values.specs.Name.{Name};
 ghost use Rattle.c_values.specs.Types.{Target};
 ghost use Rattle.c_values.specs.Choice.{Choice};
-ghost use Rattle.ac_expr.specs.Sort.{Level};
-ghost use Rattle.ac_expr.specs.Signature.{Invocation};
+ghost use Rattle.expression_lang.specs.Sort.{Level};
+ghost use Rattle.expression_lang.specs.Signature.{Invocation};
 ghost use Rattle.simpl_lang.specs.Exec.{simpl_runs};
 ghost use Rattle.c_lang.specs.Typed.{TypedFn, TypedUnit, typed_fn};
 ghost use Rattle.typing_rules.specs.Unit.{IsTyped};
 ghost use Rattle.c_meaning.specs.CRun.{c_runs};
 ghost use Rattle.generation.specs.Generate.{generated};
 ghost use Rattle.c_meaning.specs.Fitting.{AreOfTypes};
-ghost use Rattle.ac_expr.specs.States.{IsState};
+ghost use Rattle.expression_lang.specs.States.{IsState};
 
 /// The Simpl program that is generated for a text of C has exactly the ends of its C functions, whatever the levels watch: at
 /// every bound and every limit of nested calls, from every well-tagged memory, globals of their types and arguments of the

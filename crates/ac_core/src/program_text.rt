@@ -1,15 +1,15 @@
 //! The canonical text of programs (`specs/ProgramText`).
 
 ghost use Rattle.std.specs.Prelude.{◌≡◌, ◌++◌, map, string_bytes, OnOk, IfOk};
-ghost use Rattle.ac_expr.specs.CodeExpression.{exp_of, level_of, kind_of};
-ghost use Rattle.ac_expr.specs.CodeSignature.{binder_of};
+ghost use Rattle.expression_lang.specs.CodeExpression.{exp_of, level_of, kind_of};
+ghost use Rattle.expression_lang.specs.CodeSignature.{binder_of};
 ghost use Rattle.monad_lang.specs.CodeProgram.{place_of, start_of, mon_of, final_fn_of, final_unit_of};
 ghost use Rattle.ac_core.specs.ProgramText.{exp_text, spaced, row, kind_text, level_text, binder_text, start_text, write_text, program_text, then_texts, signature_text, function_text, unit_text};
 
 use crate::expression_text::{
     push, push_count, push_exp, push_first, push_last, push_name, push_next, push_path, push_typed,
 };
-use ac_expr::{Binder, Exp, Kind, Level};
+use expression_lang::{Binder, Exp, Kind, Level};
 use monad_lang::{FinalFn, FinalUnit, Mon, Place, Start};
 use std::alloc::{AllocError, Global};
 

@@ -1,7 +1,7 @@
 //! Programs whose text would be that of others, and which no text is the text of, as the contract of a function that does nothing.
 
 ghost use Rattle.std.specs.Prelude.{◌≡◌, ◌^◌, true, false, [], ◌∷◌, pos, codes};
-ghost use Rattle.ac_expr.specs.Expression.{Var, NumberLit};
+ghost use Rattle.expression_lang.specs.Expression.{Var, NumberLit};
 ghost use Rattle.monad_lang.specs.Program.{Ret, Bind, Guard};
 ghost use Rattle.ac_core.specs.Spelled.{is_spelled};
 

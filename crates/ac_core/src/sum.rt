@@ -2,13 +2,13 @@
 
 ghost use Rattle.std.specs.Prelude.{◌≡◌, [], map, IfOk, string_bytes};
 ghost use Rattle.c_values.specs.Types.{Ilp32};
-ghost use Rattle.ac_expr.specs.CodeExpression.{exp_of};
-ghost use Rattle.ac_expr.specs.CodeSignature.{binder_of};
+ghost use Rattle.expression_lang.specs.CodeExpression.{exp_of};
+ghost use Rattle.expression_lang.specs.CodeSignature.{binder_of};
 ghost use Rattle.monad_lang.specs.CodeProgram.{mon_of, final_fn_of, final_unit_of};
 ghost use Rattle.ac_core.specs.Sum as sums;
 ghost use Rattle.ac_core.specs.CodeSum.{sum_of, function_of};
 
-use ac_expr::{Binder, Exp, Kind, Level};
+use expression_lang::{Binder, Exp, Kind, Level};
 use c_values::views::word;
 use c_values::{Layout, Number, NumberOp, nat};
 use monad_lang::{FinalFn, FinalUnit, Mon};

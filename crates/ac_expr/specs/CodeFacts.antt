@@ -5,10 +5,10 @@ use Rattle.ac_expr.specs.declared.facts.Fact as F
 use Rattle.ac_expr.specs.declared.facts.Facts as C
 use Rattle.ac_expr.specs.Fact.{Fact, Whole, NotTrue, IsTagged, IsBetween, AtLeast, AtMost, Equal}
 use Rattle.ac_expr.specs.Facts.{without_name, without_reads}
-use Rattle.ac_expr.specs.Sort.{Scope}
-use Rattle.ac_expr.specs.Sorted.{scope_with}
-use Rattle.ac_expr.specs.CodeExpression.{exp_of}
-use Rattle.ac_expr.specs.CodeSort.{scalar_of, scope_of}
+use Rattle.expression_lang.specs.Sort.{Scope}
+use Rattle.expression_lang.specs.Sorted.{scope_with}
+use Rattle.expression_lang.specs.CodeExpression.{exp_of}
+use Rattle.expression_lang.specs.CodeSort.{scalar_of, scope_of}
 
 abbrev pub fact_of : F.Fact → Fact
 fact_of (F.TheVariants.Whole e) = Whole (exp_of e.now)

@@ -2,8 +2,8 @@
 use Rattle.std.specs.Prelude.{◌≡◌, ℤ, true}
 use Rattle.c_values.specs.Types.{CType}
 use Rattle.c_values.specs.Layout.{Layout}
-use Rattle.ac_expr.specs.Expression.{Exp, NumberLit, Le, Between, Eq, Not, Tagged}
-use Rattle.ac_expr.specs.Evaluation.{Env, State, holds}
+use Rattle.expression_lang.specs.Expression.{Exp, NumberLit, Le, Between, Eq, Not, Tagged}
+use Rattle.expression_lang.specs.Evaluation.{Env, State, holds}
 
 pub data Fact : Type 0 where
   Whole : Exp → Fact

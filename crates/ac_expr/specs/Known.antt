@@ -1,7 +1,7 @@
 -- What is known from facts, by their form alone: what a fact gives, without any reasoning. It is little, so that a checker decides
 -- it by one look at each fact, and enough for every guard that generation puts before its use.
 use Rattle.std.specs.Prelude.{◌≡◌, true, List, [], ◌∷◌, ◌⊎◌}
-use Rattle.ac_expr.specs.Expression.{Exp, NumberLit, TruthLit, Le, Between, And, Imp}
+use Rattle.expression_lang.specs.Expression.{Exp, NumberLit, TruthLit, Le, Between, And, Imp}
 use Rattle.ac_expr.specs.Fact.{Fact, stands_for}
 
 abbrev pub SomeFact : (Exp → Type 0) → List Fact → Type 0

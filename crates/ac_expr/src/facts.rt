@@ -2,13 +2,11 @@
 
 ghost use Rattle.std.specs.Prelude.{◌≡◌, [], ◌∷◌};
 ghost use Rattle.ac_expr.specs.Facts.{without_name, without_reads};
-ghost use Rattle.ac_expr.specs.CodeSort.{scalar_of, scope_of};
+ghost use Rattle.expression_lang.specs.CodeSort.{scalar_of, scope_of};
 ghost use Rattle.ac_expr.specs.CodeFacts.{fact_of, facts_of, scope_of_facts};
-ghost use Rattle.ac_expr.specs.Sorted.{scope_with};
+ghost use Rattle.expression_lang.specs.Sorted.{scope_with};
 
-use crate::expression::Exp;
-use crate::names::Names;
-use crate::sort::Scalar;
+use expression_lang::{Exp, Names, Scalar};
 use c_values::{CType, GlobalVar, Layout, Number};
 
 /// A fact stands for an expression, which isn't built.

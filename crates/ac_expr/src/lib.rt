@@ -1,49 +1,10 @@
-//! Expressions over words, numbers, truth values and either heap: sorts, values and facts.
+//! What is known of expressions at a place of a program. The language of expressions itself is handed on.
 #![tactic(auto)]
 
-mod applications;
-mod arity;
-mod changing;
-mod comparison;
-mod copies;
-mod environments;
-mod evaluation;
-mod evaluator;
-mod expression;
 mod facts;
-mod faults;
-mod heads;
-mod lists;
-mod names;
-mod operands;
-mod operations;
-pub mod parts;
-mod paths;
-mod scalars;
-mod scene;
-mod searching;
-mod shape;
-mod signatures;
-mod sort;
-pub mod sort_rules;
-mod sorts;
 
-pub use changing::Change;
-pub use comparison::equal_types;
-pub use environments::Env;
-pub use evaluator::eval;
-pub use expression::{CastOp, Exp};
-pub use facts::{Fact, Facts};
-pub use faults::EvalFault;
-pub use heads::{IsLoad, IsName, IsPartOfValue, IsRead, IsReading, IsWordArithmetic};
-pub use lists::{copy_exps, copy_names, same_exps, same_names};
-pub use names::Names;
-pub use paths::Path;
-pub use searching::Test;
-pub use shape::{
-    Front, Leaf, One, PathFront, PlaceHead, RootTest, Shape, Two, boxed, shape_of, whole,
-    whole_leaf, whole_one, whole_place, whole_root, whole_two,
+pub use expression_lang::{
+    Binder, CastOp, Env, EvalFault, Exp, Kind, Level, Names, Path, Scalar, Signature, Sort, eval,
+    scalar_of_kind, sort_of,
 };
-pub use signatures::{Binder, Signature};
-pub use sort::{Kind, Level, Scalar, Sort, scalar_of_kind};
-pub use sorts::{along, sort_of};
+pub use facts::{Fact, Facts};

@@ -6,13 +6,13 @@ use Rattle.std.specs.declared.alloc.Global.{Global}
 use Rattle.std.proofs.lemmas.Bool.{true≢false, cond-true, cond-false}
 use Rattle.std.proofs.lemmas.List.{length-map}
 use Rattle.c_values.specs.Name.{Name, same_name, is_among}
-use Rattle.ac_expr.specs.Sort.{Level, Bytes, Words, Numbers}
+use Rattle.expression_lang.specs.Sort.{Level, Bytes, Words, Numbers}
 use Rattle.c_lang.specs.Typed.{TypedFn, TypedUnit}
 use Rattle.c_meaning.specs.Levels.{OnBytes, HasDefaultLevel, AreDefaultLevels, casts}
 use Rattle.c_levels.specs.CodeSpread.{Among, Reached, at_start, led_to, IsSpread, leads_by}
 use Rattle.c_levels.specs.CodeCalls.{AreTogether, is_start, call_of, calls_from, callers_of, function_names}
 use Rattle.c_levels.specs.CodeModes.{IsAt, AreLevels, default_level, default_levels}
-use Rattle.ac_expr.specs.CodeExpression.{level_of}
+use Rattle.expression_lang.specs.CodeExpression.{level_of}
 use Rattle.c_lang.specs.CodeTyped.{function_of, unit_of}
 use Rattle.c_lang.specs.declared.tree.TypedFn as F
 use Rattle.c_values.specs.declared.program.Program as P

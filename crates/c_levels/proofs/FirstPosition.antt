@@ -6,7 +6,7 @@ use Rattle.std.proofs.Math.Seq.{get_or-append_seam}
 use Rattle.std.proofs.lemmas.Bool.{and_parts, true≢false}
 use Rattle.c_values.specs.Name.{Name, same_name, is_among}
 use Rattle.c_values.proofs.Laid.{name_is, other_name}
-use Rattle.ac_expr.specs.Sort.{Level}
+use Rattle.expression_lang.specs.Sort.{Level}
 use Rattle.c_lang.specs.Typed.{TypedFn}
 use Rattle.c_meaning.specs.Levels.{is_on_bytes, first_on_bytes}
 use Rattle.c_levels.specs.CodeReason.{position_from, first_position, or_later}

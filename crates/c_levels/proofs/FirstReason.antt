@@ -3,8 +3,8 @@ use Rattle.std.proofs.Common.{◌≡◌, ℕ, zero, suc, min, true, false, cond,
 use Rattle.std.specs.List.{list_all}
 use Rattle.std.proofs.lemmas.Bool.{cond-true, cond-false}
 use Rattle.c_values.specs.Name.{Name, is_among}
-use Rattle.ac_expr.specs.Sort.{Level}
-use Rattle.ac_expr.specs.CodeExpression.{level_of}
+use Rattle.expression_lang.specs.Sort.{Level}
+use Rattle.expression_lang.specs.CodeExpression.{level_of}
 use Rattle.c_lang.specs.Typed.{TypedFn}
 use Rattle.c_lang.specs.CodeTyped.{function_of, unit_of}
 use Rattle.c_lang.specs.declared.tree.TypedFn as F

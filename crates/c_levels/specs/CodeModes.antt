@@ -1,8 +1,8 @@
 -- The levels that the code's modes give to the functions of a unit, and those that they have by their marks.
 use Rattle.std.specs.Prelude.{◌≡◌, ℕ, zero, suc, Bool, true, false, List, [], ◌∷◌, map, if◌then◌else◌}
 use Rattle.c_values.specs.Name.{Name}
-use Rattle.ac_expr.specs.Sort.{Level, Bytes, Words, Numbers}
-use Rattle.ac_expr.specs.CodeExpression.{level_of}
+use Rattle.expression_lang.specs.Sort.{Level, Bytes, Words, Numbers}
+use Rattle.expression_lang.specs.CodeExpression.{level_of}
 use Rattle.c_lang.specs.Typed.{TypedFn, TypedUnit}
 use Rattle.c_levels.specs.declared.modes.Modes.{Modes}
 

@@ -1,7 +1,7 @@
 -- What the code's reasons stand for.
 use Rattle.std.specs.Prelude.{◌≡◌, slice_index_or, ℕ, ◌+◌, min, List, [], ◌∷◌, Option, Some, None, if◌then◌else◌}
 use Rattle.c_values.specs.Name.{Name, same_name}
-use Rattle.ac_expr.specs.Sort.{Level}
+use Rattle.expression_lang.specs.Sort.{Level}
 use Rattle.c_lang.specs.Typed.{TypedFn}
 use Rattle.c_levels.specs.declared.modes.Reason as R
 use Rattle.c_meaning.specs.Levels.{Reason, ByCast, ByCall, ByChoice, is_on_bytes}

@@ -1,6 +1,6 @@
 //! The levels of functions, and why they have them.
 
-use ac_expr::Level;
+use expression_lang::Level;
 
 /// The level of each function of a unit, in the order of the functions.
 #[derive(Debug, Drop)]

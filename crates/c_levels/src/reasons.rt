@@ -5,8 +5,8 @@ ghost use Rattle.c_values.specs.Name.{Name};
 ghost use Rattle.c_lang.specs.Typed as C;
 ghost use Rattle.c_lang.specs.CodeTyped as typed;
 ghost use Rattle.c_lang.specs.WellTyped.{IsWellTyped};
-ghost use Rattle.ac_expr.specs.Sort as sorts;
-ghost use Rattle.ac_expr.specs.CodeExpression.{level_of};
+ghost use Rattle.expression_lang.specs.Sort as sorts;
+ghost use Rattle.expression_lang.specs.CodeExpression.{level_of};
 ghost use Rattle.c_meaning.specs.Levels.{is_on_bytes};
 ghost use Rattle.c_meaning.specs.Levels as rules;
 ghost use Rattle.c_levels.specs.CodeCalls.{function_names};
@@ -15,7 +15,7 @@ ghost use Rattle.c_levels.specs.CodeReason.{IsReason, position_from, first_posit
 
 use crate::casts::casts;
 use crate::modes::{Modes, Reason};
-use ac_expr::Level;
+use expression_lang::Level;
 use c_lang::tree::{Groups, Statement, Statements, TypedFn, TypedUnit};
 
 /// The first of the reasons that holds of the function at a position. Of the functions that it calls, the first in its

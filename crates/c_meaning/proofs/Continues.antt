@@ -6,10 +6,10 @@ use Rattle.correspondence.proofs.Continues.{continues_itself, then_continues, ch
 use Rattle.c_values.specs.Name.{Name}
 use Rattle.c_values.specs.Choice.{Choice}
 use Rattle.c_values.specs.Layout.{Layout}
-use Rattle.ac_expr.specs.Sort.{Level}
-use Rattle.ac_expr.specs.Signature.{Invocation}
-use Rattle.ac_expr.specs.GuardKind as K
-use Rattle.ac_expr.specs.Machine.{Machine}
+use Rattle.expression_lang.specs.Sort.{Level}
+use Rattle.expression_lang.specs.Signature.{Invocation}
+use Rattle.expression_lang.specs.GuardKind as K
+use Rattle.expression_lang.specs.Machine.{Machine}
 use Rattle.c_lang.specs.Typed as C
 use Rattle.c_meaning.specs.CRun.{Flow, Next, Broken, Continued, Returning, Runs, Setting, Ended, and_next, turned, stepped, statement, statements, groups, function_runs, bodies, functions_below, c_runs}
 

@@ -6,11 +6,11 @@ use Rattle.correspondence.proofs.Included.{included_itself, then_included, choos
 use Rattle.c_values.specs.Name.{Name}
 use Rattle.c_values.specs.Choice.{Choice, Any, Fill}
 use Rattle.c_values.specs.Layout.{Layout}
-use Rattle.ac_expr.specs.GuardKind as K
-use Rattle.ac_expr.specs.Machine.{Machine}
-use Rattle.ac_expr.specs.Sort.{Level}
-use Rattle.ac_expr.specs.Signature.{Invocation}
-use Rattle.ac_expr.proofs.Filled.{picked_included}
+use Rattle.expression_lang.specs.GuardKind as K
+use Rattle.expression_lang.specs.Machine.{Machine}
+use Rattle.expression_lang.specs.Sort.{Level}
+use Rattle.expression_lang.specs.Signature.{Invocation}
+use Rattle.expression_lang.proofs.Filled.{picked_included}
 use Rattle.c_lang.specs.Typed as C
 use Rattle.c_meaning.specs.CRun.{Flow, Next, Broken, Continued, Returning, Runs, Setting, Ended, and_next, turned, stepped, local_width, statement, statements, groups, function_runs, bodies, functions_below, c_runs}
 

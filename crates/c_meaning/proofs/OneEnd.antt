@@ -8,11 +8,11 @@ use Rattle.c_values.specs.Types.{CType}
 use Rattle.c_values.specs.Value as V
 use Rattle.c_values.specs.Choice.{Choice, Fill, picked}
 use Rattle.c_values.specs.Layout.{Layout}
-use Rattle.ac_expr.specs.Sort.{Level}
-use Rattle.ac_expr.specs.Signature.{Invocation}
-use Rattle.ac_expr.proofs.Picked.{picked_once}
-use Rattle.ac_expr.specs.GuardKind as K
-use Rattle.ac_expr.specs.Machine.{Machine}
+use Rattle.expression_lang.specs.Sort.{Level}
+use Rattle.expression_lang.specs.Signature.{Invocation}
+use Rattle.expression_lang.proofs.Picked.{picked_once}
+use Rattle.expression_lang.specs.GuardKind as K
+use Rattle.expression_lang.specs.Machine.{Machine}
 use Rattle.c_lang.specs.Typed as C
 use Rattle.c_meaning.specs.CRun.{Flow, Next, Broken, Continued, Returning, Runs, Setting, Ended, and_next, assigned, used, tested, turned, stepped, later, tested_after_first, turned_later, switched, statement, statements, groups, ended, function_runs, bodies, functions_below, c_runs}
 

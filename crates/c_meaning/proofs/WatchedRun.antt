@@ -7,10 +7,10 @@ use Rattle.c_values.specs.Name.{Name}
 use Rattle.c_values.specs.Value as V
 use Rattle.c_values.specs.Choice.{Choice}
 use Rattle.c_values.specs.Layout.{Layout}
-use Rattle.ac_expr.specs.Sort.{Level, Bytes}
-use Rattle.ac_expr.specs.Signature.{Invocation}
-use Rattle.ac_expr.specs.GuardKind as K
-use Rattle.ac_expr.specs.Machine.{Machine}
+use Rattle.expression_lang.specs.Sort.{Level, Bytes}
+use Rattle.expression_lang.specs.Signature.{Invocation}
+use Rattle.expression_lang.specs.GuardKind as K
+use Rattle.expression_lang.specs.Machine.{Machine}
 use Rattle.c_lang.specs.Typed as C
 use Rattle.c_meaning.specs.CValue.{Defined}
 use Rattle.c_meaning.specs.CRun.{Flow, Next, Broken, Continued, Returning, Runs, Setting, Ended, context, and_next, assigned, used, tested, turned, stepped, tested_after_first, statement, statements, groups, function_runs, bodies, c_runs, plain}

@@ -7,8 +7,8 @@ use Rattle.c_values.specs.Value as V
 use Rattle.c_values.specs.Layout.{Layout}
 use Rattle.c_memory.specs.Heap.{is_tagged}
 use Rattle.c_memory.specs.Tags.{is_pointer_ok}
-use Rattle.ac_expr.specs.Sort.{Level, Bytes, Words, Numbers, is_lifted}
-use Rattle.ac_expr.specs.GuardKind as K
+use Rattle.expression_lang.specs.Sort.{Level, Bytes, Words, Numbers, is_lifted}
+use Rattle.expression_lang.specs.GuardKind as K
 use Rattle.c_lang.specs.Typed as C
 use Rattle.c_meaning.specs.CValue.{Context, Defined, ◌>>=◌, unless, Located, InMemory, InGlobal, value_at, int_of, is_true, fitted, computed, accessible, content, value, located, indexed, values}
 

@@ -12,11 +12,11 @@ use Rattle.c_values.specs.Layout.{Layout, scalar_width}
 use Rattle.c_values.specs.Path.{upd}
 use Rattle.c_values.specs.Choice.{Choice, picked}
 use Rattle.c_memory.specs.Heap.{write_heap}
-use Rattle.ac_expr.specs.Sort.{Level, Bytes}
-use Rattle.ac_expr.specs.Evaluation.{Env}
-use Rattle.ac_expr.specs.Signature.{Invocation, bound, no_env}
-use Rattle.ac_expr.specs.GuardKind as K
-use Rattle.ac_expr.specs.Machine.{Machine, machine_with, with_local, Returned}
+use Rattle.expression_lang.specs.Sort.{Level, Bytes}
+use Rattle.expression_lang.specs.Evaluation.{Env}
+use Rattle.expression_lang.specs.Signature.{Invocation, bound, no_env}
+use Rattle.expression_lang.specs.GuardKind as K
+use Rattle.expression_lang.specs.Machine.{Machine, machine_with, with_local, Returned}
 use Rattle.c_lang.specs.Typed as C
 use Rattle.c_lang.specs.Labels.{is_label, has_label}
 use Rattle.c_meaning.specs.CValue.{Context, Defined, ◌>>=◌, Located, InMemory, InGlobal, value, values, located, accessible, converted, is_true, number_at}

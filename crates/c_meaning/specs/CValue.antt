@@ -13,9 +13,9 @@ use Rattle.c_values.specs.Layout.{Layout, size_of, shape_of}
 use Rattle.c_values.specs.Path.{Step, Field, Index, is_index, sel, spot}
 use Rattle.c_memory.specs.Tags.{is_pointer_ok}
 use Rattle.c_memory.specs.Heap.{read_heap, is_tagged}
-use Rattle.ac_expr.specs.Sort.{Level, Numbers, is_lifted}
-use Rattle.ac_expr.specs.Evaluation.{Env, State, moved, moved_to}
-use Rattle.ac_expr.specs.GuardKind as K
+use Rattle.expression_lang.specs.Sort.{Level, Numbers, is_lifted}
+use Rattle.expression_lang.specs.Evaluation.{Env, State, moved, moved_to}
+use Rattle.expression_lang.specs.GuardKind as K
 use Rattle.c_lang.specs.Typed as C
 
 -- what C expressions are evaluated in

@@ -5,9 +5,9 @@ use Rattle.c_values.specs.Types.{CType}
 use Rattle.c_values.specs.Value.{Value}
 use Rattle.c_values.specs.Layout.{Layout, GlobalVar, scalar_width}
 use Rattle.c_values.specs.Path.{IsBits}
-use Rattle.ac_expr.specs.Evaluation.{Env}
-use Rattle.ac_expr.specs.States.{IsState}
-use Rattle.ac_expr.specs.Machine.{Returned}
+use Rattle.expression_lang.specs.Evaluation.{Env}
+use Rattle.expression_lang.specs.States.{IsState}
+use Rattle.expression_lang.specs.Machine.{Returned}
 use Rattle.c_lang.specs.Typed as C
 use Rattle.c_lang.specs.WellTyped.{Scope, variable_type}
 use Rattle.c_meaning.specs.CValue.{Context}

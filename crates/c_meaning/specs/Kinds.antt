@@ -1,8 +1,8 @@
 -- What a level makes of the parameters and locals of a C function.
 use Rattle.std.specs.Prelude.{List, [], ◌∷◌}
 use Rattle.c_values.specs.Types.{Target}
-use Rattle.ac_expr.specs.Sort.{Level}
-use Rattle.ac_expr.specs.Signature.{Binder, kind_at, binder}
+use Rattle.expression_lang.specs.Sort.{Level}
+use Rattle.expression_lang.specs.Signature.{Binder, kind_at, binder}
 use Rattle.c_lang.specs.Typed as C
 
 abbrev pub variables : Target → Level → List C.Variable → List Binder

@@ -4,7 +4,7 @@
 -- themselves, and from each marked one its callers, once.
 use Rattle.std.specs.Prelude.{◌≡◌, Bool, true, false, ◌||◌, List, [], ◌∷◌, ◌++◌, Option, Some, None, if◌then◌else◌}
 use Rattle.c_values.specs.Name.{Name, is_among}
-use Rattle.ac_expr.specs.Sort.{Level, Bytes, Words, Numbers}
+use Rattle.expression_lang.specs.Sort.{Level, Bytes, Words, Numbers}
 use Rattle.c_lang.specs.Cast.{casts_to, has_cast, place_has_cast}
 use Rattle.c_lang.specs.Typed as C
 

@@ -1,6 +1,6 @@
 //! Tests of long sequences of programs.
 
-use ac_expr::Exp;
+use expression_lang::Exp;
 use c_values::Number;
 use monad_lang::Mon;
 use std::alloc::{AllocError, Global};

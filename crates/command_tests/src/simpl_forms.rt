@@ -1,6 +1,6 @@
 //! Tests of which units are well-formed: a good unit, and others that miss one thing.
 
-use ac_expr::{Binder, Exp, Kind, Level, Path, Signature};
+use expression_lang::{Binder, Exp, Kind, Level, Path, Signature};
 use c_values::{CType, GlobalVar, IntType, Layout, Number, StructDef, Target, Value, Word};
 use simpl_lang::{Condition, GuardKind, Simpl, SimplFn, SimplUnit, forms_ok};
 use std::alloc::{AllocError, Global};

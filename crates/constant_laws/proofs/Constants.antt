@@ -16,11 +16,11 @@ use Rattle.c_values.proofs.Formed.{IsFormed, AreFormed, members_end, size_some}
 use Rattle.c_values.proofs.Laid.{shape_good}
 use Rattle.c_values.proofs.Parts.{formed_complete}
 use Rattle.c_values.proofs.WordValues.{word-unsigned}
-use Rattle.ac_expr.specs.Evaluation as E
-use Rattle.ac_expr.specs.Evaluation.{Env, State, moved_to}
-use Rattle.ac_expr.specs.GuardKind as K
-use Rattle.ac_expr.proofs.Sorting.{object_whole}
-use Rattle.ac_expr.proofs.Filled.{word_fits}
+use Rattle.expression_lang.specs.Evaluation as E
+use Rattle.expression_lang.specs.Evaluation.{Env, State, moved_to}
+use Rattle.expression_lang.specs.GuardKind as K
+use Rattle.expression_lang.proofs.Sorting.{object_whole}
+use Rattle.expression_lang.proofs.Filled.{word_fits}
 use Rattle.c_lang.specs.Typed as C
 use Rattle.c_lang.specs.WellTyped.{Scope, is_typed, is_typed_place, are_typed_indices, has_type, member_shape, shape_along}
 use Rattle.c_meaning.specs.CValue.{Context, Defined, ◌>>=◌, unless, number_of_type, int_of, is_true, value, located, indexed, are_in_bounds, InMemory, address_of}

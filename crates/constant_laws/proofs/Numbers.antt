@@ -11,8 +11,8 @@ use Rattle.c_values.specs.Value as V
 use Rattle.c_values.specs.Path.{IsBits}
 use Rattle.c_values.proofs.WordValues.{IsSigned, low, high, halves, signed_of}
 use Rattle.c_values.proofs.WordResults.{unsigned_quotient, unsigned_remainder, signed_remainder}
-use Rattle.ac_expr.specs.GuardKind as K
-use Rattle.ac_expr.proofs.Filled.{word_fits}
+use Rattle.expression_lang.specs.GuardKind as K
+use Rattle.expression_lang.proofs.Filled.{word_fits}
 use Rattle.c_meaning.specs.CValue.{Defined, ◌>>=◌, unless, is_true}
 use Rattle.generation.proofs.ExactNumbers.{number_by, word-number, number-word, same_as_number, zero_between}
 use Rattle.generation.proofs.ExactArithmetic.{word_op_fits, word_unary_fits, sum_of_words, difference_of_words, product_of_words, quotient_of_words, remainder_of_words, negation_of_word}

@@ -5,8 +5,8 @@ use Rattle.c_values.specs.Types.{CType}
 use Rattle.c_values.specs.Word.{word}
 use Rattle.c_values.specs.Value.{Value, Bits}
 use Rattle.c_values.specs.Layout.{Layout, IsLayout, scalar_width}
-use Rattle.ac_expr.specs.Sort.{Bytes}
-use Rattle.ac_expr.specs.Evaluation.{Env, State}
+use Rattle.expression_lang.specs.Sort.{Bytes}
+use Rattle.expression_lang.specs.Evaluation.{Env, State}
 use Rattle.c_lang.specs.Typed.{Expr, type_of}
 use Rattle.c_lang.specs.WellTyped.{Scope, is_typed}
 use Rattle.c_meaning.specs.CValue.{Context, Defined, number_of_type, value}

@@ -1,6 +1,6 @@
 //! Tests of generation, from texts. `worked_rows::generation_rows` has a row for each form of an expression and of a statement.
 
-use ac_expr::Signature;
+use expression_lang::Signature;
 use c_lex::tokens;
 use c_parse::parse;
 use c_types::check_unit;

@@ -14,12 +14,12 @@ use Rattle.c_memory.specs.Tags.{IsWellTagged}
 use Rattle.c_memory.specs.Footprint.{KeepsMemory}
 use Rattle.c_memory.specs.TypedHeap.{view}
 use Rattle.c_memory.specs.Heap.{Heap, OnBytes, OnTypes}
-use Rattle.ac_expr.specs.Sort.{Level, Kind, is_lifted}
-use Rattle.ac_expr.specs.States.{AreGlobals, state_with}
-use Rattle.ac_expr.specs.View.{view_at, views_at}
-use Rattle.ac_expr.specs.Signature.{kinds_of, result_kind}
-use Rattle.ac_expr.specs.GuardKind.{GuardKind}
-use Rattle.ac_expr.specs.Machine.{Returned}
+use Rattle.expression_lang.specs.Sort.{Level, Kind, is_lifted}
+use Rattle.expression_lang.specs.States.{AreGlobals, state_with}
+use Rattle.expression_lang.specs.View.{view_at, views_at}
+use Rattle.expression_lang.specs.Signature.{kinds_of, result_kind}
+use Rattle.expression_lang.specs.GuardKind.{GuardKind}
+use Rattle.expression_lang.specs.Machine.{Returned}
 use Rattle.monad_lang.specs.Program.{FinalUnit, FinalFn}
 use Rattle.monad_lang.specs.Run.{Answer, Failure, program_runs}
 use Rattle.c_lang.specs.Typed.{TypedUnit, TypedFn, typed_fn}

@@ -7,21 +7,21 @@ use Rattle.c_values.specs.Choice.{Choice}
 use Rattle.c_values.specs.Layout.{Layout, global_type}
 use Rattle.c_memory.specs.Memory.{Memory}
 use Rattle.c_memory.specs.Heap.{Heap, OnBytes, OnTypes, IsHeap}
-use Rattle.ac_expr.specs.Expression.{Exp}
-use Rattle.ac_expr.specs.Sort.{Level, Kind, Scalar, Scope, sort_of, is_truth, sort_of_kind, is_lifted}
-use Rattle.ac_expr.specs.Form.{has, is_load, is_read}
-use Rattle.ac_expr.specs.Sorted.{scope_with}
-use Rattle.ac_expr.specs.Evaluation.{State, holds}
-use Rattle.ac_expr.specs.View.{AreOfKinds, views_at}
-use Rattle.ac_expr.specs.Signature.{bound, no_env, names_of, kinds_of, result_kind}
-use Rattle.ac_expr.specs.Machine.{Returned}
+use Rattle.expression_lang.specs.Expression.{Exp}
+use Rattle.expression_lang.specs.Sort.{Level, Kind, Scalar, Scope, sort_of, is_truth, sort_of_kind, is_lifted}
+use Rattle.expression_lang.specs.Form.{has, is_load, is_read}
+use Rattle.expression_lang.specs.Sorted.{scope_with}
+use Rattle.expression_lang.specs.Evaluation.{State, holds}
+use Rattle.expression_lang.specs.View.{AreOfKinds, views_at}
+use Rattle.expression_lang.specs.Signature.{bound, no_env, names_of, kinds_of, result_kind}
+use Rattle.expression_lang.specs.Machine.{Returned}
 use Rattle.monad_lang.specs.Program.{FinalUnit, FinalFn, final_fn}
 use Rattle.monad_lang.specs.Run.{Answer, program_runs}
 use Rattle.c_lang.specs.Typed.{TypedUnit, TypedFn, typed_fn}
 use Rattle.c_meaning.specs.CRun.{plain}
 use Rattle.c_meaning.specs.Kinds.{variables}
 use Rattle.exactness.specs.Exact.{Begin, IsBegin, heap_for, c_ends, seen, IsUndefined}
-use Rattle.ac_expr.specs.States.{IsOfSort, AreGlobals, state_with}
+use Rattle.expression_lang.specs.States.{IsOfSort, AreGlobals, state_with}
 
 -- a variable that stands for the same value before and after
 pub record Logical : Type 0 where

@@ -1,7 +1,7 @@
 -- What holds of a translation that is the definition's.
 use Rattle.std.proofs.Common.{◌≡◌, true, List, Some, sym, subst}
-use Rattle.ac_expr.specs.Signature.{Signature}
-use Rattle.ac_expr.specs.Sort.{Scope, TruthSort}
+use Rattle.expression_lang.specs.Signature.{Signature}
+use Rattle.expression_lang.specs.Sort.{Scope, TruthSort}
 use Rattle.simpl_lang.specs.Command.{Simpl}
 use Rattle.simpl_lang.specs.CodeCommand.{simpl_of}
 use Rattle.simpl_lang.specs.Flag.{thrown_local}

@@ -1,6 +1,6 @@
 -- What is known of a command once exceptions are taken out of it.
 use Rattle.std.specs.Prelude.{◌≡◌, Bool, true, false, ◌&&◌, ◌||◌, List}
-use Rattle.ac_expr.specs.Expression.{Exp}
+use Rattle.expression_lang.specs.Expression.{Exp}
 use Rattle.simpl_lang.specs.Command as C
 use Rattle.simpl_lang.specs.Command.{Simpl}
 use Rattle.simpl_lang.specs.CodeCommand.{simpl_of}

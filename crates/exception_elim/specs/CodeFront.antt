@@ -1,6 +1,6 @@
 -- Commands whose last part is apart, with the other parts taken to theirs.
 use Rattle.std.specs.Prelude.{◌<◌, ℕ, List, [], ◌∷◌, map}
-use Rattle.ac_expr.specs.CodeExpression.{exp_of}
+use Rattle.expression_lang.specs.CodeExpression.{exp_of}
 use Rattle.simpl_lang.specs.declared.command.Simpl.{size-Simpl}
 use Rattle.simpl_lang.specs.CodeCommand.{condition_of, simpl_of}
 use Rattle.exception_elim.specs.declared.fronts.Front as F

@@ -1,14 +1,14 @@
 //! Commands and expressions over the flag.
 
 ghost use Rattle.std.specs.Prelude.{◌≡◌, map, string_bytes, IfOk};
-ghost use Rattle.ac_expr.specs.Expression.{And, Not};
-ghost use Rattle.ac_expr.specs.CodeExpression.{exp_of};
+ghost use Rattle.expression_lang.specs.Expression.{And, Not};
+ghost use Rattle.expression_lang.specs.CodeExpression.{exp_of};
 ghost use Rattle.simpl_lang.specs.CodeCommand.{condition_of, simpl_of};
 ghost use Rattle.simpl_lang.specs.Flag.{thrown_local};
 ghost use Rattle.rule_exn.specs.Table as table;
 ghost use Rattle.rule_exn.specs.Table.{is_thrown};
 
-use ac_expr::{Exp, boxed as boxed_exp};
+use expression_lang::{Exp, boxed as boxed_exp};
 use simpl_lang::{Condition, Simpl, boxed};
 use std::alloc::{AllocError, Global};
 

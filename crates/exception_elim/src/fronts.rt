@@ -1,7 +1,7 @@
 //! What is taken to what, of a command whose last part is apart.
 
 ghost use Rattle.std.specs.Prelude.{◌≡◌, true, false, map, IfOk};
-ghost use Rattle.ac_expr.specs.CodeExpression.{exp_of};
+ghost use Rattle.expression_lang.specs.CodeExpression.{exp_of};
 ghost use Rattle.simpl_lang.specs.Command.{Cond};
 ghost use Rattle.simpl_lang.specs.CodeCommand.{condition_of, simpl_of};
 ghost use Rattle.rule_exn.specs.Table.{is_thrown};
@@ -11,7 +11,7 @@ ghost use Rattle.exception_elim.specs.CodeFront.{with_front};
 
 use crate::eliminated::{Eliminated, over_one, over_two};
 use crate::flags::{cleared, conditions_unless_thrown, flag, test_unless_thrown};
-use ac_expr::Exp;
+use expression_lang::Exp;
 use rule_exn::Rule;
 use simpl_lang::{Condition, Simpl, boxed};
 use std::alloc::{AllocError, Global};

@@ -1,8 +1,8 @@
 //! Exceptions taken out of a command.
 
 ghost use Rattle.std.specs.Prelude.{◌≡◌, ℕ, suc, true, List, Some, IfOk};
-ghost use Rattle.ac_expr.specs.Signature.{Signature};
-ghost use Rattle.ac_expr.specs.Sort.{Scope, TruthSort};
+ghost use Rattle.expression_lang.specs.Signature.{Signature};
+ghost use Rattle.expression_lang.specs.Sort.{Scope, TruthSort};
 ghost use Rattle.simpl_lang.specs.declared.command.Simpl.{size-Simpl};
 ghost use Rattle.simpl_lang.specs.CodeCommand.{simpl_of};
 ghost use Rattle.simpl_lang.specs.Flag.{thrown_local};

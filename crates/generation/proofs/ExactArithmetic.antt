@@ -5,7 +5,7 @@ use Rattle.c_values.specs.Number.{quotient, remainder, is_between, least, greate
 use Rattle.c_values.specs.Word.{Word, IsWord, unsigned, signed, word, word_op, Wadd, Wsub, Wmul, Wudiv, Wumod, Wsdiv, Wsmod, word_unary, Wneg, word_test, Wult, Wule, Wslt, Wsle, WordOp, ShiftOp, word_shift, Wshl, Wushr, Wsshr, is_shift, power_of_two, UnaryOp, Wand, Wor, Wxor, Wnot}
 use Rattle.c_values.proofs.WordValues.{word-signed}
 use Rattle.c_values.proofs.WordResults.{signed_sum, signed_difference, signed_product, signed_negation}
-use Rattle.ac_expr.proofs.Filled.{word_fits}
+use Rattle.expression_lang.proofs.Filled.{word_fits}
 use Rattle.generation.proofs.ExactNumbers.{number_by, word_at}
 
 -- a result is a word of the width

@@ -12,14 +12,14 @@ use Rattle.c_values.specs.Layout.{is_scalar}
 use Rattle.c_values.specs.Choice.{Choice}
 use Rattle.c_values.specs.CodeSameType.{type_is}
 use Rattle.c_values.proofs.Laid.{same_name-refl}
-use Rattle.ac_expr.specs.Sort.{Level}
-use Rattle.ac_expr.specs.Signature.{Binder, Invocation, values_of}
-use Rattle.ac_expr.specs.Expression as Exp
-use Rattle.ac_expr.specs.Evaluation.{Env, State}
-use Rattle.ac_expr.specs.GuardKind.{GuardKind}
+use Rattle.expression_lang.specs.Sort.{Level}
+use Rattle.expression_lang.specs.Signature.{Binder, Invocation, values_of}
+use Rattle.expression_lang.specs.Expression as Exp
+use Rattle.expression_lang.specs.Evaluation.{Env, State}
+use Rattle.expression_lang.specs.GuardKind.{GuardKind}
 use Rattle.simpl_lang.specs.Command.{Simpl, Seq, Set, Call}
 use Rattle.simpl_lang.specs.Exec as X
-use Rattle.ac_expr.specs.Machine.{Machine, Returned, with_local, machine_with}
+use Rattle.expression_lang.specs.Machine.{Machine, Returned, with_local, machine_with}
 use Rattle.simpl_lang.specs.Exec.{Normal, Abrupt, Runs, execs, result_local, result_into, value_on}
 use Rattle.c_lang.specs.Typed as C
 use Rattle.c_lang.specs.WellTyped.{Scope, Around, is_type, is_result, is_use_of, is_call_of, is_typed_target, are_arguments}
@@ -28,7 +28,7 @@ use Rattle.c_meaning.specs.CRun.{Next, Returning, and_use, used, result_value, e
 use Rattle.generation.specs.Guards.{exps, conversion, argument_guards}
 use Rattle.generation.specs.Generate.{guarded, jump, returned, call, call_of, call_local, assignment, target_guards}
 use Rattle.c_meaning.specs.Fitting.{IsOfType, IsResultOf}
-use Rattle.ac_expr.specs.States.{IsState}
+use Rattle.expression_lang.specs.States.{IsState}
 use Rattle.generation.proofs.ExactTests.{all_of_two, all_of_three, where_true}
 use Rattle.correspondence.proofs.Steps.{SameEnds, same_on_right, after_done, in_brackets}
 use Rattle.generation.proofs.ExactGuards.{SameKind, evaluated_guarded}

@@ -3,9 +3,9 @@ use Rattle.std.proofs.Common.{◌≡◌, true, false, not, ◌&&◌, ◌||◌, L
 use Rattle.c_values.specs.Types.{CType}
 use Rattle.c_values.specs.Value.{Value}
 use Rattle.c_values.specs.Layout.{Layout, is_scalar}
-use Rattle.ac_expr.specs.Evaluation.{Env, State, holds, if_truth}
-use Rattle.ac_expr.specs.Evaluation as E
-use Rattle.ac_expr.specs.Expression as X
+use Rattle.expression_lang.specs.Evaluation.{Env, State, holds, if_truth}
+use Rattle.expression_lang.specs.Evaluation as E
+use Rattle.expression_lang.specs.Expression as X
 use Rattle.simpl_lang.specs.Command.{Condition}
 use Rattle.c_lang.specs.Typed as C
 use Rattle.c_lang.specs.WellTyped.{has_type}

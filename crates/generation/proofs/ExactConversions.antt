@@ -9,13 +9,13 @@ use Rattle.c_values.specs.Layout.{Layout, is_scalar, scalar_width}
 use Rattle.c_values.specs.Path.{IsBits}
 use Rattle.c_values.proofs.Modulo.{AreAlike, word_alike}
 use Rattle.c_values.proofs.WordValues.{IsSigned, low, high, signed_of}
-use Rattle.ac_expr.specs.Evaluation.{Env, State}
-use Rattle.ac_expr.specs.Evaluation as E
-use Rattle.ac_expr.specs.Expression as X
+use Rattle.expression_lang.specs.Evaluation.{Env, State}
+use Rattle.expression_lang.specs.Evaluation as E
+use Rattle.expression_lang.specs.Expression as X
 use Rattle.c_meaning.specs.CValue.{converted, number_of_type}
 use Rattle.generation.specs.Guards.{cast_to, conversion, is_signed_type}
 use Rattle.c_meaning.specs.Fitting.{IsOfType}
-use Rattle.ac_expr.proofs.Filled.{word_fits}
+use Rattle.expression_lang.proofs.Filled.{word_fits}
 use Rattle.generation.proofs.ExactNumbers.{number_by, number_of_type_is, bits_are, word_of_bits, word-number}
 
 lacking : (bits c m : ℕ) → bits + suc c ≡ m → pos bits +ℤ pos 0 ≡ negsuc c +ℤ pos m

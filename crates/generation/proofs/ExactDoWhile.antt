@@ -9,13 +9,13 @@ use Rattle.c_values.specs.Value as V
 use Rattle.c_values.specs.Layout.{Layout}
 use Rattle.c_values.specs.Choice.{Choice}
 use Rattle.c_values.proofs.Laid.{same_name-refl}
-use Rattle.ac_expr.specs.Sort.{Level}
-use Rattle.ac_expr.specs.Signature.{Binder}
-use Rattle.ac_expr.specs.Expression as Exp
-use Rattle.ac_expr.specs.GuardKind.{GuardKind}
+use Rattle.expression_lang.specs.Sort.{Level}
+use Rattle.expression_lang.specs.Signature.{Binder}
+use Rattle.expression_lang.specs.Expression as Exp
+use Rattle.expression_lang.specs.GuardKind.{GuardKind}
 use Rattle.simpl_lang.specs.Command.{Condition, Simpl, Set, Seq}
 use Rattle.simpl_lang.specs.Exec as X
-use Rattle.ac_expr.specs.Machine.{Machine, with_local}
+use Rattle.expression_lang.specs.Machine.{Machine, with_local}
 use Rattle.simpl_lang.specs.Exec.{Normal, Abrupt, Runs, execs, entered, checked, holds_on}
 use Rattle.c_lang.specs.Typed as C
 use Rattle.c_lang.specs.WellTyped.{Scope, Around, in_a_loop, is_typed_test}

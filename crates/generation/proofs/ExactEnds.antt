@@ -11,12 +11,12 @@ use Rattle.c_values.specs.Types.{CType}
 use Rattle.c_values.specs.Word.{word}
 use Rattle.c_values.specs.Value as V
 use Rattle.c_values.specs.Layout.{Layout, IsLayout, GlobalVar}
-use Rattle.ac_expr.specs.Sort.{Level}
-use Rattle.ac_expr.specs.Signature.{Binder, Invocation, kind_at}
-use Rattle.ac_expr.specs.GuardKind.{GuardKind}
+use Rattle.expression_lang.specs.Sort.{Level}
+use Rattle.expression_lang.specs.Signature.{Binder, Invocation, kind_at}
+use Rattle.expression_lang.specs.GuardKind.{GuardKind}
 use Rattle.simpl_lang.specs.Command.{kind_of}
 use Rattle.simpl_lang.specs.Exec as X
-use Rattle.ac_expr.specs.Machine.{Machine, Returned, with_local}
+use Rattle.expression_lang.specs.Machine.{Machine, Returned, with_local}
 use Rattle.simpl_lang.specs.Exec.{Normal, Abrupt, execs, result_local, holds_on}
 use Rattle.c_lang.specs.Typed as C
 use Rattle.c_lang.specs.WellTyped.{Scope, Around, variable_type, are_globals, are_variables, is_result}
@@ -24,7 +24,7 @@ use Rattle.c_meaning.specs.CRun as R
 use Rattle.c_meaning.specs.CRun.{Next, Broken, Continued, Returning, Runs, Ended, and_next}
 use Rattle.generation.specs.Generate.{exception_local, returned, broken, continued, jump, stops_at, is_exception}
 use Rattle.c_meaning.specs.Fitting.{IsResultOf, IsReturned, AreOfTypes}
-use Rattle.ac_expr.specs.States.{IsState}
+use Rattle.expression_lang.specs.States.{IsState}
 use Rattle.correspondence.proofs.Steps.{same_on_right, after_done}
 use Rattle.generation.proofs.ExactGuards.{SameKind}
 use Rattle.generation.proofs.ExactMachines.{Alike, alike_added}

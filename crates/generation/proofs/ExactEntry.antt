@@ -8,10 +8,10 @@ use Rattle.c_values.specs.Types.{Target, CType, Integer, Void, Ptr, Struct, Arra
 use Rattle.c_values.specs.Value as V
 use Rattle.c_values.specs.Layout.{Layout, is_scalar, scalar_width}
 use Rattle.c_values.proofs.Laid.{name_is, other_name}
-use Rattle.ac_expr.specs.Sort.{Level, Bytes, Words, Numbers, Kind, WordKind, NatKind, IntKind, BoolKind}
-use Rattle.ac_expr.specs.View.{zero_word_at}
-use Rattle.ac_expr.specs.Evaluation.{Env}
-use Rattle.ac_expr.specs.Signature.{Binder, names_of, bound, kind_at}
+use Rattle.expression_lang.specs.Sort.{Level, Bytes, Words, Numbers, Kind, WordKind, NatKind, IntKind, BoolKind}
+use Rattle.expression_lang.specs.View.{zero_word_at}
+use Rattle.expression_lang.specs.Evaluation.{Env}
+use Rattle.expression_lang.specs.Signature.{Binder, names_of, bound, kind_at}
 use Rattle.simpl_lang.specs.Command.{kind_of}
 use Rattle.simpl_lang.specs.Exec as X
 use Rattle.c_lang.specs.Typed as C

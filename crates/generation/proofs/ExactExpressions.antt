@@ -9,10 +9,10 @@ use Rattle.c_values.specs.Layout.{Layout, IsLayout, shape_of, size_of, is_object
 use Rattle.c_values.specs.Path.{Field, Index, Spot, spot, IsBits, HasShape}
 use Rattle.c_values.proofs.Leads.{leads_spot}
 use Rattle.c_values.specs.CodeSameType.{type_is}
-use Rattle.ac_expr.specs.Evaluation.{Env, State, moved, moved_to}
-use Rattle.ac_expr.specs.Evaluation as E
-use Rattle.ac_expr.specs.Expression as X
-use Rattle.ac_expr.specs.Sort.{Level}
+use Rattle.expression_lang.specs.Evaluation.{Env, State, moved, moved_to}
+use Rattle.expression_lang.specs.Evaluation as E
+use Rattle.expression_lang.specs.Expression as X
+use Rattle.expression_lang.specs.Sort.{Level}
 use Rattle.c_lang.specs.Typed as C
 use Rattle.c_lang.specs.WellTyped.{Scope, variable_type, is_type, has_type, has_scalar_type, has_integer_type, is_typed, is_typed_place, are_typed_indices, is_typed_at, is_in_memory, is_array_of, shape_along, shape_in, leads_to, are_globals, are_variables, is_own_name}
 use Rattle.c_meaning.specs.CValue as V
@@ -20,10 +20,10 @@ use Rattle.c_meaning.specs.CValue.{Context, Located, accessible, address_of, loc
 use Rattle.generation.specs.Guards.{exp, truth, address, is_not_zero, path_of, guards, place_guards, index_guards, accesses, computes, fits, shifts, number}
 use Rattle.generation.specs.Refused.{refused}
 use Rattle.c_meaning.specs.Fitting.{IsOfType}
-use Rattle.ac_expr.specs.States.{IsState}
+use Rattle.expression_lang.specs.States.{IsState}
 use Rattle.generation.proofs.ExactValue.{IsValueOf, IsExactValue, IsAt, IsExactPlace}
 use Rattle.generation.proofs.FirstRefused.{same_made, same_bind, same_both, same_pair}
-use Rattle.ac_expr.proofs.Filled.{word_fits}
+use Rattle.expression_lang.proofs.Filled.{word_fits}
 use Rattle.generation.proofs.ExactTruth.{scalar_shaped, plain_value}
 use Rattle.generation.proofs.ExactPlaces.{context_of, IsExactPath, access_exact, content_exact, through_exact, in_global_exact}
 use Rattle.generation.proofs.ExactOperations.{moved_fits, own_number, converted_value, null_value, complement_value, negated, computed_value, combined_value, compared_value, shifted_value, equated_value, moved_value, moved_by_value}

@@ -8,12 +8,12 @@ use Rattle.c_values.specs.Value.{Value, Bits, word_in, number_in, same_value}
 use Rattle.c_values.specs.Layout.{Layout}
 use Rattle.c_values.specs.Path.{IsBits}
 use Rattle.c_values.proofs.WordResults.{unsigned_quotient}
-use Rattle.ac_expr.specs.Evaluation.{Env, State, holds}
-use Rattle.ac_expr.specs.Evaluation as E
-use Rattle.ac_expr.specs.Expression as X
-use Rattle.ac_expr.specs.Sort.{Level, Bytes, Words, Numbers}
-use Rattle.ac_expr.specs.GuardKind.{GuardKind}
-use Rattle.ac_expr.specs.GuardKind as K
+use Rattle.expression_lang.specs.Evaluation.{Env, State, holds}
+use Rattle.expression_lang.specs.Evaluation as E
+use Rattle.expression_lang.specs.Expression as X
+use Rattle.expression_lang.specs.Sort.{Level, Bytes, Words, Numbers}
+use Rattle.expression_lang.specs.GuardKind.{GuardKind}
+use Rattle.expression_lang.specs.GuardKind as K
 use Rattle.c_meaning.specs.CValue.{unless, value_at, number_at, number_of_type, fitted, divided}
 use Rattle.generation.specs.Guards.{when, word_of, number, in_type, fits, divides}
 use Rattle.generation.specs.Refused.{refused}

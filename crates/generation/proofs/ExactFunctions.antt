@@ -9,15 +9,15 @@ use Rattle.c_values.specs.Types.{CType}
 use Rattle.c_values.specs.Value as V
 use Rattle.c_values.specs.Layout.{Layout}
 use Rattle.c_values.specs.Choice.{Choice}
-use Rattle.ac_expr.specs.Sort.{Level, Kind}
-use Rattle.ac_expr.specs.Evaluation.{Env, State}
-use Rattle.ac_expr.specs.Expression as Exp
-use Rattle.ac_expr.specs.Signature.{Binder, bound, kind_at, result_kind}
-use Rattle.ac_expr.specs.GuardKind.{GuardKind}
+use Rattle.expression_lang.specs.Sort.{Level, Kind}
+use Rattle.expression_lang.specs.Evaluation.{Env, State}
+use Rattle.expression_lang.specs.Expression as Exp
+use Rattle.expression_lang.specs.Signature.{Binder, bound, kind_at, result_kind}
+use Rattle.expression_lang.specs.GuardKind.{GuardKind}
 use Rattle.simpl_lang.specs.Command.{Simpl, Skip, Guard, kind_of}
-use Rattle.ac_expr.specs.GuardKind as K
+use Rattle.expression_lang.specs.GuardKind as K
 use Rattle.simpl_lang.specs.Exec as X
-use Rattle.ac_expr.specs.Machine.{Machine, Returned, machine_with}
+use Rattle.expression_lang.specs.Machine.{Machine, Returned, machine_with}
 use Rattle.simpl_lang.specs.Exec.{Runs, Normal, Abrupt, execs, result_local}
 use Rattle.c_lang.specs.Typed as C
 use Rattle.c_lang.specs.WellTyped.{Scope, nowhere, variable_type, are_variables}
@@ -27,7 +27,7 @@ use Rattle.generation.specs.Guards.{when}
 use Rattle.c_meaning.specs.Kinds.{variables}
 use Rattle.generation.specs.Generate.{whole_body}
 use Rattle.c_meaning.specs.Fitting.{IsOfType, AreOfTypes, IsResultOf, IsReturned}
-use Rattle.ac_expr.specs.States.{IsState}
+use Rattle.expression_lang.specs.States.{IsState}
 use Rattle.generation.proofs.ExactTests.{same_some}
 use Rattle.correspondence.proofs.Steps.{same_on_right, after_done, after_fault, in_brackets}
 use Rattle.generation.proofs.ExactGuards.{SameKind}

@@ -6,10 +6,10 @@ use Rattle.correspondence.specs.Corresponds.{Corresponds}
 use Rattle.correspondence.proofs.Corresponds.{fault_corresponds}
 use Rattle.c_values.specs.Choice.{Choice}
 use Rattle.c_values.specs.Layout.{Layout}
-use Rattle.ac_expr.specs.Signature.{Binder}
-use Rattle.ac_expr.specs.GuardKind.{GuardKind}
+use Rattle.expression_lang.specs.Signature.{Binder}
+use Rattle.expression_lang.specs.GuardKind.{GuardKind}
 use Rattle.simpl_lang.specs.Command.{Condition, Simpl}
-use Rattle.ac_expr.specs.Machine.{Machine}
+use Rattle.expression_lang.specs.Machine.{Machine}
 use Rattle.simpl_lang.specs.Exec.{Runs, Flow, checked, execs, holds_on}
 use Rattle.c_meaning.specs.CValue.{Defined}
 use Rattle.generation.specs.Generate.{guarded}

@@ -10,7 +10,7 @@ use Rattle.c_values.specs.Word.{word}
 use Rattle.c_values.specs.Value as V
 use Rattle.c_values.specs.Path.{IsBits}
 use Rattle.c_values.specs.Layout.{Layout}
-use Rattle.ac_expr.specs.Machine.{Machine}
+use Rattle.expression_lang.specs.Machine.{Machine}
 use Rattle.simpl_lang.specs.Exec.{holds_on}
 use Rattle.c_lang.specs.Typed as C
 use Rattle.c_lang.specs.Labels.{is_label, has_label}

@@ -6,13 +6,13 @@ use Rattle.correspondence.specs.Corresponds.{Corresponds, Either, Paired}
 use Rattle.correspondence.proofs.Corresponds.{done_corresponds, then_corresponds, choose_corresponds, loop_corresponds}
 use Rattle.c_values.specs.Layout.{is_scalar}
 use Rattle.c_values.specs.Choice.{Choice}
-use Rattle.ac_expr.specs.Sort.{Level}
-use Rattle.ac_expr.specs.Signature.{Binder}
-use Rattle.ac_expr.specs.Expression as Exp
-use Rattle.ac_expr.specs.GuardKind.{GuardKind}
+use Rattle.expression_lang.specs.Sort.{Level}
+use Rattle.expression_lang.specs.Signature.{Binder}
+use Rattle.expression_lang.specs.Expression as Exp
+use Rattle.expression_lang.specs.GuardKind.{GuardKind}
 use Rattle.simpl_lang.specs.Command.{Condition, Simpl, While, Seq}
 use Rattle.simpl_lang.specs.Exec as X
-use Rattle.ac_expr.specs.Machine.{Machine}
+use Rattle.expression_lang.specs.Machine.{Machine}
 use Rattle.simpl_lang.specs.Exec.{Normal, Abrupt, Runs, execs, entered, holds_on}
 use Rattle.c_lang.specs.Typed as C
 use Rattle.c_lang.specs.WellTyped.{Scope, Around, in_a_loop, nowhere, is_typed, is_typed_test}

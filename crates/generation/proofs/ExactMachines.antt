@@ -10,14 +10,14 @@ use Rattle.c_values.specs.Layout.{is_scalar}
 use Rattle.c_values.proofs.Laid.{name_is}
 use Rattle.c_values.specs.CodeSameType.{type_is}
 use Rattle.c_values.specs.Choice.{Choice}
-use Rattle.ac_expr.specs.Sort.{Level}
-use Rattle.ac_expr.specs.Evaluation.{Env, State}
-use Rattle.ac_expr.specs.Machine.{Machine, machine_with, with_local}
+use Rattle.expression_lang.specs.Sort.{Level}
+use Rattle.expression_lang.specs.Evaluation.{Env, State}
+use Rattle.expression_lang.specs.Machine.{Machine, machine_with, with_local}
 use Rattle.c_lang.specs.Typed as C
 use Rattle.c_lang.specs.WellTyped.{Scope, variable_type, is_type, are_variables, is_own_name}
 use Rattle.c_meaning.specs.CRun.{Setting, context}
 use Rattle.c_meaning.specs.Fitting.{Fits, IsOfType, AgreeOn}
-use Rattle.ac_expr.specs.States.{IsState}
+use Rattle.expression_lang.specs.States.{IsState}
 use Rattle.generation.proofs.ExactTests.{all_of_three, same_some, none_is_none, by_test, by_cases, where_true, where_false}
 
 abbrev second_byte : Name → ℕ

@@ -12,7 +12,7 @@ use Rattle.c_values.specs.Value.{Value, Bits, Number, Truth, Parts, word_in, sam
 use Rattle.c_values.specs.Layout.{scalar_width}
 use Rattle.c_values.specs.Path.{IsBits}
 use Rattle.c_values.proofs.WordValues.{word-unsigned, word-signed, unsigned-word, signed-word}
-use Rattle.ac_expr.proofs.Filled.{word_fits}
+use Rattle.expression_lang.proofs.Filled.{word_fits}
 use Rattle.c_meaning.specs.CValue.{number_at, number_of_type}
 use Rattle.generation.specs.Guards.{is_signed_type}
 

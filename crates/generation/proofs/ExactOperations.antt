@@ -7,10 +7,10 @@ use Rattle.c_values.specs.Value.{Value, Bits, word_in, number_in, same_value}
 use Rattle.c_values.specs.Layout.{Layout, shape_of, size_of, is_scalar, scalar_width}
 use Rattle.c_values.specs.Path.{HasShape, IsBits}
 use Rattle.c_values.specs.CodeSameType.{type_is}
-use Rattle.ac_expr.specs.Evaluation.{Env, State, holds, moved}
-use Rattle.ac_expr.specs.Evaluation as E
-use Rattle.ac_expr.specs.Expression as X
-use Rattle.ac_expr.specs.Sort.{Level}
+use Rattle.expression_lang.specs.Evaluation.{Env, State, holds, moved}
+use Rattle.expression_lang.specs.Evaluation as E
+use Rattle.expression_lang.specs.Expression as X
+use Rattle.expression_lang.specs.Sort.{Level}
 use Rattle.c_lang.specs.Typed as C
 use Rattle.c_lang.specs.WellTyped.{has_type}
 use Rattle.c_meaning.specs.CValue.{value_at, number_at, number_of_type, int_of, converted, fitted, computed, combined, compares, equates, signed_offset, divided, shifted}
@@ -18,7 +18,7 @@ use Rattle.generation.specs.Guards.{number, exp, comparison, equation, moved_by,
 use Rattle.generation.specs.Refused.{refused}
 use Rattle.generation.proofs.ExactValue.{Same, IsValueOf}
 use Rattle.generation.proofs.FirstRefused.{same_weaken}
-use Rattle.ac_expr.proofs.Filled.{word_fits}
+use Rattle.expression_lang.proofs.Filled.{word_fits}
 use Rattle.generation.proofs.ExactNumbers.{number_by, number_of_type_is, some_width, bits_are, word_of_bits, same_number}
 use Rattle.generation.proofs.ExactArithmetic.{word_op_fits, word_shift_fits, word_unary_fits, sum_of_words, difference_of_words, product_of_words, negation_of_word, quotient_of_words, remainder_of_words, less_of_words, at_most_of_words}
 use Rattle.generation.proofs.ExactFits.{number_value, IsFitted, fits_exact, divides_exact}

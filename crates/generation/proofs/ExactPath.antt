@@ -14,10 +14,10 @@ use Rattle.c_values.proofs.Laid.{shape_good, structs_of}
 use Rattle.c_values.proofs.Leads.{IsNth, first, next, Leads, ends, by_member, by_element}
 use Rattle.c_values.proofs.Parts.{leads_laid, laid_shape}
 use Rattle.c_values.specs.CodeSameType.{type_is}
-use Rattle.ac_expr.specs.Evaluation.{Env, State}
-use Rattle.ac_expr.specs.Evaluation as E
-use Rattle.ac_expr.specs.GuardKind.{GuardKind}
-use Rattle.ac_expr.specs.GuardKind as K
+use Rattle.expression_lang.specs.Evaluation.{Env, State}
+use Rattle.expression_lang.specs.Evaluation as E
+use Rattle.expression_lang.specs.GuardKind.{GuardKind}
+use Rattle.expression_lang.specs.GuardKind as K
 use Rattle.c_lang.specs.Typed as C
 use Rattle.c_lang.specs.WellTyped.{member_shape, shape_along, leads_to}
 use Rattle.c_meaning.specs.CValue.{are_in_bounds}

@@ -9,12 +9,12 @@ use Rattle.c_values.specs.Word.{Word, IsWord, word}
 use Rattle.c_values.specs.Value as V
 use Rattle.c_values.specs.Layout.{is_scalar, scalar_width}
 use Rattle.c_values.specs.Choice.{Choice, Any, Fill, picked}
-use Rattle.ac_expr.specs.Sort.{Level, Bytes, Words, Numbers, NatKind, IntKind}
-use Rattle.ac_expr.specs.View.{picked_word_at}
+use Rattle.expression_lang.specs.Sort.{Level, Bytes, Words, Numbers, NatKind, IntKind}
+use Rattle.expression_lang.specs.View.{picked_word_at}
 use Rattle.simpl_lang.specs.Exec.{picked_local}
-use Rattle.ac_expr.specs.Signature.{kind_at}
+use Rattle.expression_lang.specs.Signature.{kind_at}
 use Rattle.generation.proofs.ExactTests.{by_test}
-use Rattle.ac_expr.proofs.Filled.{word_fits}
+use Rattle.expression_lang.proofs.Filled.{word_fits}
 use Rattle.correspondence.proofs.Steps.{right_goes_on}
 use Rattle.generation.proofs.ExactGuards.{SameKind}
 

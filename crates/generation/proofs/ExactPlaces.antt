@@ -10,19 +10,19 @@ use Rattle.c_values.specs.Path.{Step, HasShape}
 use Rattle.c_values.proofs.Leads.{leads_in_range, leads_spot}
 use Rattle.c_memory.specs.Tags.{is_pointer_ok}
 use Rattle.c_memory.specs.Heap.{is_tagged}
-use Rattle.ac_expr.specs.Evaluation.{Env, State}
-use Rattle.ac_expr.specs.Evaluation as E
-use Rattle.ac_expr.specs.Expression as X
-use Rattle.ac_expr.specs.Sort.{Level, is_lifted}
-use Rattle.ac_expr.specs.GuardKind.{GuardKind}
-use Rattle.ac_expr.specs.GuardKind as K
+use Rattle.expression_lang.specs.Evaluation.{Env, State}
+use Rattle.expression_lang.specs.Evaluation as E
+use Rattle.expression_lang.specs.Expression as X
+use Rattle.expression_lang.specs.Sort.{Level, is_lifted}
+use Rattle.expression_lang.specs.GuardKind.{GuardKind}
+use Rattle.expression_lang.specs.GuardKind as K
 use Rattle.c_lang.specs.Typed as C
 use Rattle.c_lang.specs.WellTyped.{Scope, shape_along, leads_to, shape_in, are_globals}
 use Rattle.c_meaning.specs.CValue.{Context, unless, Located, InMemory, InGlobal, are_in_bounds, accessible, value, indexed}
 use Rattle.c_meaning.specs.CValue as V
 use Rattle.generation.specs.Guards.{when, exp, content, path_of, guards, bounds, index_guards, accesses}
 use Rattle.generation.specs.Refused.{refused}
-use Rattle.ac_expr.specs.States.{IsState}
+use Rattle.expression_lang.specs.States.{IsState}
 use Rattle.generation.proofs.ReadHeap.{sel_shaped, read_shaped}
 use Rattle.generation.proofs.ExactValue.{Same, IsValueOf, IsExactValue, IsAt, IsExactPlace}
 use Rattle.generation.proofs.FirstRefused.{same_unless, same_bind, same_both}

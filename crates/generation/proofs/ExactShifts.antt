@@ -14,10 +14,10 @@ use Rattle.c_values.specs.Value.{Value, Bits, word_in, number_in}
 use Rattle.c_values.specs.Layout.{Layout}
 use Rattle.c_values.specs.Path.{IsBits}
 use Rattle.c_values.proofs.WordValues.{IsSigned, low, high, signed_of, signed-word}
-use Rattle.ac_expr.specs.Evaluation.{Env, State, holds}
-use Rattle.ac_expr.specs.Evaluation as E
-use Rattle.ac_expr.specs.Expression as X
-use Rattle.ac_expr.specs.GuardKind as K
+use Rattle.expression_lang.specs.Evaluation.{Env, State, holds}
+use Rattle.expression_lang.specs.Evaluation as E
+use Rattle.expression_lang.specs.Expression as X
+use Rattle.expression_lang.specs.GuardKind as K
 use Rattle.c_lang.specs.Typed as C
 use Rattle.c_meaning.specs.CValue.{unless, value_at, number_at, shifted}
 use Rattle.generation.specs.Guards.{when, word_of, shifts, shift}

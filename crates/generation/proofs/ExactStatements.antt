@@ -12,12 +12,12 @@ use Rattle.c_values.specs.Layout.{is_scalar, scalar_width, shape_of}
 use Rattle.c_values.specs.Path.{HasShape}
 use Rattle.c_values.specs.Choice.{Choice, picked}
 use Rattle.c_values.specs.CodeSameType.{type_is}
-use Rattle.ac_expr.specs.Sort.{Level}
-use Rattle.ac_expr.specs.Signature.{Binder, kind_at}
-use Rattle.ac_expr.specs.GuardKind.{GuardKind}
+use Rattle.expression_lang.specs.Sort.{Level}
+use Rattle.expression_lang.specs.Signature.{Binder, kind_at}
+use Rattle.expression_lang.specs.GuardKind.{GuardKind}
 use Rattle.simpl_lang.specs.Command.{Simpl, Set, Seq, Cond}
 use Rattle.simpl_lang.specs.Exec as X
-use Rattle.ac_expr.specs.Machine.{Machine, with_local}
+use Rattle.expression_lang.specs.Machine.{Machine, with_local}
 use Rattle.simpl_lang.specs.Exec.{Normal, Abrupt, Runs, execs, result_local, holds_on, picked_local}
 use Rattle.c_lang.specs.Typed as C
 use Rattle.c_lang.specs.WellTyped.{Scope, Around, in_a_loop, nowhere, in_a_switch, is_type, is_typed, is_typed_at, is_typed_scalar, is_typed_target, is_typed_test, all_labels, are_values, are_different, has_one_default, variable_type, is_statement, are_statements, are_groups, is_result, gives_nothing}

@@ -14,12 +14,12 @@ use Rattle.c_values.proofs.Laid.{name_is}
 use Rattle.c_values.proofs.Leads.{leads_in_range, leads_spot}
 use Rattle.c_values.proofs.Shaped.{upd_shaped}
 use Rattle.c_memory.specs.Heap.{write_heap}
-use Rattle.ac_expr.specs.Sort.{Level}
-use Rattle.ac_expr.specs.Signature.{Binder, values_of}
-use Rattle.ac_expr.specs.Expression as Exp
-use Rattle.ac_expr.specs.Evaluation.{Env, State}
-use Rattle.ac_expr.specs.Evaluation as E
-use Rattle.ac_expr.specs.Machine.{Machine, with_local, machine_with}
+use Rattle.expression_lang.specs.Sort.{Level}
+use Rattle.expression_lang.specs.Signature.{Binder, values_of}
+use Rattle.expression_lang.specs.Expression as Exp
+use Rattle.expression_lang.specs.Evaluation.{Env, State}
+use Rattle.expression_lang.specs.Evaluation as E
+use Rattle.expression_lang.specs.Machine.{Machine, with_local, machine_with}
 use Rattle.simpl_lang.specs.Exec.{Normal, Runs, execs, value_on}
 use Rattle.c_lang.specs.Typed as C
 use Rattle.c_lang.specs.WellTyped.{Scope, Around, is_typed, is_typed_place, is_typed_target, are_arguments, are_variables, variable_type}
@@ -29,7 +29,7 @@ use Rattle.generation.specs.Guards.{exp, exps, path_of, guards, argument_guards,
 use Rattle.generation.specs.Generate.{guarded, assignment, target_guards}
 use Rattle.generation.specs.Refused.{refused}
 use Rattle.c_meaning.specs.Fitting.{AreOfTypes}
-use Rattle.ac_expr.specs.States.{IsState}
+use Rattle.expression_lang.specs.States.{IsState}
 use Rattle.generation.proofs.ExactValue.{Same, IsValueOf, IsAt, EndsAt}
 use Rattle.generation.proofs.ExactTests.{same_some, by_test}
 use Rattle.generation.proofs.ExactGuards.{SameKind, evaluated_guarded}

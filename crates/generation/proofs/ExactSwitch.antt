@@ -11,12 +11,12 @@ use Rattle.c_values.specs.Path.{IsBits, HasShape}
 use Rattle.c_values.specs.Layout.{shape_of}
 use Rattle.c_values.specs.CodeSameType.{type_is}
 use Rattle.c_values.specs.Choice.{Choice}
-use Rattle.ac_expr.specs.Sort.{Level}
-use Rattle.ac_expr.specs.Signature.{Binder}
-use Rattle.ac_expr.specs.GuardKind.{GuardKind}
+use Rattle.expression_lang.specs.Sort.{Level}
+use Rattle.expression_lang.specs.Signature.{Binder}
+use Rattle.expression_lang.specs.GuardKind.{GuardKind}
 use Rattle.simpl_lang.specs.Command.{Simpl, Set, Seq, Catch}
 use Rattle.simpl_lang.specs.Exec as X
-use Rattle.ac_expr.specs.Machine.{Machine, with_local}
+use Rattle.expression_lang.specs.Machine.{Machine, with_local}
 use Rattle.simpl_lang.specs.Exec.{Normal, Abrupt, Runs, execs, holds_on, value_on}
 use Rattle.c_lang.specs.Typed as C
 use Rattle.c_lang.specs.Labels.{is_label, has_label}

@@ -5,14 +5,14 @@ use Rattle.c_values.specs.Word.{word}
 use Rattle.c_values.specs.Value.{Value, Bits, same_value}
 use Rattle.c_values.specs.Layout.{Layout, is_scalar, scalar_width, shape_of}
 use Rattle.c_values.specs.Path.{HasShape, IsBits}
-use Rattle.ac_expr.specs.Evaluation.{Env, State, holds, if_truth}
-use Rattle.ac_expr.specs.Evaluation as E
-use Rattle.ac_expr.specs.Expression as X
+use Rattle.expression_lang.specs.Evaluation.{Env, State, holds, if_truth}
+use Rattle.expression_lang.specs.Evaluation as E
+use Rattle.expression_lang.specs.Expression as X
 use Rattle.c_lang.specs.Typed as C
 use Rattle.c_meaning.specs.CValue.{int_of, is_true}
 use Rattle.generation.specs.Guards.{is_not_zero, of_truth, exp, truth}
 use Rattle.generation.proofs.ExactValue.{IsValueOf}
-use Rattle.ac_expr.proofs.Filled.{word_fits}
+use Rattle.expression_lang.proofs.Filled.{word_fits}
 use Rattle.generation.proofs.ExactNumbers.{some_scalar, same_as_number, zero_between}
 
 -- a value of a scalar type is a word

@@ -7,11 +7,11 @@ use Rattle.correspondence.specs.Corresponds.{Corresponds, Paired}
 use Rattle.correspondence.proofs.Corresponds.{corresponds_weaker}
 use Rattle.c_values.specs.Name.{Name, same_name, is_among, are_distinct}
 use Rattle.c_values.specs.Choice.{Choice}
-use Rattle.ac_expr.specs.Sort.{Level}
-use Rattle.ac_expr.specs.Signature.{Invocation, signature, bound, result_kind}
+use Rattle.expression_lang.specs.Sort.{Level}
+use Rattle.expression_lang.specs.Signature.{Invocation, signature, bound, result_kind}
 use Rattle.simpl_lang.specs.Command.{kind_of}
 use Rattle.simpl_lang.specs.Exec as X
-use Rattle.ac_expr.specs.Machine.{Returned, machine_with}
+use Rattle.expression_lang.specs.Machine.{Returned, machine_with}
 use Rattle.simpl_lang.specs.Exec.{simpl_runs, execs}
 use Rattle.c_lang.specs.Typed as C
 use Rattle.c_lang.specs.WellTyped.{Scope, IsWellTyped, scope_in, is_function, is_result, are_statements, are_variables, nowhere}
@@ -19,7 +19,7 @@ use Rattle.c_meaning.specs.CRun as R
 use Rattle.c_meaning.specs.CRun.{Runs, c_runs}
 use Rattle.generation.specs.Generate.{function_of, signature_of, generated, locals, commands, whole_body}
 use Rattle.c_meaning.specs.Fitting.{AreOfTypes, IsReturned}
-use Rattle.ac_expr.specs.States.{IsState}
+use Rattle.expression_lang.specs.States.{IsState}
 use Rattle.generation.proofs.ExactTests.{all_of_two, all_of_four}
 use Rattle.generation.proofs.ExactGuards.{SameKind}
 use Rattle.generation.proofs.ExactLabels.{neither, not_true}

@@ -7,10 +7,10 @@ use Rattle.c_values.specs.Value as V
 use Rattle.c_values.specs.Layout.{Layout, GlobalVar, Shape, shape_of, is_object, is_scalar, global_type}
 use Rattle.c_values.specs.Path.{Step, HasShape}
 use Rattle.c_values.proofs.Leads.{Leads}
-use Rattle.ac_expr.specs.Evaluation.{Env, State, holds}
-use Rattle.ac_expr.specs.Evaluation as E
-use Rattle.ac_expr.specs.Signature.{values_of}
-use Rattle.ac_expr.specs.GuardKind.{GuardKind}
+use Rattle.expression_lang.specs.Evaluation.{Env, State, holds}
+use Rattle.expression_lang.specs.Evaluation as E
+use Rattle.expression_lang.specs.Signature.{values_of}
+use Rattle.expression_lang.specs.GuardKind.{GuardKind}
 use Rattle.c_lang.specs.Typed as C
 use Rattle.c_lang.specs.WellTyped.{Scope}
 use Rattle.c_meaning.specs.CValue.{Context, Defined, ◌>>=◌, Located, InMemory, InGlobal, is_true, value, values, located, accessible}

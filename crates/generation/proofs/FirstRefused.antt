@@ -1,9 +1,9 @@
 -- The first condition of a list that is refused, and what is defined until then.
 use Rattle.std.proofs.Common.{◌≡◌, Bool, true, false, not, ◌||◌, List, [], ◌∷◌, ◌++◌, Option, Some, None, Ok, Err, cond, refl, sym, ap, ◌∙◌, subst, append_assoc}
 use Rattle.c_values.specs.Layout.{Layout}
-use Rattle.ac_expr.specs.Evaluation.{Env, State, holds}
-use Rattle.ac_expr.specs.Expression as E
-use Rattle.ac_expr.specs.GuardKind.{GuardKind}
+use Rattle.expression_lang.specs.Evaluation.{Env, State, holds}
+use Rattle.expression_lang.specs.Expression as E
+use Rattle.expression_lang.specs.GuardKind.{GuardKind}
 use Rattle.simpl_lang.specs.Command.{Condition}
 use Rattle.c_meaning.specs.CValue.{Defined, ◌>>=◌, unless}
 use Rattle.generation.specs.Guards.{when, under}

@@ -4,8 +4,8 @@ use Rattle.std.proofs.lemmas.Bool.{and_parts, or_from, cond-false}
 use Rattle.c_values.specs.Name.{Name, same_name, is_among, are_distinct}
 use Rattle.c_values.specs.Types.{Target, CType, Integer}
 use Rattle.c_values.proofs.Laid.{other_name}
-use Rattle.ac_expr.specs.Sort.{Level, Kind, WordKind, BoolKind}
-use Rattle.ac_expr.specs.Signature.{Binder, binder, kind_at, names_of}
+use Rattle.expression_lang.specs.Sort.{Level, Kind, WordKind, BoolKind}
+use Rattle.expression_lang.specs.Signature.{Binder, binder, kind_at, names_of}
 use Rattle.simpl_lang.specs.Command.{kind_of}
 use Rattle.simpl_lang.specs.Flag.{thrown_local, LeavesFlag, AllLeaveFlag, NoneTakesFlag, HasUnusedFlag}
 use Rattle.c_lang.specs.Typed as C

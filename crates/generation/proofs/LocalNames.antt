@@ -12,8 +12,8 @@ use Rattle.c_values.specs.Name.{Name, same_name, is_among, are_distinct}
 use Rattle.c_values.specs.Types.{Target, CType}
 use Rattle.c_values.specs.Layout.{is_scalar}
 use Rattle.c_values.proofs.Laid.{name_is, same_name-refl}
-use Rattle.ac_expr.specs.Sort.{Level, WordKind, BoolKind}
-use Rattle.ac_expr.specs.Signature.{Binder, names_of, binder, kind_at}
+use Rattle.expression_lang.specs.Sort.{Level, WordKind, BoolKind}
+use Rattle.expression_lang.specs.Signature.{Binder, names_of, binder, kind_at}
 use Rattle.c_lang.specs.Typed as C
 use Rattle.c_lang.specs.Numbers.{Numbers, numbers_of, numbers_in, numbers_among, are_apart, are_numbers}
 use Rattle.c_lang.specs.WellTyped.{IsWellTyped, is_own_name, is_result, are_variables, are_statements, nowhere, scope_in, is_function, are_functions, are_numbered}

@@ -6,12 +6,12 @@ use Rattle.c_values.specs.Types.{Target, IntType, CType, Integer, Void, Ptr, Str
 use Rattle.c_values.specs.Layout.{Layout, Shape, Incomplete, Scalar, Record, Row, type_of, shape_of, is_object, is_scalar, scalar_width}
 use Rattle.c_values.specs.CodeSameType.{type_is, same_type-refl}
 use Rattle.c_values.proofs.Laid.{IsLaid, structs_of}
-use Rattle.ac_expr.specs.Expression as E
-use Rattle.ac_expr.specs.Form.{path_has, is_part_of_value}
-use Rattle.ac_expr.specs.Sort as S
-use Rattle.ac_expr.specs.Sort.{Level, Bytes, Words, Numbers, Kind, WordKind, NatKind, IntKind, BoolKind, Of, WordSort, NumberSort, TruthSort, word_sort_of, same_scalar, is_truth, is_word_of, word_sort, scalar_sort, sort_at, shape_along}
-use Rattle.ac_expr.specs.Signature.{Binder, Signature, signature, kinds_of, kind_at, result_kind, binder}
-use Rattle.ac_expr.specs.Sorted.{program_sort, part_place, global_place, fits_place, sort_in, scalars_of, scalar_in, with_scalar, same_scalars, call_scalars, result_scalars}
+use Rattle.expression_lang.specs.Expression as E
+use Rattle.expression_lang.specs.Form.{path_has, is_part_of_value}
+use Rattle.expression_lang.specs.Sort as S
+use Rattle.expression_lang.specs.Sort.{Level, Bytes, Words, Numbers, Kind, WordKind, NatKind, IntKind, BoolKind, Of, WordSort, NumberSort, TruthSort, word_sort_of, same_scalar, is_truth, is_word_of, word_sort, scalar_sort, sort_at, shape_along}
+use Rattle.expression_lang.specs.Signature.{Binder, Signature, signature, kinds_of, kind_at, result_kind, binder}
+use Rattle.expression_lang.specs.Sorted.{program_sort, part_place, global_place, fits_place, sort_in, scalars_of, scalar_in, with_scalar, same_scalars, call_scalars, result_scalars}
 use Rattle.simpl_lang.specs.Command.{Condition, Simpl, Skip, Throw, Set, SetGlobal, Store, Pick, Seq, Cond, Catch, While, Call}
 use Rattle.simpl_lang.specs.Sorted.{is_sorted, is_scalar_of, is_local, fits_target}
 use Rattle.simpl_lang.specs.Exec.{result_local}

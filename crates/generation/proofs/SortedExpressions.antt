@@ -14,10 +14,10 @@ use Rattle.c_values.specs.Path.{Spot, member_spot}
 use Rattle.c_values.specs.CodeSameType.{type_is}
 use Rattle.c_values.proofs.Laid.{IsLaid, AreLaid, structs_of, shape_good}
 use Rattle.c_values.proofs.Parts.{laid_shape}
-use Rattle.ac_expr.specs.Expression as E
-use Rattle.ac_expr.specs.Sort as S
-use Rattle.ac_expr.specs.Sort.{Level, Bytes, Words, Numbers, is_lifted, WordSort, is_unary, sort_at, word_sort, scalar_sort}
-use Rattle.ac_expr.proofs.Sorting.{object_whole}
+use Rattle.expression_lang.specs.Expression as E
+use Rattle.expression_lang.specs.Sort as S
+use Rattle.expression_lang.specs.Sort.{Level, Bytes, Words, Numbers, is_lifted, WordSort, is_unary, sort_at, word_sort, scalar_sort}
+use Rattle.expression_lang.proofs.Sorting.{object_whole}
 use Rattle.c_lang.specs.Typed as C
 use Rattle.c_lang.specs.WellTyped.{Scope, variable_type, are_variables, are_globals, is_integer, has_type, has_scalar_type, has_integer_type, is_in_memory, member_shape, shape_along, shape_in, leads_to, is_typed, is_typed_place, are_typed_indices}
 use Rattle.generation.specs.Guards.{is_signed_type, number, cast_to, conversion, word_op_of, combine_op, fits, divides, computes, shifts, shift, comparison, equation, is_not_zero, of_truth, moved_by, exp, truth, content, address, path_of, bounds, accesses, guards, place_guards, index_guards}

@@ -9,12 +9,12 @@ use Rattle.c_values.specs.Width.{IsWidth}
 use Rattle.c_values.specs.Word.{word, WordOp, ShiftOp, UnaryOp, WordTest}
 use Rattle.c_values.specs.Layout.{Shape, Record, Row, Fields, is_object, shape_of}
 use Rattle.c_values.specs.Path.{Spot, member_spot}
-use Rattle.ac_expr.specs.Expression as E
-use Rattle.ac_expr.specs.Form.{has, path_has, is_part_of_value}
-use Rattle.ac_expr.specs.Sort.{Sort, Scope, is_width, word_width, is_word_of, is_number, is_truth, number_sort, truth_sort, where_holds, of_words, of_word, word_sort, are_same, of_shape, shape_in, of_type, cast_fits, is_unary, sort_at, sort_of, shape_along}
-use Rattle.ac_expr.specs.Sorted.{program_sort}
-use Rattle.ac_expr.proofs.Sorting.{literal_is, literal_sorted}
-use Rattle.ac_expr.proofs.Filled.{word_fits}
+use Rattle.expression_lang.specs.Expression as E
+use Rattle.expression_lang.specs.Form.{has, path_has, is_part_of_value}
+use Rattle.expression_lang.specs.Sort.{Sort, Scope, is_width, word_width, is_word_of, is_number, is_truth, number_sort, truth_sort, where_holds, of_words, of_word, word_sort, are_same, of_shape, shape_in, of_type, cast_fits, is_unary, sort_at, sort_of, shape_along}
+use Rattle.expression_lang.specs.Sorted.{program_sort}
+use Rattle.expression_lang.proofs.Sorting.{literal_is, literal_sorted}
+use Rattle.expression_lang.proofs.Filled.{word_fits}
 use Rattle.simpl_lang.specs.Command.{Condition}
 use Rattle.simpl_lang.specs.Sorted.{are_conditions}
 use Rattle.generation.specs.Guards.{under}

@@ -4,8 +4,8 @@ use Rattle.std.specs.Prelude.{◌&&◌}
 use Rattle.c_values.specs.Name.{Name, same_name}
 use Rattle.c_values.specs.Layout.{Layout, is_scalar}
 use Rattle.c_values.specs.Types.{Target}
-use Rattle.ac_expr.specs.Sort.{Level, WordKind, BoolKind}
-use Rattle.ac_expr.specs.Signature.{Binder, signature, binder}
+use Rattle.expression_lang.specs.Sort.{Level, WordKind, BoolKind}
+use Rattle.expression_lang.specs.Signature.{Binder, signature, binder}
 use Rattle.simpl_lang.specs.Command.{simpl_fn}
 use Rattle.simpl_lang.specs.Flag.{thrown_local}
 use Rattle.c_lang.specs.Typed as C

@@ -4,8 +4,8 @@ use Rattle.std.proofs.lemmas.Bool.{false≢true, and_parts, or_from}
 use Rattle.c_values.specs.Name.{Name, same_name}
 use Rattle.c_values.specs.Types.{Target, IntType, CType}
 use Rattle.c_values.specs.Layout.{Layout}
-use Rattle.ac_expr.specs.Expression as E
-use Rattle.ac_expr.specs.Sort.{Level}
+use Rattle.expression_lang.specs.Expression as E
+use Rattle.expression_lang.specs.Sort.{Level}
 use Rattle.simpl_lang.specs.Command.{Condition, Simpl, Skip, Set, Seq, Cond, Catch, While, Call}
 use Rattle.simpl_lang.specs.Names.{command_names, some_names}
 use Rattle.simpl_lang.specs.Exec.{result_local}

@@ -7,9 +7,9 @@ use Rattle.c_values.specs.Types.{Target, IntType, CType, Integer, Ptr, is_signed
 use Rattle.c_values.specs.Layout.{Layout, scalar_width}
 use Rattle.c_values.specs.Word.{Wsshr, Wushr}
 use Rattle.c_values.specs.Number.{NumberOp, Add, Sub, Mul}
-use Rattle.ac_expr.specs.Expression as E
-use Rattle.ac_expr.specs.Facts.{names}
-use Rattle.ac_expr.specs.Sort.{Level, Bytes, Words, Numbers, is_lifted}
+use Rattle.expression_lang.specs.Expression as E
+use Rattle.expression_lang.specs.Mentions.{names}
+use Rattle.expression_lang.specs.Sort.{Level, Bytes, Words, Numbers, is_lifted}
 use Rattle.simpl_lang.specs.Command.{Condition}
 use Rattle.simpl_lang.specs.Names.{path_names, conditions_name}
 use Rattle.c_lang.specs.Typed as C

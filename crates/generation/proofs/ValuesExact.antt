@@ -2,8 +2,8 @@
 use Rattle.std.proofs.Common.{◌≡◌, true, ◌&&◌, List, [], ◌∷◌, Ok, refl, sym, ap₂, subst}
 use Rattle.std.proofs.lemmas.Bool.{and_parts}
 use Rattle.c_values.specs.Layout.{IsLayout, is_scalar}
-use Rattle.ac_expr.specs.Evaluation.{Env}
-use Rattle.ac_expr.specs.Signature.{values_of}
+use Rattle.expression_lang.specs.Evaluation.{Env}
+use Rattle.expression_lang.specs.Signature.{values_of}
 use Rattle.c_lang.specs.Typed as C
 use Rattle.c_lang.specs.WellTyped.{Scope, has_type, is_typed, is_typed_at, is_typed_place, are_arguments, are_globals, are_variables, is_own_name}
 use Rattle.c_meaning.specs.CValue.{Context, accessible, located, value, values}

@@ -5,9 +5,9 @@ use Rattle.c_values.specs.Name.{Name, same_name, with_name, is_among, are_distin
 use Rattle.c_values.specs.Types.{Target, CType, Integer, Void, Ptr, Struct, Array, is_signed, width_of}
 use Rattle.c_values.specs.Layout.{is_scalar, scalar_width, global_type}
 use Rattle.c_values.proofs.Laid.{name_is, other_name, same_name-refl}
-use Rattle.ac_expr.specs.Sort.{Level, Bytes, Words, Numbers, Scalar, Kind, WordKind, NatKind, IntKind, BoolKind, WordSort, word_sort_of, is_kind, are_kinds}
-use Rattle.ac_expr.specs.Signature.{Binder, Signature, names_of, kinds_of, kind_at, binder, result_kind}
-use Rattle.ac_expr.specs.Sorted.{names_with}
+use Rattle.expression_lang.specs.Sort.{Level, Bytes, Words, Numbers, Scalar, Kind, WordKind, NatKind, IntKind, BoolKind, WordSort, word_sort_of, is_kind, are_kinds}
+use Rattle.expression_lang.specs.Signature.{Binder, Signature, names_of, kinds_of, kind_at, binder, result_kind}
+use Rattle.expression_lang.specs.Sorted.{names_with}
 use Rattle.simpl_lang.specs.Command.{kind_of}
 use Rattle.simpl_lang.specs.Exec.{result_local}
 use Rattle.simpl_lang.specs.Flag.{thrown_local}

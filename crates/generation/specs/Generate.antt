@@ -6,11 +6,11 @@ use Rattle.std.specs.Fmt.{decimal}
 use Rattle.c_values.specs.Name.{Name}
 use Rattle.c_values.specs.Types.{Target, IntType, CType, Integer, width_of, is_signed}
 use Rattle.c_values.specs.Layout.{Layout, scalar_width}
-use Rattle.ac_expr.specs.Expression as E
-use Rattle.ac_expr.specs.Sort.{Level, Numbers, Kind, WordKind, NatKind, IntKind, BoolKind}
-use Rattle.ac_expr.specs.Signature.{Binder, Signature, kind_at, binder, result_kind}
+use Rattle.expression_lang.specs.Expression as E
+use Rattle.expression_lang.specs.Sort.{Level, Numbers, Kind, WordKind, NatKind, IntKind, BoolKind}
+use Rattle.expression_lang.specs.Signature.{Binder, Signature, kind_at, binder, result_kind}
 use Rattle.c_meaning.specs.Kinds.{variables}
-use Rattle.ac_expr.specs.GuardKind as K
+use Rattle.expression_lang.specs.GuardKind as K
 use Rattle.simpl_lang.specs.Command.{Condition, Simpl, Skip, Throw, Set, SetGlobal, Store, Pick, Seq, Cond, Guard, Catch, While, Call, SimplFn, SimplUnit}
 use Rattle.simpl_lang.specs.Exec.{result_local}
 use Rattle.simpl_lang.specs.Flag.{thrown_local}

@@ -5,11 +5,11 @@ use Rattle.c_values.specs.Types.{Target, IntType, CType, Integer, Ptr, width_of,
 use Rattle.c_values.specs.Number.{Add, Sub, Mul, Div, least_of, greatest_of}
 use Rattle.c_values.specs.Word.{word, WordOp, Wadd, Wsub, Wmul, Wand, Wor, Wxor, Wudiv, Wumod, Wsdiv, Wsmod, Wshl, Wushr, Wsshr, Wneg, Wnot, Wult, Wule, Wslt, Wsle}
 use Rattle.c_values.specs.Layout.{Layout, scalar_width}
-use Rattle.ac_expr.specs.Expression as E
-use Rattle.ac_expr.specs.Sort.{Level, Numbers, is_lifted}
-use Rattle.ac_expr.specs.GuardKind.{GuardKind}
+use Rattle.expression_lang.specs.Expression as E
+use Rattle.expression_lang.specs.Sort.{Level, Numbers, is_lifted}
+use Rattle.expression_lang.specs.GuardKind.{GuardKind}
 use Rattle.simpl_lang.specs.Command.{Condition}
-use Rattle.ac_expr.specs.GuardKind as K
+use Rattle.expression_lang.specs.GuardKind as K
 use Rattle.c_lang.specs.Typed as C
 
 abbrev pub when : GuardKind → E.Exp → Condition

@@ -1,8 +1,8 @@
 -- The conditions of a guard, on a run.
 use Rattle.std.specs.Prelude.{List, [], ◌∷◌, Option, Some, None, if◌then◌else◌}
 use Rattle.c_values.specs.Layout.{Layout}
-use Rattle.ac_expr.specs.GuardKind.{GuardKind}
-use Rattle.ac_expr.specs.Evaluation.{Env, State, holds}
+use Rattle.expression_lang.specs.GuardKind.{GuardKind}
+use Rattle.expression_lang.specs.Evaluation.{Env, State, holds}
 use Rattle.simpl_lang.specs.Command.{Condition}
 
 -- the kind of the first condition that doesn't hold

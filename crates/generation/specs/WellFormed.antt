@@ -1,6 +1,6 @@
 -- What generation makes of a unit is well-formed, at whatever levels.
 use Rattle.c_values.specs.Name.{Name}
-use Rattle.ac_expr.specs.Sort.{Level}
+use Rattle.expression_lang.specs.Sort.{Level}
 use Rattle.simpl_lang.specs.Sorted.{IsWellFormed}
 use Rattle.c_lang.specs.Typed.{TypedUnit}
 use Rattle.generation.specs.Generate.{generated}

@@ -6,9 +6,9 @@ ghost use Rattle.correspondence.specs.Outcome.{Done};
 ghost use Rattle.correspondence.specs.Corresponds.{Corresponds};
 ghost use Rattle.c_values.specs.Name.{Name, are_distinct};
 ghost use Rattle.c_values.specs.Choice.{Choice};
-ghost use Rattle.ac_expr.specs.Sort.{Level};
-ghost use Rattle.ac_expr.specs.Signature.{Invocation, names_of};
-ghost use Rattle.ac_expr.specs.Machine.{Returned};
+ghost use Rattle.expression_lang.specs.Sort.{Level};
+ghost use Rattle.expression_lang.specs.Signature.{Invocation, names_of};
+ghost use Rattle.expression_lang.specs.Machine.{Returned};
 ghost use Rattle.simpl_lang.specs.Exec.{simpl_runs};
 ghost use Rattle.simpl_lang.specs.Flag.{HasUnusedFlag};
 ghost use Rattle.c_lang.specs.Typed.{TypedFn, TypedUnit, typed_fn};
@@ -17,7 +17,7 @@ ghost use Rattle.c_meaning.specs.CRun.{c_runs};
 ghost use Rattle.generation.specs.Generate.{generated};
 ghost use Rattle.generation.specs.WellFormed.{GeneratesWellFormed};
 ghost use Rattle.c_meaning.specs.Fitting.{AreOfTypes, IsReturned};
-ghost use Rattle.ac_expr.specs.States.{IsState};
+ghost use Rattle.expression_lang.specs.States.{IsState};
 
 /// The Simpl program of a well-typed unit has exactly the ends of the C functions, whatever the levels watch: at every
 /// bound and every limit of nested calls, from every state that can be and arguments of the parameters' types, it gives

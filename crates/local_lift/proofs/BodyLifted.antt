@@ -1,8 +1,8 @@
 -- The body of a function lifted, where its command is and its start is made; and what holds of it.
 use Rattle.std.proofs.Common.{◌≡◌, Bool, true, not, ◌&&◌, List, [], ◌∷◌, Some, refl, sym, subst, ap, ap₂, ◌∙◌}
 use Rattle.c_values.specs.Name.{Name, is_among}
-use Rattle.ac_expr.specs.Expression.{Exp}
-use Rattle.ac_expr.specs.Signature.{names_of}
+use Rattle.expression_lang.specs.Expression.{Exp}
+use Rattle.expression_lang.specs.Signature.{names_of}
 use Rattle.simpl_lang.specs.Command.{Simpl}
 use Rattle.simpl_lang.specs.Form.{is_flat}
 use Rattle.monad_lang.specs.Program as M

@@ -1,7 +1,7 @@
 -- Names of conditions as one.
 use Rattle.std.proofs.Common.{◌≡◌, Bool, true, false, ◌||◌, List, [], ◌∷◌, refl, ap}
 use Rattle.c_values.specs.Name.{Name}
-use Rattle.ac_expr.specs.Facts.{names}
+use Rattle.expression_lang.specs.Mentions.{names}
 use Rattle.simpl_lang.specs.Command.{Condition}
 use Rattle.simpl_lang.specs.Names.{conditions_name}
 use Rattle.rule_local.specs.Table.{conj}

@@ -1,8 +1,8 @@
 -- A sequence and a loop lifted, where their parts are.
 use Rattle.std.proofs.Common.{◌≡◌, List, ap, ap₂, ◌∙◌}
 use Rattle.c_values.specs.Name.{Name}
-use Rattle.ac_expr.specs.Expression.{Exp}
-use Rattle.ac_expr.specs.Signature.{Binder, names_of}
+use Rattle.expression_lang.specs.Expression.{Exp}
+use Rattle.expression_lang.specs.Signature.{Binder, names_of}
 use Rattle.simpl_lang.specs.Command as C
 use Rattle.simpl_lang.specs.Command.{Condition, Simpl}
 use Rattle.monad_lang.specs.Program as M

@@ -1,8 +1,8 @@
 -- One more of a list, and the names that are carried.
 use Rattle.std.proofs.Common.{◌≡◌, Bool, true, false, cond, not, ◌&&◌, List, [], ◌∷◌, ◌++◌, map, length, string_bytes, arith, refl, sym, ap, ◌∙◌}
 use Rattle.c_values.specs.Name.{Name, is_among}
-use Rattle.ac_expr.specs.Expression.{Exp, And}
-use Rattle.ac_expr.specs.declared.signatures.Binder as B
+use Rattle.expression_lang.specs.Expression.{Exp, And}
+use Rattle.expression_lang.specs.declared.signatures.Binder as B
 use Rattle.simpl_lang.specs.Command.{Condition, Simpl}
 use Rattle.rule_local.specs.Assigned.{assigns}
 use Rattle.rule_local.specs.Table.{conj}

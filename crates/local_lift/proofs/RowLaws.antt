@@ -2,7 +2,7 @@
 use Rattle.std.proofs.Common.{◌≡◌, ℕ, zero, suc, Bool, true, false, not, cond, ◌&&◌, ◌||◌, List, [], ◌∷◌, ◌++◌, length, refl, sym, subst, ap, ap₂, ◌∙◌, string_bytes, Result, Ok, Err, IfOk, ◌<◌, ◌≤◌, ◌+◌, add-one, drop, get_or, arith, append_assoc}
 use Rattle.c_values.specs.Name.{Name, same_name, is_among}
 use Rattle.c_values.proofs.Laid.{name_is}
-use Rattle.ac_expr.specs.declared.signatures.Binder as B
+use Rattle.expression_lang.specs.declared.signatures.Binder as B
 use Rattle.local_lift.specs.declared.rows.Row.{Row}
 use Rattle.local_lift.specs.Live.{some_of, through}
 use Rattle.local_lift.specs.CodeNames.{names}

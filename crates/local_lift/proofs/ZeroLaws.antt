@@ -2,9 +2,9 @@
 use Rattle.std.proofs.Common.{◌≡◌, Bool, true, false, cond, ◌&&◌, List, [], ◌∷◌, ◌++◌, Option, Some, None, refl, sym, ap, ◌∙◌, subst}
 use Rattle.std.proofs.lemmas.Bool.{false≢true, and_parts}
 use Rattle.c_values.specs.Name.{Name, same_name}
-use Rattle.ac_expr.specs.Expression.{Exp}
-use Rattle.ac_expr.specs.Sort.{Kind, is_kind, are_kinds}
-use Rattle.ac_expr.specs.Signature.{Binder, kinds_of}
+use Rattle.expression_lang.specs.Expression.{Exp}
+use Rattle.expression_lang.specs.Sort.{Kind, is_kind, are_kinds}
+use Rattle.expression_lang.specs.Signature.{Binder, kinds_of}
 use Rattle.simpl_lang.specs.Command.{kind_of}
 use Rattle.rule_local.specs.Table.{zero_exp, zero_first, zeros}
 

@@ -1,8 +1,8 @@
 -- Locals of a row that a command assigns, and conditions before an expression.
 use Rattle.std.specs.Prelude.{Bool, not, ◌&&◌, List, [], ◌∷◌, string_bytes, if◌then◌else◌}
 use Rattle.c_values.specs.Name.{Name, is_among}
-use Rattle.ac_expr.specs.Expression.{Exp, And}
-use Rattle.ac_expr.specs.declared.signatures.Binder as B
+use Rattle.expression_lang.specs.Expression.{Exp, And}
+use Rattle.expression_lang.specs.declared.signatures.Binder as B
 use Rattle.simpl_lang.specs.Command.{Condition, Simpl}
 use Rattle.rule_local.specs.Assigned.{assigns}
 

@@ -1,9 +1,9 @@
 -- Names of locals, as the code has them.
 use Rattle.std.specs.Prelude.{List, map, string_bytes}
 use Rattle.c_values.specs.Name.{Name}
-use Rattle.ac_expr.specs.declared.signatures.Binder as B
-use Rattle.ac_expr.specs.CodeSignature.{binder_of}
-use Rattle.ac_expr.specs.Signature.{names_of}
+use Rattle.expression_lang.specs.declared.signatures.Binder as B
+use Rattle.expression_lang.specs.CodeSignature.{binder_of}
+use Rattle.expression_lang.specs.Signature.{names_of}
 
 abbrev pub names : List B.Binder → List Name
 names bs = names_of (map binder_of bs)

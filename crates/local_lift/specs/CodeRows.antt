@@ -1,7 +1,7 @@
 -- Rows: for each of a function's locals whether it is meant; and how rows change.
 use Rattle.std.specs.Prelude.{◌≡◌, ℕ, zero, suc, Bool, true, false, not, ◌&&◌, ◌||◌, List, [], ◌∷◌, string_bytes, Option, if◌then◌else◌, slice_index_or as get_or}
 use Rattle.c_values.specs.Name.{Name, same_name, is_among}
-use Rattle.ac_expr.specs.declared.signatures.Binder as B
+use Rattle.expression_lang.specs.declared.signatures.Binder as B
 use Rattle.simpl_lang.specs.Names.{is_target}
 use Rattle.local_lift.specs.Live.{some_of}
 use Rattle.local_lift.specs.declared.rows.Row.{Row}

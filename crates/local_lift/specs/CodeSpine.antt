@@ -1,7 +1,7 @@
 -- Commands whose last part is apart, with what stands before it: first parts and guards.
 use Rattle.std.specs.Prelude.{◌≡◌, ◌<◌, ℕ, Bool, true, false, ◌||◌, List, [], ◌∷◌}
 use Rattle.c_values.specs.Name.{Name}
-use Rattle.ac_expr.specs.Facts as facts
+use Rattle.expression_lang.specs.Mentions as mentions
 use Rattle.simpl_lang.specs.declared.command.Simpl.{size-Simpl}
 use Rattle.simpl_lang.specs.Command.{Simpl, Skip, Throw, Set, SetGlobal, Store, Pick, Seq, Cond, Guard, Catch, While, Call}
 use Rattle.simpl_lang.specs.CodeCommand.{condition_of, simpl_of}

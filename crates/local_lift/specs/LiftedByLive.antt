@@ -1,7 +1,7 @@
 -- Locals lifted out of a flat command, with the names that each sequence and each loop hands on by what is live there.
 use Rattle.std.specs.Prelude.{Bool, not, ◌&&◌, List, [], ◌∷◌, Some, None}
 use Rattle.c_values.specs.Name.{Name, is_among}
-use Rattle.ac_expr.specs.Signature.{Binder, names_of}
+use Rattle.expression_lang.specs.Signature.{Binder, names_of}
 use Rattle.simpl_lang.specs.Command as C
 use Rattle.simpl_lang.specs.Command.{Simpl, kind_of}
 use Rattle.monad_lang.specs.Program as M

@@ -2,7 +2,7 @@
 -- body hands from each local to each other is found once, so nested loops cost no power of their depth.
 use Rattle.std.specs.Prelude.{Bool, true, false, not, ◌&&◌, ◌||◌, List, [], ◌∷◌}
 use Rattle.c_values.specs.Name.{Name, same_name, is_among}
-use Rattle.ac_expr.specs.Facts.{names}
+use Rattle.expression_lang.specs.Mentions.{names}
 use Rattle.simpl_lang.specs.Command as C
 use Rattle.simpl_lang.specs.Command.{Simpl}
 use Rattle.simpl_lang.specs.Names.{path_names, is_target}

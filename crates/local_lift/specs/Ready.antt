@@ -2,8 +2,8 @@
 -- in a well-formed unit.
 use Rattle.std.specs.Prelude.{◌≡◌, true, List}
 use Rattle.c_values.specs.Name.{Name, is_among}
-use Rattle.ac_expr.specs.Signature.{names_of, kinds_of}
-use Rattle.ac_expr.specs.Sort.{are_kinds}
+use Rattle.expression_lang.specs.Signature.{names_of, kinds_of}
+use Rattle.expression_lang.specs.Sort.{are_kinds}
 use Rattle.simpl_lang.specs.Command.{Simpl}
 use Rattle.simpl_lang.specs.Names.{command_names}
 use Rattle.monad_lang.specs.Program.{Mon}

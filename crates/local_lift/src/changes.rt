@@ -1,7 +1,7 @@
 //! Rows that change, and rows by way of which others are reached.
 
 ghost use Rattle.std.specs.Prelude.{◌≡◌, ℕ, Bool, false, ◌++◌, ◌∷◌, [], List, slice_index_or, IfOk};
-ghost use Rattle.ac_expr.specs.declared.signatures.Binder as B;
+ghost use Rattle.expression_lang.specs.declared.signatures.Binder as B;
 ghost use Rattle.c_values.specs.Name.{Name, same_name};
 ghost use Rattle.local_lift.specs.declared.rows.Row.{Row};
 ghost use Rattle.local_lift.specs.CodeNames.{names};
@@ -10,7 +10,7 @@ ghost use Rattle.local_lift.specs.CodeRows.{marks, RowMoves, Moves, Matrix, Matr
 
 use crate::names::{IsNone, IsThis};
 use crate::rows::{Row, copy_of_row, either, has, row_of, without};
-use ac_expr::Binder;
+use expression_lang::Binder;
 use std::alloc::{AllocError, Global};
 
 // A row before a set of the local to an expression of these names.

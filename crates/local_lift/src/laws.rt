@@ -2,7 +2,7 @@
 
 ghost use Rattle.std.specs.Prelude.{◌≡◌, true, List};
 ghost use Rattle.c_values.specs.Name.{Name, is_among};
-ghost use Rattle.ac_expr.specs.Signature.{Binder, names_of};
+ghost use Rattle.expression_lang.specs.Signature.{Binder, names_of};
 ghost use Rattle.simpl_lang.specs.Command.{Simpl};
 ghost use Rattle.monad_lang.specs.Names.{is_free};
 ghost use Rattle.rule_local.specs.Assigned.{assigns};

@@ -4,9 +4,9 @@ ghost use Rattle.std.specs.Prelude.{◌≡◌, List, [], ◌∷◌, map, string_
 ghost use Rattle.std.specs.Option.{option_map};
 ghost use Rattle.c_values.specs.Name.{is_among};
 ghost use Rattle.c_values.specs.CodeTypes.{type_of};
-ghost use Rattle.ac_expr.specs.CodeExpression.{exp_of, path_of};
-ghost use Rattle.ac_expr.specs.CodeSignature.{binder_of};
-ghost use Rattle.ac_expr.specs.Signature as sign;
+ghost use Rattle.expression_lang.specs.CodeExpression.{exp_of, path_of};
+ghost use Rattle.expression_lang.specs.CodeSignature.{binder_of};
+ghost use Rattle.expression_lang.specs.Signature as sign;
 ghost use Rattle.simpl_lang.specs.Command as plain;
 ghost use Rattle.simpl_lang.specs.CodeCommand.{condition_of};
 ghost use Rattle.monad_lang.specs.Program as M;
@@ -22,7 +22,7 @@ ghost use Rattle.local_lift.specs.LiftedByLive.{by_live};
 
 use crate::lists::{conjunction, kind_held, starts, vars, vars_with};
 use crate::names::is_among;
-use ac_expr::{Binder, Exp, Path, copy_exps};
+use expression_lang::{Binder, Exp, Path, copy_exps};
 use c_values::{CType, copy_of};
 use monad_lang::{Mon, Place, boxed};
 use rule_local::Rule;

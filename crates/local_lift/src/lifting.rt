@@ -1,9 +1,9 @@
 //! Commands lifted to programs.
 
 ghost use Rattle.std.specs.Prelude.{◌≡◌, map, string_bytes, IfOk};
-ghost use Rattle.ac_expr.specs.CodeExpression.{exp_of};
-ghost use Rattle.ac_expr.specs.CodeSignature.{binder_of};
-ghost use Rattle.ac_expr.specs.Facts as facts;
+ghost use Rattle.expression_lang.specs.CodeExpression.{exp_of};
+ghost use Rattle.expression_lang.specs.CodeSignature.{binder_of};
+ghost use Rattle.expression_lang.specs.Mentions as mentions;
 ghost use Rattle.simpl_lang.specs.CodeCommand.{simpl_of};
 ghost use Rattle.local_lift.specs.Live.{live};
 ghost use Rattle.local_lift.specs.LiftedByLive.{among, by_live};
@@ -20,7 +20,7 @@ use crate::liveness::lived;
 use crate::names::{IsNamed, IsOutput};
 use crate::rows::{Row, either, row_of};
 use crate::spine::{Front, Spine, taken_apart};
-use ac_expr::Binder;
+use expression_lang::Binder;
 use simpl_lang::{Condition, Simpl};
 use std::alloc::{AllocError, Global};
 
@@ -51,7 +51,7 @@ fn row_before_guard(
     row: &Row,
 ) -> Result<Row, AllocError>
     ensures { IfOk result (λ before. RowMoves locals.now
-        (adding (λ y. facts.names y (exp_of condition.now.exp))) row.now.flags.items
+        (adding (λ y. mentions.names y (exp_of condition.now.exp))) row.now.flags.items
         before.flags.items) }
 {
     let named = row_of(

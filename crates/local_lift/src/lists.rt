@@ -2,9 +2,9 @@
 
 ghost use Rattle.std.specs.Prelude.{◌≡◌, map, string_bytes, IfOk, if◌then◌else◌};
 ghost use Rattle.c_values.specs.Name.{same_name};
-ghost use Rattle.ac_expr.specs.Expression.{Var, And};
-ghost use Rattle.ac_expr.specs.CodeExpression.{exp_of, kind_of};
-ghost use Rattle.ac_expr.specs.CodeSignature.{binder_of};
+ghost use Rattle.expression_lang.specs.Expression.{Var, And};
+ghost use Rattle.expression_lang.specs.CodeExpression.{exp_of, kind_of};
+ghost use Rattle.expression_lang.specs.CodeSignature.{binder_of};
 ghost use Rattle.simpl_lang.specs.Command as plain;
 ghost use Rattle.simpl_lang.specs.CodeCommand.{condition_of, simpl_of};
 ghost use Rattle.simpl_lang.specs.Names.{is_target};
@@ -16,7 +16,7 @@ ghost use Rattle.rule_local.specs.Lifted.{kind_there};
 ghost use Rattle.local_lift.specs.CodeLists.{carried_in};
 
 use crate::rows::Row;
-use ac_expr::{Binder, Exp, Kind, boxed};
+use expression_lang::{Binder, Exp, Kind, boxed};
 use monad_lang::Start;
 use simpl_lang::{Condition, Simpl};
 use std::alloc::{AllocError, Global};

@@ -5,7 +5,7 @@ ghost use Rattle.std.specs.Option.{option_map};
 ghost use Rattle.c_values.specs.Name.{Name, same_name};
 ghost use Rattle.c_values.specs.Types.{CType};
 ghost use Rattle.simpl_lang.specs.CodeCommand.{condition_of, simpl_of};
-ghost use Rattle.ac_expr.specs.CodeExpression.{exp_of, path_of};
+ghost use Rattle.expression_lang.specs.CodeExpression.{exp_of, path_of};
 ghost use Rattle.local_lift.specs.declared.rows.Row.{Row};
 ghost use Rattle.local_lift.specs.Live.{none, live};
 ghost use Rattle.local_lift.specs.CodeNames.{names};
@@ -20,7 +20,7 @@ use crate::changes::{
 use crate::names::{IsNamed, IsNamedByArguments, IsNamedByStore, IsNamedByTurn, IsNamedByWrite};
 use crate::rows::{Row, either, row_of};
 use crate::spine::{Front, Spine, taken_apart};
-use ac_expr::{Binder, Exp, Path};
+use expression_lang::{Binder, Exp, Path};
 use simpl_lang::{Condition, Simpl};
 use std::alloc::{AllocError, Global};
 

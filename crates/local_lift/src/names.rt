@@ -2,13 +2,13 @@
 
 ghost use Rattle.std.specs.Prelude.{◌≡◌, map, string_bytes};
 ghost use Rattle.c_values.specs.Name.{is_among};
-ghost use Rattle.ac_expr.specs.CodeExpression.{exp_of};
-ghost use Rattle.ac_expr.specs.Facts.{names};
+ghost use Rattle.expression_lang.specs.CodeExpression.{exp_of};
+ghost use Rattle.expression_lang.specs.Mentions.{names};
 ghost use Rattle.simpl_lang.specs.CodeCommand.{condition_of};
 ghost use Rattle.simpl_lang.specs.Names.{conditions_name};
 ghost use Rattle.monad_lang.specs.Names.{is_in_some};
 
-use ac_expr::{Exp, IsName, Path};
+use expression_lang::{Exp, IsName, Path};
 use simpl_lang::Condition;
 
 /// A test of names.
@@ -110,8 +110,8 @@ pub(crate) struct IsNamed<'a> {
 }
 
 impl NameTest for IsNamed<'_> {
-    ghost use Rattle.ac_expr.specs.CodeExpression.{exp_of};
-    ghost use Rattle.ac_expr.specs.Facts.{names};
+    ghost use Rattle.expression_lang.specs.CodeExpression.{exp_of};
+    ghost use Rattle.expression_lang.specs.Mentions.{names};
 
     ghost holds = { λ test y. names y (exp_of test.exp.now) };
 
@@ -129,8 +129,8 @@ pub(crate) struct IsNamedByWrite<'a> {
 
 impl NameTest for IsNamedByWrite<'_> {
     ghost use Rattle.std.specs.Prelude.{◌||◌};
-    ghost use Rattle.ac_expr.specs.CodeExpression.{exp_of, path_of};
-    ghost use Rattle.ac_expr.specs.Facts.{names};
+    ghost use Rattle.expression_lang.specs.CodeExpression.{exp_of, path_of};
+    ghost use Rattle.expression_lang.specs.Mentions.{names};
     ghost use Rattle.simpl_lang.specs.Names.{path_names};
 
     ghost holds = { λ test y.
@@ -151,8 +151,8 @@ pub(crate) struct IsNamedByStore<'a> {
 
 impl NameTest for IsNamedByStore<'_> {
     ghost use Rattle.std.specs.Prelude.{◌||◌};
-    ghost use Rattle.ac_expr.specs.CodeExpression.{exp_of, path_of};
-    ghost use Rattle.ac_expr.specs.Facts.{names};
+    ghost use Rattle.expression_lang.specs.CodeExpression.{exp_of, path_of};
+    ghost use Rattle.expression_lang.specs.Mentions.{names};
     ghost use Rattle.simpl_lang.specs.Names.{path_names};
 
     ghost holds = { λ test y.
@@ -172,7 +172,7 @@ pub(crate) struct IsNamedByArguments<'a> {
 
 impl NameTest for IsNamedByArguments<'_> {
     ghost use Rattle.std.specs.Prelude.{map};
-    ghost use Rattle.ac_expr.specs.CodeExpression.{exp_of};
+    ghost use Rattle.expression_lang.specs.CodeExpression.{exp_of};
     ghost use Rattle.monad_lang.specs.Names.{is_in_some};
 
     ghost holds = { λ test y. is_in_some y (map exp_of test.arguments.now) };
@@ -205,8 +205,8 @@ pub(crate) struct IsNamedByTurn<'a> {
 
 impl NameTest for IsNamedByTurn<'_> {
     ghost use Rattle.std.specs.Prelude.{◌||◌, map};
-    ghost use Rattle.ac_expr.specs.CodeExpression.{exp_of};
-    ghost use Rattle.ac_expr.specs.Facts.{names};
+    ghost use Rattle.expression_lang.specs.CodeExpression.{exp_of};
+    ghost use Rattle.expression_lang.specs.Mentions.{names};
     ghost use Rattle.simpl_lang.specs.CodeCommand.{condition_of};
     ghost use Rattle.rule_local.specs.Table.{conj};
 

@@ -5,7 +5,7 @@ ghost use Rattle.c_values.specs.Name.{Name};
 ghost use Rattle.local_lift.specs.CodeRows.{marks, either_row, row_without, row_has, RowMoves};
 
 use crate::names::NameTest;
-use ac_expr::Binder;
+use expression_lang::Binder;
 use std::alloc::{AllocError, Global};
 
 /// Which of a function's locals are meant.

@@ -4,8 +4,8 @@ use Rattle.correspondence.specs.OneEnd.{Continues, Deeper, AllContinue}
 use Rattle.correspondence.proofs.Continues.{continues_itself, then_continues, choose_continues, loop_continues, called_continues, below_continues}
 use Rattle.c_values.specs.Choice.{Choice}
 use Rattle.c_values.specs.Layout.{Layout}
-use Rattle.ac_expr.specs.Evaluation.{Env, State}
-use Rattle.ac_expr.specs.Signature.{Invocation}
+use Rattle.expression_lang.specs.Evaluation.{Env, State}
+use Rattle.expression_lang.specs.Signature.{Invocation}
 use Rattle.monad_lang.specs.Program.{Mon, Ret, Bind, Guard, If, Write, Loop, Call, Pick, FinalFn, FinalUnit, final_fn}
 use Rattle.monad_lang.specs.Run.{Runs, runs, function_runs, bodies, functions_below, program_runs}
 

@@ -4,9 +4,9 @@ use Rattle.correspondence.specs.Included.{Included, AllIncluded}
 use Rattle.correspondence.proofs.Included.{included_itself, then_included, choose_included, loop_included, called_included, below_included}
 use Rattle.c_values.specs.Choice.{Any, Fill}
 use Rattle.c_values.specs.Layout.{Layout}
-use Rattle.ac_expr.specs.Evaluation.{Env, State}
-use Rattle.ac_expr.specs.Signature.{Invocation}
-use Rattle.ac_expr.proofs.Filled.{picked_at_included}
+use Rattle.expression_lang.specs.Evaluation.{Env, State}
+use Rattle.expression_lang.specs.Signature.{Invocation}
+use Rattle.expression_lang.proofs.Filled.{picked_at_included}
 use Rattle.monad_lang.specs.Program.{Mon, Ret, Bind, Guard, If, Write, Loop, Call, Pick, FinalFn, FinalUnit, final_fn}
 use Rattle.monad_lang.specs.Run.{Runs, runs, function_runs, bodies, functions_below, program_runs}
 

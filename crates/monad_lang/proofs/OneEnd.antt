@@ -4,10 +4,10 @@ use Rattle.correspondence.specs.OneEnd.{OneEnd, HaveOneEnd}
 use Rattle.correspondence.proofs.OneEnd.{done_once, fault_once, stop_once, choose_once, then_once, loop_once, called_once, below_once}
 use Rattle.c_values.specs.Choice.{Fill}
 use Rattle.c_values.specs.Layout.{Layout}
-use Rattle.ac_expr.specs.Expression.{Exp}
-use Rattle.ac_expr.specs.Evaluation.{Env, State}
-use Rattle.ac_expr.specs.Signature.{Invocation}
-use Rattle.ac_expr.proofs.Picked.{picked_at_once}
+use Rattle.expression_lang.specs.Expression.{Exp}
+use Rattle.expression_lang.specs.Evaluation.{Env, State}
+use Rattle.expression_lang.specs.Signature.{Invocation}
+use Rattle.expression_lang.proofs.Picked.{picked_at_once}
 use Rattle.monad_lang.specs.Program.{Mon, Ret, Bind, Guard, If, Write, Loop, Call, Pick, FinalFn, FinalUnit, final_fn}
 use Rattle.monad_lang.specs.Run.{Answer, Runs, entered, runs, function_runs, bodies, functions_below, program_runs}
 

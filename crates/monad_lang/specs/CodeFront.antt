@@ -1,6 +1,6 @@
 -- Programs from all but their last program and that, and programs without programs in them.
 use Rattle.std.specs.Prelude.{List, [], ◌∷◌, map, string_bytes}
-use Rattle.ac_expr.specs.CodeExpression.{exp_of}
+use Rattle.expression_lang.specs.CodeExpression.{exp_of}
 use Rattle.monad_lang.specs.declared.fronts.Front as F
 use Rattle.monad_lang.specs.Program.{Mon, Bind, If, Loop}
 use Rattle.monad_lang.specs.CodeProgram.{start_of, mon_of}

@@ -2,8 +2,8 @@
 use Rattle.std.specs.Prelude.{map, string_bytes}
 use Rattle.c_values.specs.CodeTypes.{type_of}
 use Rattle.c_values.specs.CodeValue.{global_of}
-use Rattle.ac_expr.specs.CodeExpression.{exp_of, path_of, level_of, kind_of}
-use Rattle.ac_expr.specs.CodeSignature.{binder_of}
+use Rattle.expression_lang.specs.CodeExpression.{exp_of, path_of, level_of, kind_of}
+use Rattle.expression_lang.specs.CodeSignature.{binder_of}
 use Rattle.monad_lang.specs.declared.program.Place as P
 use Rattle.monad_lang.specs.declared.program.Start as S
 use Rattle.monad_lang.specs.declared.program.Mon as M

@@ -2,8 +2,8 @@
 -- rules of the state monad would make the program simpler.
 use Rattle.std.specs.Prelude.{Bool, true, false, not, ◌&&◌, ◌||◌, List, [], ◌∷◌}
 use Rattle.c_values.specs.Name.{Name, same_name, is_among}
-use Rattle.ac_expr.specs.Expression.{Exp, Var, WordLit, NumberLit, TruthLit}
-use Rattle.ac_expr.specs.Form.{has, path_has, is_load, is_read, is_word_arithmetic}
+use Rattle.expression_lang.specs.Expression.{Exp, Var, WordLit, NumberLit, TruthLit}
+use Rattle.expression_lang.specs.Form.{has, path_has, is_load, is_read, is_word_arithmetic}
 use Rattle.monad_lang.specs.Program.{Place, Stored, Written, Global, Start, Mon, Ret, Bind, Guard, If, Write, Loop, Call, Pick}
 use Rattle.monad_lang.specs.Names.{is_free, is_captured}
 

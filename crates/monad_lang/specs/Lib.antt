@@ -3,7 +3,6 @@ pub mod Run
 pub mod Reach
 pub mod Sorted
 pub mod Names
-pub mod Flow
 pub mod Form
 pub mod Steady
 pub mod CodeProgram

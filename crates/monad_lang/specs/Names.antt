@@ -1,9 +1,9 @@
 -- Free names of expressions and programs, and names that a binder would capture.
 use Rattle.std.specs.Prelude.{Bool, false, not, ◌&&◌, ◌||◌, List, [], ◌∷◌}
 use Rattle.c_values.specs.Name.{Name, is_among}
-use Rattle.ac_expr.specs.Expression.{Exp}
-use Rattle.ac_expr.specs.Form.{path_has}
-use Rattle.ac_expr.specs.Facts.{is_name, names}
+use Rattle.expression_lang.specs.Expression.{Exp}
+use Rattle.expression_lang.specs.Form.{path_has}
+use Rattle.expression_lang.specs.Mentions.{is_name, names}
 use Rattle.monad_lang.specs.Program.{Place, Stored, Written, Global, Start, Mon, Ret, Bind, Guard, If, Write, Loop, Call, Pick}
 use Rattle.monad_lang.specs.Run.{start_names}
 

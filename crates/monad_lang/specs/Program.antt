@@ -5,9 +5,9 @@ use Rattle.c_values.specs.Name.{Name, same_name}
 use Rattle.c_values.specs.Types.{CType}
 use Rattle.c_values.specs.Program.{Program, function_named}
 use Rattle.c_values.specs.Layout.{Layout, GlobalVar}
-use Rattle.ac_expr.specs.Expression.{Exp, Path}
-use Rattle.ac_expr.specs.Sort.{Level, Kind}
-use Rattle.ac_expr.specs.Signature.{Binder}
+use Rattle.expression_lang.specs.Expression.{Exp, Path}
+use Rattle.expression_lang.specs.Sort.{Level, Kind}
+use Rattle.expression_lang.specs.Signature.{Binder}
 
 -- what is written: bytes, a typed heap, or a global
 pub data Place : Type 0 where

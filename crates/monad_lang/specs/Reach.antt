@@ -4,10 +4,10 @@ use Rattle.std.specs.Prelude.{◌≡◌, ℕ, Bool, true, false, List, [], ◌�
 use Rattle.correspondence.specs.Outcome.{Done}
 use Rattle.c_values.specs.Layout.{Layout}
 use Rattle.c_values.specs.Choice.{Choice}
-use Rattle.ac_expr.specs.Expression.{Exp}
-use Rattle.ac_expr.specs.Evaluation.{Env, State, holds}
+use Rattle.expression_lang.specs.Expression.{Exp}
+use Rattle.expression_lang.specs.Evaluation.{Env, State, holds}
 use Rattle.monad_lang.specs.Program.{Mon, Ret, Bind, Guard, If, Write, Loop, Call, Pick}
-use Rattle.ac_expr.specs.Signature.{bound}
+use Rattle.expression_lang.specs.Signature.{bound}
 use Rattle.monad_lang.specs.Run.{Answer, Runs, runs, start_names, start_values}
 
 -- a turn is made from here: the loop's guard and test hold

@@ -11,10 +11,10 @@ use Rattle.c_values.specs.Layout.{Layout}
 use Rattle.c_values.specs.Path.{upd}
 use Rattle.c_values.specs.Choice.{Choice}
 use Rattle.c_memory.specs.Heap.{write_heap}
-use Rattle.ac_expr.specs.Expression.{Exp}
-use Rattle.ac_expr.specs.Evaluation.{Env, State, value, steps, holds}
-use Rattle.ac_expr.specs.View.{picked_at}
-use Rattle.ac_expr.specs.Signature.{Invocation, names_of, values_of, bound, no_env}
+use Rattle.expression_lang.specs.Expression.{Exp}
+use Rattle.expression_lang.specs.Evaluation.{Env, State, value, steps, holds}
+use Rattle.expression_lang.specs.View.{picked_at}
+use Rattle.expression_lang.specs.Signature.{Invocation, names_of, values_of, bound, no_env}
 use Rattle.monad_lang.specs.Program.{Place, Stored, Written, Global, Start, Mon, Ret, Bind, Guard, If, Write, Loop, Call, Pick, FinalFn, FinalUnit, final_fn}
 
 -- what a program gives: its values and the state after it

@@ -2,9 +2,9 @@
 use Rattle.std.specs.Prelude.{◌≡◌, ◌==◌, length, Bool, true, false, ◌&&◌, List, [], ◌∷◌, map, Option, Some, None}
 use Rattle.c_values.specs.Name.{Name, are_distinct}
 use Rattle.c_values.specs.Layout.{IsLayout, global_type}
-use Rattle.ac_expr.specs.Sort.{Scalar, Sort, Kind, Scope, is_truth, sort_of_kind, is_kind, are_kinds}
-use Rattle.ac_expr.specs.Signature.{Signature, names_of, kinds_of, signature}
-use Rattle.ac_expr.specs.Sorted.{scope_with, program_sort, scalar_in, with_scalar, scalars_of, same_scalars, typed_place, global_place, fits_place, call_scalars}
+use Rattle.expression_lang.specs.Sort.{Scalar, Sort, Kind, Scope, is_truth, sort_of_kind, is_kind, are_kinds}
+use Rattle.expression_lang.specs.Signature.{Signature, names_of, kinds_of, signature}
+use Rattle.expression_lang.specs.Sorted.{scope_with, program_sort, scalar_in, with_scalar, scalars_of, same_scalars, typed_place, global_place, fits_place, call_scalars}
 use Rattle.monad_lang.specs.Program.{Place, Stored, Written, Global, Start, Mon, Ret, Bind, Guard, If, Write, Loop, Call, Pick, FinalFn, FinalUnit}
 use Rattle.monad_lang.specs.Run.{start_names}
 

@@ -10,10 +10,10 @@ use Rattle.c_values.specs.Choice.{Choice}
 use Rattle.c_memory.specs.Memory.{Memory}
 use Rattle.c_memory.specs.TypedHeap.{view}
 use Rattle.c_memory.specs.Heap.{Heap, OnBytes, OnTypes, is_tagged}
-use Rattle.ac_expr.specs.Evaluation.{Env, State, value, steps}
-use Rattle.ac_expr.specs.States.{state_with}
-use Rattle.ac_expr.specs.Signature.{kinds_of, values_of}
-use Rattle.ac_expr.specs.View.{AreOfKinds}
+use Rattle.expression_lang.specs.Evaluation.{Env, State, value, steps}
+use Rattle.expression_lang.specs.States.{state_with}
+use Rattle.expression_lang.specs.Signature.{kinds_of, values_of}
+use Rattle.expression_lang.specs.View.{AreOfKinds}
 use Rattle.monad_lang.specs.Program.{Written, Mon, Write, Call, FinalFn, FinalUnit, final_fn}
 use Rattle.monad_lang.specs.Run.{Answer, Failure, Runs, runs}
 use Rattle.monad_lang.specs.Reach.{AtEach}

@@ -1,7 +1,7 @@
 //! Whether two programs are the same.
 
 ghost use Rattle.std.specs.Prelude.{◌≡◌, ◌↔◌, IsTrue};
-ghost use Rattle.ac_expr.specs.CodeExpression.{kind_of};
+ghost use Rattle.expression_lang.specs.CodeExpression.{kind_of};
 ghost use Rattle.monad_lang.specs.declared.program.Mon.{size-Mon};
 ghost use Rattle.monad_lang.specs.CodeProgram.{place_of, mon_of};
 ghost use Rattle.monad_lang.specs.CodeFront.{IsStep};
@@ -9,7 +9,7 @@ ghost use Rattle.monad_lang.specs.CodeCompared.{Says, LastIsSmaller};
 
 use crate::program::{Mon, Place};
 use crate::starts::same_starts;
-use ac_expr::{Kind, equal_types, same_exps, same_names};
+use expression_lang::{Kind, equal_types, same_exps, same_names};
 
 impl Mon {
     /// Whether two programs are the same. It goes along the last parts by a loop, since a text may have long sequences.

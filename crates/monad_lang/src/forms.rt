@@ -1,13 +1,13 @@
 //! Forms of programs: on bytes, on typed heaps, and on numbers.
 
 ghost use Rattle.std.specs.Prelude.{◌≡◌, Bool, map};
-ghost use Rattle.ac_expr.specs.CodeExpression.{exp_of};
+ghost use Rattle.expression_lang.specs.CodeExpression.{exp_of};
 ghost use Rattle.monad_lang.specs.Program as plain;
 ghost use Rattle.monad_lang.specs.Form.{some_has, start_has, place_has, program_has, is_stored, is_written, no_place, is_bytes, is_heaps, is_numbers};
 ghost use Rattle.monad_lang.specs.CodeProgram.{place_of, start_of, mon_of};
 
 use crate::program::{Mon, Place, Start};
-use ac_expr::{Exp, IsLoad, IsRead, IsWordArithmetic, Test};
+use expression_lang::{Exp, IsLoad, IsRead, IsWordArithmetic, Test};
 
 /// A test of what is written.
 pub trait PlaceTest {

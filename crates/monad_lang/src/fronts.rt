@@ -5,7 +5,7 @@ ghost use Rattle.monad_lang.specs.CodeProgram.{mon_of};
 ghost use Rattle.monad_lang.specs.CodeFront.{with_front};
 
 use crate::program::{Mon, Start};
-use ac_expr::Exp;
+use expression_lang::Exp;
 use std::alloc::{AllocError, Global};
 
 /// All but the last program of a program.

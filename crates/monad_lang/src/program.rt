@@ -1,6 +1,6 @@
 //! Programs as plain data. `specs/Program` has the language, and `specs/Run` what programs do.
 
-use ac_expr::{Binder, Exp, Kind, Level, Path};
+use expression_lang::{Binder, Exp, Kind, Level, Path};
 use c_values::{CType, Program};
 
 /// What is written.

@@ -4,8 +4,8 @@ ghost use Rattle.std.specs.Prelude.{ℕ, Option, ◌≤◌};
 ghost use Rattle.correspondence.specs.OneEnd.{OneEnd, Continues, Deeper};
 ghost use Rattle.correspondence.specs.Included.{Included};
 ghost use Rattle.c_values.specs.Choice.{Choice, Any, Fill};
-ghost use Rattle.ac_expr.specs.Evaluation.{Env, State};
-ghost use Rattle.ac_expr.specs.Signature.{Invocation};
+ghost use Rattle.expression_lang.specs.Evaluation.{Env, State};
+ghost use Rattle.expression_lang.specs.Signature.{Invocation};
 ghost use Rattle.monad_lang.specs.Program.{Mon, FinalUnit};
 ghost use Rattle.monad_lang.specs.Run.{runs, functions_below, program_runs};
 

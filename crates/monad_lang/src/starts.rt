@@ -7,7 +7,7 @@ use crate::program::Start;
 use std::alloc::{AllocError, Global};
 
 /// Whether two lists have the same names with the same expressions.
-#[tactic(auto, using(ac_expr::proofs::SameLists::maps_end, ac_expr::proofs::SameLists::maps_go_on))]
+#[tactic(auto, using(expression_lang::proofs::SameLists::maps_end, expression_lang::proofs::SameLists::maps_go_on))]
 pub(crate) fn same_starts(starts: &[Start], others: &[Start]) -> bool
     ensures { IsTrue result ↔ (map start_of starts.now ≡ map start_of others.now) }
 {

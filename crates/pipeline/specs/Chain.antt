@@ -10,9 +10,9 @@ use Rattle.c_memory.specs.Memory.{Memory}
 use Rattle.c_memory.specs.Tags.{IsWellTagged}
 use Rattle.c_memory.specs.Footprint.{KeepsMemory}
 use Rattle.c_memory.specs.Heap.{OnBytes}
-use Rattle.ac_expr.specs.Sort.{Level, Kind, is_lifted}
-use Rattle.ac_expr.specs.View.{views_at, AreOfKinds}
-use Rattle.ac_expr.specs.Signature.{Invocation, kinds_of}
+use Rattle.expression_lang.specs.Sort.{Level, Kind, is_lifted}
+use Rattle.expression_lang.specs.View.{views_at, AreOfKinds}
+use Rattle.expression_lang.specs.Signature.{Invocation, kinds_of}
 use Rattle.simpl_lang.specs.Command.{SimplUnit}
 use Rattle.simpl_lang.specs.Exec as Simpl
 use Rattle.monad_lang.specs.Program.{FinalUnit, FinalFn, final_fn}

@@ -1,11 +1,11 @@
 -- What takes exceptions out is well-sorted where the command was and the flag is a truth value.
 use Rattle.std.proofs.Common.{◌≡◌, Bool, true, false, cond, ◌&&◌, List, [], ◌∷◌, Option, Some, None, refl, ap, ◌∙◌}
 use Rattle.std.proofs.lemmas.Bool.{and_parts, and_from}
-use Rattle.ac_expr.specs.Expression.{Exp, TruthLit, And, Imp, Not}
-use Rattle.ac_expr.specs.Form.{has, is_part_of_value}
-use Rattle.ac_expr.specs.Sort.{Scope, TruthSort, Sort, is_truth, truth_sort, scalar_sort, sort_of, where_holds}
-use Rattle.ac_expr.specs.Sorted.{program_sort}
-use Rattle.ac_expr.specs.Signature.{Signature}
+use Rattle.expression_lang.specs.Expression.{Exp, TruthLit, And, Imp, Not}
+use Rattle.expression_lang.specs.Form.{has, is_part_of_value}
+use Rattle.expression_lang.specs.Sort.{Scope, TruthSort, Sort, is_truth, truth_sort, scalar_sort, sort_of, where_holds}
+use Rattle.expression_lang.specs.Sorted.{program_sort}
+use Rattle.expression_lang.specs.Signature.{Signature}
 use Rattle.simpl_lang.specs.Command.{Condition, Simpl, Skip, Throw, Set, SetGlobal, Store, Pick, Seq, Cond, Guard, Catch, While, Call}
 use Rattle.simpl_lang.specs.Flag.{thrown_local}
 use Rattle.simpl_lang.specs.Sorted.{is_sorted, is_scalar_of, are_conditions}

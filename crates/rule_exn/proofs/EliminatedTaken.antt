@@ -1,7 +1,7 @@
 -- What takes exceptions out is accepted, flat and well-sorted.
 use Rattle.std.proofs.Common.{◌≡◌, Bool, true, false, ◌&&◌, List, refl}
 use Rattle.std.proofs.lemmas.Bool.{and_from}
-use Rattle.ac_expr.specs.Expression.{Exp}
+use Rattle.expression_lang.specs.Expression.{Exp}
 use Rattle.simpl_lang.specs.Command.{Condition, Simpl, Skip, Throw, Set, SetGlobal, Store, Pick, Seq, Cond, Guard, Catch, While, Call}
 use Rattle.simpl_lang.specs.Form.{is_flat}
 use Rattle.rule_exn.specs.Quiet.{quiet}

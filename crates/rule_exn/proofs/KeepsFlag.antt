@@ -5,11 +5,11 @@ use Rattle.c_values.specs.Name.{Name, same_name, with_name}
 use Rattle.c_values.specs.Value.{Value, truth_in}
 use Rattle.c_values.specs.Layout.{Layout}
 use Rattle.c_values.proofs.Laid.{other_name}
-use Rattle.ac_expr.specs.Expression.{Exp, Path}
-use Rattle.ac_expr.specs.Evaluation.{Env, State, value, steps}
-use Rattle.ac_expr.specs.Facts.{names}
-use Rattle.ac_expr.specs.Machine.{Machine, machine_with, with_local, Returned}
-use Rattle.ac_expr.specs.Signature.{values_of}
+use Rattle.expression_lang.specs.Expression.{Exp, Path}
+use Rattle.expression_lang.specs.Evaluation.{Env, State, value, steps}
+use Rattle.expression_lang.specs.Mentions.{names}
+use Rattle.expression_lang.specs.Machine.{Machine, machine_with, with_local, Returned}
+use Rattle.expression_lang.specs.Signature.{values_of}
 use Rattle.simpl_lang.specs.Exec.{value_on, holds_on, result_into}
 use Rattle.simpl_lang.specs.Names.{AgreeBut, path_names, some_names, is_target}
 use Rattle.simpl_lang.specs.Flag.{thrown_local}

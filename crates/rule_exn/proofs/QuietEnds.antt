@@ -6,10 +6,10 @@ use Rattle.correspondence.specs.Always.{Always}
 use Rattle.correspondence.proofs.Always.{then_always, Ended, loop_always}
 use Rattle.c_values.specs.Layout.{Layout}
 use Rattle.c_values.specs.Choice.{Choice}
-use Rattle.ac_expr.specs.Expression.{Exp}
-use Rattle.ac_expr.specs.GuardKind.{GuardKind}
-use Rattle.ac_expr.specs.Machine.{Machine}
-use Rattle.ac_expr.specs.Signature.{Binder}
+use Rattle.expression_lang.specs.Expression.{Exp}
+use Rattle.expression_lang.specs.GuardKind.{GuardKind}
+use Rattle.expression_lang.specs.Machine.{Machine}
+use Rattle.expression_lang.specs.Signature.{Binder}
 use Rattle.simpl_lang.specs.Command.{Condition, Simpl, Skip, Throw, Set, SetGlobal, Store, Pick, Seq, Cond, Guard, Catch, While, Call}
 use Rattle.simpl_lang.specs.Exec.{Flow, Normal, Abrupt, Runs, holds_on, normally, handled, turned, checked, entered, execs}
 use Rattle.rule_exn.specs.Quiet.{quiet}

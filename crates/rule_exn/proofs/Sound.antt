@@ -12,12 +12,12 @@ use Rattle.c_values.specs.Layout.{Layout}
 use Rattle.c_values.specs.Path.{Step, upd}
 use Rattle.c_values.specs.Choice.{Choice}
 use Rattle.c_memory.specs.Heap.{write_heap}
-use Rattle.ac_expr.specs.Expression.{Exp, Path}
-use Rattle.ac_expr.specs.Evaluation.{State, steps}
-use Rattle.ac_expr.specs.Facts.{names}
-use Rattle.ac_expr.specs.GuardKind.{GuardKind}
-use Rattle.ac_expr.specs.Machine.{Machine, with_local}
-use Rattle.ac_expr.specs.Signature.{Binder, Invocation, values_of}
+use Rattle.expression_lang.specs.Expression.{Exp, Path}
+use Rattle.expression_lang.specs.Evaluation.{State, steps}
+use Rattle.expression_lang.specs.Mentions.{names}
+use Rattle.expression_lang.specs.GuardKind.{GuardKind}
+use Rattle.expression_lang.specs.Machine.{Machine, with_local}
+use Rattle.expression_lang.specs.Signature.{Binder, Invocation, values_of}
 use Rattle.simpl_lang.specs.Command.{Simpl, Skip, Throw, Set, SetGlobal, Store, Pick, Seq, Cond, Guard, Catch, While, Call, kind_of}
 use Rattle.simpl_lang.specs.Exec.{Normal, Runs, execs, picked_local, value_on, result_into}
 use Rattle.simpl_lang.specs.Names.{command_names, path_names, conditions_name, some_names, is_target}

@@ -8,10 +8,10 @@ use Rattle.correspondence.proofs.Corresponds.{done_corresponds, fault_correspond
 use Rattle.correspondence.proofs.Steps.{same_on_right, after_done, right_goes_on}
 use Rattle.c_values.specs.Value.{Truth, truth_in}
 use Rattle.c_values.specs.Layout.{Layout}
-use Rattle.ac_expr.specs.Expression.{Exp, And, Imp, Not}
-use Rattle.ac_expr.specs.Facts.{names}
-use Rattle.ac_expr.specs.GuardKind.{GuardKind}
-use Rattle.ac_expr.specs.Machine.{Machine, with_local}
+use Rattle.expression_lang.specs.Expression.{Exp, And, Imp, Not}
+use Rattle.expression_lang.specs.Mentions.{names}
+use Rattle.expression_lang.specs.GuardKind.{GuardKind}
+use Rattle.expression_lang.specs.Machine.{Machine, with_local}
 use Rattle.simpl_lang.specs.Command.{Condition}
 use Rattle.simpl_lang.specs.Exec.{Flow, Normal, Abrupt, Runs, holds_on, normally, handled, turned, checked, entered}
 use Rattle.simpl_lang.specs.Names.{conditions_name}

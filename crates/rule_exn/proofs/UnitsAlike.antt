@@ -8,11 +8,11 @@ use Rattle.c_values.specs.Name.{Name, same_name, with_name, is_among}
 use Rattle.c_values.specs.Value.{Value, Truth}
 use Rattle.c_values.specs.Layout.{Layout}
 use Rattle.c_values.specs.Choice.{Choice}
-use Rattle.ac_expr.specs.Sort.{Kind, BoolKind}
-use Rattle.ac_expr.specs.Evaluation.{Env, State}
-use Rattle.ac_expr.specs.View.{zero_word_at}
-use Rattle.ac_expr.specs.Machine.{Machine, Returned, machine_with}
-use Rattle.ac_expr.specs.Signature.{Binder, Signature, Invocation, names_of, signature, bound}
+use Rattle.expression_lang.specs.Sort.{Kind, BoolKind}
+use Rattle.expression_lang.specs.Evaluation.{Env, State}
+use Rattle.expression_lang.specs.View.{zero_word_at}
+use Rattle.expression_lang.specs.Machine.{Machine, Returned, machine_with}
+use Rattle.expression_lang.specs.Signature.{Binder, Signature, Invocation, names_of, signature, bound}
 use Rattle.simpl_lang.specs.Command.{SimplFn, SimplUnit, simpl_fn, kind_of}
 use Rattle.simpl_lang.specs.Exec.{Flow, Normal, Abrupt, Runs, execs, zero_locals, result_of, ended, function_runs, bodies, functions_below}
 use Rattle.simpl_lang.specs.Flag.{thrown_local, LeavesFlag, AllLeaveFlag, NoneTakesFlag, HasUnusedFlag}

@@ -2,7 +2,7 @@
 -- of rules that leads there. The plain rule is taken where the first part or the body is quiet, else `catch_skip` where the
 -- handler is skip, else the rule with a test.
 use Rattle.std.specs.Prelude.{Bool, true, false, List}
-use Rattle.ac_expr.specs.Expression.{Exp, And, Not}
+use Rattle.expression_lang.specs.Expression.{Exp, And, Not}
 use Rattle.simpl_lang.specs.Command as C
 use Rattle.simpl_lang.specs.Command.{Simpl}
 use Rattle.rule_trees.specs.RuleTree.{Tree, node, no_trees, tree}

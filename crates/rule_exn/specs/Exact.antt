@@ -2,8 +2,8 @@
 use Rattle.std.specs.Prelude.{◌≡◌, ℕ, false, List, Option}
 use Rattle.correspondence.specs.Corresponds.{Corresponds, Paired}
 use Rattle.c_values.specs.Choice.{Choice}
-use Rattle.ac_expr.specs.Machine.{Machine}
-use Rattle.ac_expr.specs.Signature.{Binder}
+use Rattle.expression_lang.specs.Machine.{Machine}
+use Rattle.expression_lang.specs.Signature.{Binder}
 use Rattle.simpl_lang.specs.Command.{Simpl, SimplUnit}
 use Rattle.simpl_lang.specs.Exec.{execs, functions_below}
 use Rattle.rule_exn.specs.Flagged.{Flagged, Shows}

@@ -1,7 +1,7 @@
 -- What an accepted tree gives: the right side ends as the left side does, with the exception in a flag.
 use Rattle.std.specs.Prelude.{◌≡◌, Bool, true, false}
 use Rattle.c_values.specs.Value.{Truth}
-use Rattle.ac_expr.specs.Machine.{Machine}
+use Rattle.expression_lang.specs.Machine.{Machine}
 use Rattle.simpl_lang.specs.Exec.{Flow, Normal, Abrupt}
 use Rattle.simpl_lang.specs.Names.{AgreeBut}
 use Rattle.simpl_lang.specs.Flag.{thrown_local}

@@ -2,7 +2,7 @@
 -- tested wherever a command may have thrown. One clause for each row (`set` has one for each command that sets): the rule, the
 -- left side, the right side, and then what is asked and the claims of the parts.
 use Rattle.std.specs.Prelude.{◌≡◌, true, false, List, [], ◌∷◌}
-use Rattle.ac_expr.specs.Expression.{Exp, Var, TruthLit, And, Imp, Not}
+use Rattle.expression_lang.specs.Expression.{Exp, Var, TruthLit, And, Imp, Not}
 use Rattle.simpl_lang.specs.Command as C
 use Rattle.simpl_lang.specs.Flag.{thrown_local}
 use Rattle.rule_trees.specs.RuleTree.{Row, asks, no_row, Table, Tree, Accepts}

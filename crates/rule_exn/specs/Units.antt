@@ -2,9 +2,9 @@
 use Rattle.std.specs.Prelude.{◌≡◌, ℕ, List, [], ◌∷◌}
 use Rattle.correspondence.specs.Corresponds.{Paired, SameFunctions}
 use Rattle.c_values.specs.Choice.{Choice}
-use Rattle.ac_expr.specs.GuardKind.{GuardKind}
-use Rattle.ac_expr.specs.Machine.{Returned}
-use Rattle.ac_expr.specs.Signature.{Invocation}
+use Rattle.expression_lang.specs.GuardKind.{GuardKind}
+use Rattle.expression_lang.specs.Machine.{Returned}
+use Rattle.expression_lang.specs.Signature.{Invocation}
 use Rattle.simpl_lang.specs.Command.{SimplFn, SimplUnit}
 use Rattle.simpl_lang.specs.Exec.{Runs, functions_below, simpl_runs}
 use Rattle.rule_trees.specs.RuleTree.{Tree}

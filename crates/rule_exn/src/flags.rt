@@ -1,14 +1,14 @@
 //! Expressions and commands over the flag.
 
 ghost use Rattle.std.specs.Prelude.{◌≡◌, ◌↔◌, IsTrue, map};
-ghost use Rattle.ac_expr.specs.Expression.{And, Not};
-ghost use Rattle.ac_expr.specs.CodeExpression.{exp_of};
+ghost use Rattle.expression_lang.specs.Expression.{And, Not};
+ghost use Rattle.expression_lang.specs.CodeExpression.{exp_of};
 ghost use Rattle.simpl_lang.specs.Command.{Skip};
 ghost use Rattle.simpl_lang.specs.CodeCommand.{condition_of, simpl_of};
 ghost use Rattle.rule_exn.specs.Table.{is_thrown, raised, cleared, asked_unless_thrown, unless_thrown};
 ghost use Rattle.rule_exn.specs.CodeRow.{IsSkippedWhereThrown, BeginsCleared, IsHandled};
 
-use ac_expr::Exp;
+use expression_lang::Exp;
 use simpl_lang::{Condition, Simpl, same_guard_kind};
 
 /// The local that is true where something was thrown.

@@ -1,8 +1,8 @@
 //! Laws of the rules, as contracts of functions that do nothing.
 
 ghost use Rattle.std.specs.Prelude.{◌≡◌, true, false, List, Some};
-ghost use Rattle.ac_expr.specs.Signature.{Signature};
-ghost use Rattle.ac_expr.specs.Sort.{Scope, TruthSort};
+ghost use Rattle.expression_lang.specs.Signature.{Signature};
+ghost use Rattle.expression_lang.specs.Sort.{Scope, TruthSort};
 ghost use Rattle.simpl_lang.specs.Command.{Simpl, SimplUnit};
 ghost use Rattle.simpl_lang.specs.Flag.{thrown_local, HasUnusedFlag};
 ghost use Rattle.simpl_lang.specs.Form.{is_flat};

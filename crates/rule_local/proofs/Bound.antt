@@ -4,8 +4,8 @@ use Rattle.std.proofs.lemmas.Bool.{or_from, or_parts, or_left, or_right, cond_bo
 use Rattle.c_values.specs.Name.{Name, same_name, with_name, is_among}
 use Rattle.c_values.specs.Value.{Value}
 use Rattle.c_values.proofs.Laid.{name_is, other_name}
-use Rattle.ac_expr.specs.Evaluation.{Env}
-use Rattle.ac_expr.specs.Signature.{Binder, names_of, bound}
+use Rattle.expression_lang.specs.Evaluation.{Env}
+use Rattle.expression_lang.specs.Signature.{Binder, names_of, bound}
 use Rattle.rule_local.specs.Agree.{AgreeOn, held}
 use Rattle.rule_local.specs.Kept.{HasEach}
 

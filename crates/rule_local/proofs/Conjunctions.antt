@@ -1,7 +1,7 @@
 -- What conditions as one show: there are none, one, or more.
 use Rattle.std.proofs.Common.{◌≡◌, true, List, [], ◌∷◌, length, refl, arith}
 use Rattle.std.specs.Prelude.{map}
-use Rattle.ac_expr.specs.Expression.{TruthLit, And}
+use Rattle.expression_lang.specs.Expression.{TruthLit, And}
 use Rattle.simpl_lang.specs.Command.{Condition}
 use Rattle.rule_local.specs.Table.{conj}
 

@@ -2,7 +2,7 @@
 use Rattle.std.proofs.Common.{◌≡◌, ◌↔◌, ◌==◌, true, suc, List, [], ◌∷◌, length, refl, ap₂, eqb-true, arith, cond}
 use Rattle.std.specs.Prelude.{map}
 use Rattle.c_values.specs.Name.{Name, same_name}
-use Rattle.ac_expr.specs.Expression.{Exp, Var}
+use Rattle.expression_lang.specs.Expression.{Exp, Var}
 use Rattle.monad_lang.specs.Program.{Start}
 use Rattle.rule_local.specs.Table.{vars, vars_with, as_starts}
 

@@ -2,10 +2,10 @@
 use Rattle.std.proofs.Common.{◌≡◌, Bool, true, false, cond, ◌&&◌, List, [], ◌∷◌, map, Option, Some, None, refl, sym, subst}
 use Rattle.std.proofs.lemmas.Bool.{false≢true, and_parts}
 use Rattle.c_values.specs.Name.{Name, are_distinct}
-use Rattle.ac_expr.specs.Expression.{Exp}
-use Rattle.ac_expr.specs.Sort.{Scalar, Kind, Scope, is_truth, same_scalar, word_sort_of, are_kinds}
-use Rattle.ac_expr.specs.Signature.{Binder, Signature, names_of, kinds_of, signature}
-use Rattle.ac_expr.specs.Sorted.{program_sort, scalar_in, with_scalar, scalars_of, same_scalars, result_scalars, call_scalars}
+use Rattle.expression_lang.specs.Expression.{Exp}
+use Rattle.expression_lang.specs.Sort.{Scalar, Kind, Scope, is_truth, same_scalar, word_sort_of, are_kinds}
+use Rattle.expression_lang.specs.Signature.{Binder, Signature, names_of, kinds_of, signature}
+use Rattle.expression_lang.specs.Sorted.{program_sort, scalar_in, with_scalar, scalars_of, same_scalars, result_scalars, call_scalars}
 use Rattle.simpl_lang.specs.Command.{Simpl, Skip, Throw, Set, SetGlobal, Store, Pick, Seq, Cond, Guard, Catch, While, Call, SimplFn, SimplUnit}
 use Rattle.simpl_lang.specs.Sorted.{is_sorted, are_conditions, fits_target, scope_of, are_fns_sorted}
 use Rattle.rule_local.specs.Kept.{HasEach, FitsTarget, FitsCall, CallsFit}

@@ -3,7 +3,7 @@ use Rattle.std.proofs.Common.{◌≡◌, ℕ, zero, suc, Bool, true, false, cond
 use Rattle.std.proofs.lemmas.Bool.{false≢true, and_parts, and_from, or_cases, or_left, or_right, cond_both}
 use Rattle.c_values.specs.Name.{Name, same_name, is_among}
 use Rattle.c_values.proofs.Laid.{name_is}
-use Rattle.ac_expr.specs.Expression.{Exp}
+use Rattle.expression_lang.specs.Expression.{Exp}
 use Rattle.simpl_lang.specs.Command.{Condition, Simpl}
 use Rattle.monad_lang.specs.Program.{Mon}
 use Rattle.rule_local.specs.Assigned.{assigns, Carries}

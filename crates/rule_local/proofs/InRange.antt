@@ -1,8 +1,8 @@
 -- Arguments of a function's kinds are one for each parameter.
 use Rattle.std.proofs.Common.{◌≡◌, List, [], ◌∷◌, subst}
 use Rattle.c_values.specs.Value.{Value}
-use Rattle.ac_expr.specs.View.{AreOfKinds, views_at}
-use Rattle.ac_expr.specs.Signature.{Binder, names_of, kinds_of}
+use Rattle.expression_lang.specs.View.{AreOfKinds, views_at}
+use Rattle.expression_lang.specs.Signature.{Binder, names_of, kinds_of}
 use Rattle.rule_local.specs.Kept.{HasEach}
 
 pub kinds_filled : (bs : List Binder) (vs : List Value) → AreOfKinds (kinds_of bs) vs → HasEach bs vs

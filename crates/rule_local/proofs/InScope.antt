@@ -7,12 +7,12 @@ use Rattle.c_values.specs.Types.{CType, address_width}
 use Rattle.c_values.specs.Layout.{Shape, Incomplete, Scalar as WordShape, Record, Row, is_object, shape_of}
 use Rattle.c_values.specs.Path.{Spot, member_spot}
 use Rattle.c_values.proofs.Laid.{name_is, same_name-refl}
-use Rattle.ac_expr.specs.Expression.{Exp, Var, WordLit, NumberLit, TruthLit, WordBinary, WordShift, WordUnary, WordCompare, Cast, ToNat, ToInt, ToWord, Arith, Negate, Lt, Le, Between, Eq, And, Or, Imp, Not, If, Padd, At, Load, Read, Tagged, PtrOk, Global, Sel, Upd, Path, Here, IntoField, IntoElement}
-use Rattle.ac_expr.specs.Facts.{names}
-use Rattle.ac_expr.specs.Form.{has, path_has, is_part_of_value}
-use Rattle.ac_expr.specs.Sort.{Scalar, Sort, Of, Kind, Scope, word_width, is_word_of, is_number, is_truth, truth_sort, number_sort, word_sort, where_holds, of_words, of_word, are_same, of_shape, shape_in, of_type, parts_shape, scalar_sort, sort_at, sort_of, shape_along, word_sort_of, cast_fits, is_width, is_unary, is_one_step}
-use Rattle.ac_expr.specs.Signature.{Binder, Signature, names_of, kinds_of, signature}
-use Rattle.ac_expr.specs.Sorted.{names_with, program_sort, scalar_in, with_scalar, scalars_of, sort_in, part_place, typed_place, global_place, fits_place, call_scalars}
+use Rattle.expression_lang.specs.Expression.{Exp, Var, WordLit, NumberLit, TruthLit, WordBinary, WordShift, WordUnary, WordCompare, Cast, ToNat, ToInt, ToWord, Arith, Negate, Lt, Le, Between, Eq, And, Or, Imp, Not, If, Padd, At, Load, Read, Tagged, PtrOk, Global, Sel, Upd, Path, Here, IntoField, IntoElement}
+use Rattle.expression_lang.specs.Mentions.{names}
+use Rattle.expression_lang.specs.Form.{has, path_has, is_part_of_value}
+use Rattle.expression_lang.specs.Sort.{Scalar, Sort, Of, Kind, Scope, word_width, is_word_of, is_number, is_truth, truth_sort, number_sort, word_sort, where_holds, of_words, of_word, are_same, of_shape, shape_in, of_type, parts_shape, scalar_sort, sort_at, sort_of, shape_along, word_sort_of, cast_fits, is_width, is_unary, is_one_step}
+use Rattle.expression_lang.specs.Signature.{Binder, Signature, names_of, kinds_of, signature}
+use Rattle.expression_lang.specs.Sorted.{names_with, program_sort, scalar_in, with_scalar, scalars_of, sort_in, part_place, typed_place, global_place, fits_place, call_scalars}
 use Rattle.simpl_lang.specs.Command.{Condition, Simpl, Skip, Throw, Set, SetGlobal, Store, Pick, Seq, Cond, Guard, Catch, While, Call, SimplFn, SimplUnit}
 use Rattle.simpl_lang.specs.Names.{path_names, some_names, conditions_name, is_target, command_names}
 use Rattle.simpl_lang.specs.Sorted.{is_sorted, is_scalar_of, is_local, are_conditions, fits_target, scope_of}

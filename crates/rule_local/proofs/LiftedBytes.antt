@@ -2,10 +2,10 @@
 use Rattle.std.proofs.Common.{◌≡◌, Bool, true, false, not, cond, ◌&&◌, ◌||◌, List, [], ◌∷◌, Option, Some, None, refl}
 use Rattle.std.proofs.lemmas.Bool.{or_parts, or_from, not-true, not_from_false}
 use Rattle.c_values.specs.Name.{Name, same_name, is_among}
-use Rattle.ac_expr.specs.Expression.{Exp, Var}
-use Rattle.ac_expr.specs.Form.{has, path_has, is_read}
-use Rattle.ac_expr.specs.Sort.{Kind, WordKind, NatKind, IntKind, BoolKind}
-use Rattle.ac_expr.specs.Signature.{Binder, names_of}
+use Rattle.expression_lang.specs.Expression.{Exp, Var}
+use Rattle.expression_lang.specs.Form.{has, path_has, is_read}
+use Rattle.expression_lang.specs.Sort.{Kind, WordKind, NatKind, IntKind, BoolKind}
+use Rattle.expression_lang.specs.Signature.{Binder, names_of}
 use Rattle.simpl_lang.specs.Command.{Condition, Simpl, Skip, Throw, Set, SetGlobal, Store, Pick, Seq, Cond, Guard, Catch, While, Call, kind_of}
 use Rattle.monad_lang.specs.Program.{Mon}
 use Rattle.monad_lang.specs.Form.{some_has, start_has, program_has, is_written, is_bytes}

@@ -2,9 +2,9 @@
 use Rattle.std.proofs.Common.{◌≡◌, Bool, true, false, not, cond, ◌&&◌, ◌||◌, List, [], ◌∷◌, length, suc, Some, None, ◌⊎◌, inl, inr, sym, ◌∙◌}
 use Rattle.std.proofs.lemmas.Bool.{false≢true, and_parts, or_cases, or_left, or_right}
 use Rattle.c_values.specs.Name.{Name, same_name, is_among}
-use Rattle.ac_expr.specs.Expression.{Exp, Var}
-use Rattle.ac_expr.specs.Facts.{names}
-use Rattle.ac_expr.specs.Signature.{Binder, names_of}
+use Rattle.expression_lang.specs.Expression.{Exp, Var}
+use Rattle.expression_lang.specs.Mentions.{names}
+use Rattle.expression_lang.specs.Signature.{Binder, names_of}
 use Rattle.simpl_lang.specs.Command.{Condition, Simpl, Skip, Throw, Set, SetGlobal, Store, Pick, Seq, Cond, Guard, Catch, While, Call}
 use Rattle.simpl_lang.specs.Names.{path_names, some_names, conditions_name, is_target, command_names}
 use Rattle.monad_lang.specs.Program.{Mon}

@@ -6,13 +6,13 @@ use Rattle.c_values.specs.Name.{Name, same_name, with_name, is_among, are_distin
 use Rattle.c_values.specs.Types.{CType}
 use Rattle.c_values.specs.Layout.{Layout}
 use Rattle.c_values.proofs.Laid.{name_is, other_name, same_name-refl}
-use Rattle.ac_expr.specs.Expression.{Exp, Var, And}
-use Rattle.ac_expr.specs.Facts.{names}
-use Rattle.ac_expr.specs.Form.{has, is_part_of_value}
-use Rattle.ac_expr.specs.Sort.{Scalar, WordSort, NumberSort, TruthSort, Sort, Of, PartsSort, Kind, WordKind, NatKind, IntKind, BoolKind, Scope, same_scalar, is_truth, truth_sort, where_holds, scalar_sort, sort_of, is_kind, is_width, word_sort_of, sort_of_kind}
-use Rattle.ac_expr.specs.Signature.{Binder, Signature, names_of, signature}
-use Rattle.ac_expr.specs.Sorted.{names_with, program_sort, scalar_in, with_scalar, scalars_of, same_scalars, fits_place, call_scalars}
-use Rattle.ac_expr.proofs.Inversion.{same_inv}
+use Rattle.expression_lang.specs.Expression.{Exp, Var, And}
+use Rattle.expression_lang.specs.Mentions.{names}
+use Rattle.expression_lang.specs.Form.{has, is_part_of_value}
+use Rattle.expression_lang.specs.Sort.{Scalar, WordSort, NumberSort, TruthSort, Sort, Of, PartsSort, Kind, WordKind, NatKind, IntKind, BoolKind, Scope, same_scalar, is_truth, truth_sort, where_holds, scalar_sort, sort_of, is_kind, is_width, word_sort_of, sort_of_kind}
+use Rattle.expression_lang.specs.Signature.{Binder, Signature, names_of, signature}
+use Rattle.expression_lang.specs.Sorted.{names_with, program_sort, scalar_in, with_scalar, scalars_of, same_scalars, fits_place, call_scalars}
+use Rattle.expression_lang.proofs.Inversion.{same_inv}
 use Rattle.simpl_lang.specs.Command.{Condition, Simpl, Skip, Throw, Set, SetGlobal, Store, Pick, Seq, Cond, Guard, Catch, While, Call, kind_of}
 use Rattle.simpl_lang.specs.Names.{command_names}
 use Rattle.simpl_lang.specs.Sorted.{is_sorted, is_scalar_of, is_local, are_conditions, fits_target}

@@ -3,10 +3,10 @@ use Rattle.std.proofs.Common.{◌≡◌, true, false, not, ◌&&◌, ◌||◌, L
 use Rattle.std.proofs.lemmas.Bool.{false≢true, and_parts, and_from, or_left, or_right, not-true, not_from_false, cases_Bool}
 use Rattle.c_values.specs.Name.{Name, same_name, is_among}
 use Rattle.c_values.proofs.Laid.{same_name-refl}
-use Rattle.ac_expr.specs.Expression.{Exp}
-use Rattle.ac_expr.specs.Facts.{names}
-use Rattle.ac_expr.specs.Sort.{Kind, WordKind, NatKind, IntKind, BoolKind}
-use Rattle.ac_expr.specs.Signature.{Binder, names_of}
+use Rattle.expression_lang.specs.Expression.{Exp}
+use Rattle.expression_lang.specs.Mentions.{names}
+use Rattle.expression_lang.specs.Sort.{Kind, WordKind, NatKind, IntKind, BoolKind}
+use Rattle.expression_lang.specs.Signature.{Binder, names_of}
 use Rattle.simpl_lang.specs.Command as C
 use Rattle.simpl_lang.specs.Command.{Simpl, kind_of}
 use Rattle.simpl_lang.specs.Form.{is_flat}

@@ -12,13 +12,13 @@ use Rattle.c_values.specs.Value.{Value, Bits}
 use Rattle.c_values.specs.Word.{IsWord}
 use Rattle.c_values.specs.Layout.{Layout}
 use Rattle.c_values.proofs.Laid.{same_name-refl}
-use Rattle.ac_expr.specs.Expression.{Exp}
-use Rattle.ac_expr.specs.Evaluation.{Env, State, value}
-use Rattle.ac_expr.specs.GuardKind.{GuardKind}
-use Rattle.ac_expr.specs.Sort.{Kind, WordKind, NatKind, IntKind, BoolKind}
-use Rattle.ac_expr.specs.View.{IsTruth, picked_at, picked_word_at, zero_word_at}
-use Rattle.ac_expr.specs.Machine.{Machine, machine_with, Returned}
-use Rattle.ac_expr.specs.Signature.{Binder, Signature, values_of, bound}
+use Rattle.expression_lang.specs.Expression.{Exp}
+use Rattle.expression_lang.specs.Evaluation.{Env, State, value}
+use Rattle.expression_lang.specs.GuardKind.{GuardKind}
+use Rattle.expression_lang.specs.Sort.{Kind, WordKind, NatKind, IntKind, BoolKind}
+use Rattle.expression_lang.specs.View.{IsTruth, picked_at, picked_word_at, zero_word_at}
+use Rattle.expression_lang.specs.Machine.{Machine, machine_with, Returned}
+use Rattle.expression_lang.specs.Signature.{Binder, Signature, values_of, bound}
 use Rattle.simpl_lang.specs.Command.{Condition, Simpl, kind_of}
 use Rattle.simpl_lang.specs.Exec.{Flow, holds_on, checked, picked_local, result_into}
 use Rattle.monad_lang.specs.Run.{Answer, Failure, start_names, start_values}

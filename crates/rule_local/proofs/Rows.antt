@@ -1,7 +1,7 @@
 -- What is asked of the parts of two sides is what the table's row asks, and the row's claims are those of the parts.
 use Rattle.std.proofs.Common.{◌≡◌, ℕ, suc, Bool, true, List, [], ◌∷◌, Some, None, refl, sym, subst, ap, ap₂}
 use Rattle.c_values.specs.Name.{Name}
-use Rattle.ac_expr.specs.Expression.{Exp}
+use Rattle.expression_lang.specs.Expression.{Exp}
 use Rattle.simpl_lang.specs.Command as C
 use Rattle.simpl_lang.specs.Command.{Simpl}
 use Rattle.monad_lang.specs.Program as M

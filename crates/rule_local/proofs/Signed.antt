@@ -9,9 +9,9 @@ use Rattle.correspondence.proofs.Corresponds.{corresponds_weaker}
 use Rattle.c_values.specs.Value.{Value}
 use Rattle.c_values.specs.Layout.{Layout}
 use Rattle.c_values.specs.Choice.{Choice}
-use Rattle.ac_expr.specs.Sort.{Kind}
-use Rattle.ac_expr.specs.Machine.{Returned}
-use Rattle.ac_expr.specs.Signature.{Signature, Invocation, signature}
+use Rattle.expression_lang.specs.Sort.{Kind}
+use Rattle.expression_lang.specs.Machine.{Returned}
+use Rattle.expression_lang.specs.Signature.{Signature, Invocation, signature}
 use Rattle.simpl_lang.specs.Command.{SimplFn, SimplUnit, simpl_fn}
 use Rattle.simpl_lang.specs.Exec as Simpl
 use Rattle.simpl_lang.specs.Exec.{Flow, Normal, Abrupt, result_of, ended, function_runs, bodies}

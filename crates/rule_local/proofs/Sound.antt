@@ -12,13 +12,13 @@ use Rattle.c_values.specs.Layout.{Layout}
 use Rattle.c_values.specs.Path.{Step, upd}
 use Rattle.c_values.specs.Choice.{Choice}
 use Rattle.c_memory.specs.Heap.{write_heap}
-use Rattle.ac_expr.specs.Expression.{Exp, Path}
-use Rattle.ac_expr.specs.Evaluation.{Env, State, value, steps, holds}
-use Rattle.ac_expr.specs.Facts.{names}
-use Rattle.ac_expr.specs.GuardKind.{GuardKind}
-use Rattle.ac_expr.specs.Sort.{Kind}
-use Rattle.ac_expr.specs.Machine.{Machine, machine_with, with_local, Returned}
-use Rattle.ac_expr.specs.Signature.{Signature, Invocation, values_of, bound, signature}
+use Rattle.expression_lang.specs.Expression.{Exp, Path}
+use Rattle.expression_lang.specs.Evaluation.{Env, State, value, steps, holds}
+use Rattle.expression_lang.specs.Mentions.{names}
+use Rattle.expression_lang.specs.GuardKind.{GuardKind}
+use Rattle.expression_lang.specs.Sort.{Kind}
+use Rattle.expression_lang.specs.Machine.{Machine, machine_with, with_local, Returned}
+use Rattle.expression_lang.specs.Signature.{Signature, Invocation, values_of, bound, signature}
 use Rattle.simpl_lang.specs.Command as C
 use Rattle.simpl_lang.specs.Command.{Condition, Simpl, kind_of}
 use Rattle.simpl_lang.specs.Exec as Simpl

@@ -6,11 +6,11 @@ use Rattle.c_values.specs.Choice.{Choice}
 use Rattle.c_values.specs.Name.{Name}
 use Rattle.c_values.specs.Value.{Value, Truth, nothing}
 use Rattle.c_values.specs.Layout.{Layout}
-use Rattle.ac_expr.specs.Expression.{Var}
-use Rattle.ac_expr.specs.Evaluation.{State}
-use Rattle.ac_expr.specs.Machine.{Returned}
-use Rattle.ac_expr.specs.Sort.{Bytes, BoolKind}
-use Rattle.ac_expr.specs.Signature.{Signature, Invocation, binder}
+use Rattle.expression_lang.specs.Expression.{Var}
+use Rattle.expression_lang.specs.Evaluation.{State}
+use Rattle.expression_lang.specs.Machine.{Returned}
+use Rattle.expression_lang.specs.Sort.{Bytes, BoolKind}
+use Rattle.expression_lang.specs.Signature.{Signature, Invocation, binder}
 use Rattle.simpl_lang.specs.Command.{Set, SimplFn, SimplUnit}
 use Rattle.simpl_lang.specs.Exec as Simpl
 use Rattle.simpl_lang.specs.Exec.{result_local}

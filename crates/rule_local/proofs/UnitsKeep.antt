@@ -9,11 +9,11 @@ use Rattle.c_values.specs.Name.{Name, same_name}
 use Rattle.c_values.specs.Value.{Value}
 use Rattle.c_values.specs.Layout.{Layout}
 use Rattle.c_values.specs.Choice.{Choice}
-use Rattle.ac_expr.specs.Sort.{Kind}
-use Rattle.ac_expr.specs.GuardKind.{GuardKind}
-use Rattle.ac_expr.specs.View.{zero_word_at}
-use Rattle.ac_expr.specs.Machine.{Returned, machine_with}
-use Rattle.ac_expr.specs.Signature.{Binder, Signature, Invocation, names_of, signature, bound, no_env}
+use Rattle.expression_lang.specs.Sort.{Kind}
+use Rattle.expression_lang.specs.GuardKind.{GuardKind}
+use Rattle.expression_lang.specs.View.{zero_word_at}
+use Rattle.expression_lang.specs.Machine.{Returned, machine_with}
+use Rattle.expression_lang.specs.Signature.{Binder, Signature, Invocation, names_of, signature, bound, no_env}
 use Rattle.simpl_lang.specs.Command.{SimplFn, SimplUnit, simpl_fn, kind_of}
 use Rattle.simpl_lang.specs.Exec as Simpl
 use Rattle.simpl_lang.specs.Exec.{Flow, Normal, Abrupt, execs, zero_locals, result_of, ended}

@@ -3,8 +3,8 @@ use Rattle.std.proofs.Common.{◌≡◌, Bool, true, false, cond, ◌&&◌, List
 use Rattle.std.proofs.lemmas.Bool.{false≢true, and_parts, or_left, or_right}
 use Rattle.c_values.specs.Name.{Name, same_name, is_among, are_distinct}
 use Rattle.c_values.proofs.Laid.{name_is, same_name-refl}
-use Rattle.ac_expr.specs.Sort.{Kind, are_kinds}
-use Rattle.ac_expr.specs.Signature.{Binder, Signature, names_of, kinds_of}
+use Rattle.expression_lang.specs.Sort.{Kind, are_kinds}
+use Rattle.expression_lang.specs.Signature.{Binder, Signature, names_of, kinds_of}
 use Rattle.simpl_lang.specs.Command.{SimplFn, SimplUnit, kind_of}
 use Rattle.simpl_lang.specs.Exec.{result_local}
 use Rattle.simpl_lang.specs.Sorted.{same_level, come_first, is_kind_of, holds_result, are_signed, is_sorted, scope_of, are_fns_sorted, IsWellFormed}

@@ -5,9 +5,9 @@ use Rattle.std.proofs.lemmas.Bool.{false≢true, true≢false, and_parts, and_fr
 use Rattle.c_values.specs.Name.{Name, same_name, with_name, is_among, are_distinct}
 use Rattle.c_values.specs.Layout.{global_type}
 use Rattle.c_values.proofs.Laid.{name_is, same_name-refl}
-use Rattle.ac_expr.specs.Sort.{Scalar, Kind, WordKind, NatKind, IntKind, BoolKind, is_kind, are_kinds, word_sort_of, sort_of_kind}
-use Rattle.ac_expr.specs.Signature.{Binder, Signature, names_of, kinds_of, signature}
-use Rattle.ac_expr.specs.Sorted.{names_with, same_scalars, result_scalars, call_scalars}
+use Rattle.expression_lang.specs.Sort.{Scalar, Kind, WordKind, NatKind, IntKind, BoolKind, is_kind, are_kinds, word_sort_of, sort_of_kind}
+use Rattle.expression_lang.specs.Signature.{Binder, Signature, names_of, kinds_of, signature}
+use Rattle.expression_lang.specs.Sorted.{names_with, same_scalars, result_scalars, call_scalars}
 use Rattle.simpl_lang.specs.Command.{SimplFn, SimplUnit, kind_of}
 use Rattle.simpl_lang.specs.Exec.{result_local}
 use Rattle.simpl_lang.specs.Sorted as C

@@ -11,10 +11,10 @@ use Rattle.c_values.specs.Path.{Field, Index, spot, sel, upd}
 use Rattle.c_values.proofs.Laid.{same_name-refl}
 use Rattle.c_memory.specs.Tags.{is_pointer_ok}
 use Rattle.c_memory.specs.Heap.{read_heap, is_tagged}
-use Rattle.ac_expr.specs.Expression.{Exp, Var, WordLit, NumberLit, TruthLit, WordBinary, WordShift, WordUnary, WordCompare, Cast, ToNat, ToInt, ToWord, Arith, Negate, Lt, Le, Between, Eq, And, Or, Imp, Not, If, Padd, At, Load, Read, Tagged, PtrOk, Global, Sel, Upd, Path, Here, IntoField, IntoElement}
-use Rattle.ac_expr.specs.Evaluation.{Env, State, value, steps, cast_op, moved, moved_to, if_truth, holds}
-use Rattle.ac_expr.specs.Facts.{names}
-use Rattle.ac_expr.specs.Signature.{values_of}
+use Rattle.expression_lang.specs.Expression.{Exp, Var, WordLit, NumberLit, TruthLit, WordBinary, WordShift, WordUnary, WordCompare, Cast, ToNat, ToInt, ToWord, Arith, Negate, Lt, Le, Between, Eq, And, Or, Imp, Not, If, Padd, At, Load, Read, Tagged, PtrOk, Global, Sel, Upd, Path, Here, IntoField, IntoElement}
+use Rattle.expression_lang.specs.Evaluation.{Env, State, value, steps, cast_op, moved, moved_to, if_truth, holds}
+use Rattle.expression_lang.specs.Mentions.{names}
+use Rattle.expression_lang.specs.Signature.{values_of}
 use Rattle.simpl_lang.specs.Names.{path_names}
 use Rattle.monad_lang.specs.Names.{is_in_some}
 use Rattle.rule_local.specs.Agree.{AgreeOn, held}

@@ -4,9 +4,9 @@ use Rattle.std.proofs.Common.{◌≡◌, Bool, true, false, not, ◌&&◌, ◌||
 use Rattle.std.proofs.lemmas.Bool.{false≢true, or_left}
 use Rattle.c_values.specs.Name.{Name, same_name, is_among}
 use Rattle.c_values.proofs.Laid.{name_is}
-use Rattle.ac_expr.specs.Expression.{Exp, Var, TruthLit, Not}
-use Rattle.ac_expr.specs.Sort.{BoolKind}
-use Rattle.ac_expr.specs.Signature.{binder}
+use Rattle.expression_lang.specs.Expression.{Exp, Var, TruthLit, Not}
+use Rattle.expression_lang.specs.Sort.{BoolKind}
+use Rattle.expression_lang.specs.Signature.{binder}
 use Rattle.simpl_lang.specs.Command as C
 use Rattle.monad_lang.specs.Program as M
 use Rattle.rule_trees.specs.RuleTree.{Tree, node, no_trees, tree}

@@ -2,9 +2,9 @@
 use Rattle.std.proofs.Common.{◌≡◌, ◌↔◌, ◌==◌, suc, true, List, [], ◌∷◌, length, Option, Some, None, refl, sym, ap, subst, eqb-true, arith}
 use Rattle.std.specs.Prelude.{map}
 use Rattle.c_values.specs.Name.{Name}
-use Rattle.ac_expr.specs.Expression.{Exp}
-use Rattle.ac_expr.specs.Sort.{Kind}
-use Rattle.ac_expr.specs.Signature.{Binder}
+use Rattle.expression_lang.specs.Expression.{Exp}
+use Rattle.expression_lang.specs.Sort.{Kind}
+use Rattle.expression_lang.specs.Signature.{Binder}
 use Rattle.simpl_lang.specs.Command.{kind_of}
 use Rattle.rule_local.specs.Table.{zeros, zero_first}
 use Rattle.rule_local.specs.CodeRow.{IsZeroOf}

@@ -2,10 +2,10 @@
 use Rattle.std.specs.Prelude.{◌≡◌, Bool, true, List, [], ◌∷◌, Some, false}
 use Rattle.c_values.specs.Name.{Name, is_among}
 use Rattle.c_values.specs.Value.{Value}
-use Rattle.ac_expr.specs.Evaluation.{Env}
-use Rattle.ac_expr.specs.View.{zero_word_at}
-use Rattle.ac_expr.specs.Sort.{Kind}
-use Rattle.ac_expr.specs.Machine.{Machine}
+use Rattle.expression_lang.specs.Evaluation.{Env}
+use Rattle.expression_lang.specs.View.{zero_word_at}
+use Rattle.expression_lang.specs.Sort.{Kind}
+use Rattle.expression_lang.specs.Machine.{Machine}
 use Rattle.simpl_lang.specs.Command.{kind_of}
 use Rattle.simpl_lang.specs.Exec.{Flow, Normal, Abrupt}
 use Rattle.monad_lang.specs.Run.{Answer}

@@ -1,7 +1,7 @@
 -- Names that are none of a function's parameters and are free in a program.
 use Rattle.std.specs.Prelude.{Bool, false, not, ◌&&◌, List}
 use Rattle.c_values.specs.Name.{Name, is_among}
-use Rattle.ac_expr.specs.Expression.{Exp, Var}
+use Rattle.expression_lang.specs.Expression.{Exp, Var}
 use Rattle.monad_lang.specs.Program.{Mon}
 use Rattle.monad_lang.specs.Names.{is_free}
 

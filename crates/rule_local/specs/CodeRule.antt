@@ -1,7 +1,7 @@
 -- What the code's rules and functions stand for.
 use Rattle.std.specs.Prelude.{map}
-use Rattle.ac_expr.specs.Signature.{names_of}
-use Rattle.ac_expr.specs.CodeSignature.{binder_of}
+use Rattle.expression_lang.specs.Signature.{names_of}
+use Rattle.expression_lang.specs.CodeSignature.{binder_of}
 use Rattle.rule_trees.specs.declared.tree.Tree as T
 use Rattle.rule_trees.specs.RuleTree.{Tree}
 use Rattle.rule_trees.specs.CodeTree as trees

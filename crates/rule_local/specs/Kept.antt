@@ -5,10 +5,10 @@ use Rattle.correspondence.specs.Bound.{Functions}
 use Rattle.correspondence.specs.Corresponds.{Corresponds}
 use Rattle.c_values.specs.Name.{Name}
 use Rattle.c_values.specs.Value.{Value}
-use Rattle.ac_expr.specs.Sort.{Kind}
-use Rattle.ac_expr.specs.Expression.{Exp}
-use Rattle.ac_expr.specs.Machine.{Returned}
-use Rattle.ac_expr.specs.Signature.{Signature, Invocation, signature}
+use Rattle.expression_lang.specs.Sort.{Kind}
+use Rattle.expression_lang.specs.Expression.{Exp}
+use Rattle.expression_lang.specs.Machine.{Returned}
+use Rattle.expression_lang.specs.Signature.{Signature, Invocation, signature}
 use Rattle.simpl_lang.specs.Command.{Simpl, Skip, Throw, Set, SetGlobal, Store, Pick, Seq, Cond, Guard, Catch, While, Call}
 use Rattle.simpl_lang.specs.Exec as Simpl
 use Rattle.monad_lang.specs.Run as Mon

@@ -3,9 +3,9 @@
 -- looks at, a loop the least names that meet the loop's condition, all in the order of the function's locals.
 use Rattle.std.specs.Prelude.{◌≡◌, ℕ, zero, suc, Bool, true, false, not, ◌&&◌, List, [], ◌∷◌, length, Option, Some, None, if◌then◌else◌}
 use Rattle.c_values.specs.Name.{Name, is_among}
-use Rattle.ac_expr.specs.Expression.{Exp}
-use Rattle.ac_expr.specs.Sort.{Kind, BoolKind}
-use Rattle.ac_expr.specs.Signature.{Binder, Signature, names_of}
+use Rattle.expression_lang.specs.Expression.{Exp}
+use Rattle.expression_lang.specs.Sort.{Kind, BoolKind}
+use Rattle.expression_lang.specs.Signature.{Binder, Signature, names_of}
 use Rattle.simpl_lang.specs.Command as C
 use Rattle.simpl_lang.specs.Command.{Simpl, SimplFn, SimplUnit, kind_of}
 use Rattle.simpl_lang.specs.Form.{is_flat}

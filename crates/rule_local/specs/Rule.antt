@@ -1,7 +1,7 @@
 -- The rules that lift locals into bound names, by name, and what they claim.
 use Rattle.std.specs.Prelude.{Bool, true, false, List}
 use Rattle.c_values.specs.Name.{Name}
-use Rattle.ac_expr.specs.Signature.{Binder}
+use Rattle.expression_lang.specs.Signature.{Binder}
 use Rattle.simpl_lang.specs.Command.{Simpl}
 use Rattle.monad_lang.specs.Program.{Mon}
 

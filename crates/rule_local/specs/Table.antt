@@ -5,10 +5,10 @@
 -- program.
 use Rattle.std.specs.Prelude.{◌≡◌, Bool, true, false, ◌||◌, List, [], ◌∷◌, Option, Some, None, if◌then◌else◌}
 use Rattle.c_values.specs.Name.{Name, same_name, is_among}
-use Rattle.ac_expr.specs.Expression.{Exp, Var, WordLit, TruthLit, And}
-use Rattle.ac_expr.specs.Facts.{names}
-use Rattle.ac_expr.specs.Sort.{Kind, WordKind, NatKind, IntKind, BoolKind}
-use Rattle.ac_expr.specs.Signature.{Binder}
+use Rattle.expression_lang.specs.Expression.{Exp, Var, WordLit, TruthLit, And}
+use Rattle.expression_lang.specs.Mentions.{names}
+use Rattle.expression_lang.specs.Sort.{Kind, WordKind, NatKind, IntKind, BoolKind}
+use Rattle.expression_lang.specs.Signature.{Binder}
 use Rattle.simpl_lang.specs.Command as C
 use Rattle.simpl_lang.specs.Command.{kind_of}
 use Rattle.monad_lang.specs.Program as M

@@ -3,8 +3,8 @@ use Rattle.std.specs.Prelude.{◌≡◌, ℕ, List, [], ◌∷◌, Option, Some,
 use Rattle.correspondence.specs.Corresponds.{Paired}
 use Rattle.c_values.specs.Name.{Name}
 use Rattle.c_values.specs.Choice.{Choice}
-use Rattle.ac_expr.specs.Sort.{Kind}
-use Rattle.ac_expr.specs.Signature.{Signature, names_of}
+use Rattle.expression_lang.specs.Sort.{Kind}
+use Rattle.expression_lang.specs.Signature.{Signature, names_of}
 use Rattle.simpl_lang.specs.Command.{SimplFn, SimplUnit}
 use Rattle.simpl_lang.specs.Exec as Simpl
 use Rattle.simpl_lang.specs.Exec.{result_local}

@@ -2,7 +2,7 @@
 
 ghost use Rattle.std.specs.Prelude.{◌≡◌, ◌↔◌, IsTrue, map, string_bytes};
 ghost use Rattle.std.specs.Option.{option_map};
-ghost use Rattle.ac_expr.specs.CodeExpression.{exp_of};
+ghost use Rattle.expression_lang.specs.CodeExpression.{exp_of};
 ghost use Rattle.simpl_lang.specs.CodeCommand.{simpl_of};
 ghost use Rattle.monad_lang.specs.CodeProgram.{mon_of};
 ghost use Rattle.monad_lang.specs.Names.{is_free};
@@ -12,7 +12,7 @@ ghost use Rattle.rule_local.specs.CodeAssigned.{target_passes, assigns_some};
 
 use crate::free_names::{is_free, is_in};
 use crate::name_lists::is_among;
-use ac_expr::Exp;
+use expression_lang::Exp;
 use monad_lang::Mon;
 use simpl_lang::Simpl;
 
@@ -61,7 +61,7 @@ struct IsLostInTurns<'a> {
 
 impl NameTest for IsLostInTurns<'_> {
     ghost use Rattle.std.specs.Prelude.{map, string_bytes};
-    ghost use Rattle.ac_expr.specs.CodeExpression.{exp_of};
+    ghost use Rattle.expression_lang.specs.CodeExpression.{exp_of};
     ghost use Rattle.monad_lang.specs.CodeProgram.{mon_of};
     ghost use Rattle.rule_local.specs.Table.{is_needed};
     ghost use Rattle.rule_local.specs.CodeAssigned.{is_lost};

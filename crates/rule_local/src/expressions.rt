@@ -3,16 +3,16 @@
 ghost use Rattle.std.specs.Prelude.{◌≡◌, ◌↔◌, IsTrue, Some, map, string_bytes, if◌then◌else◌};
 ghost use Rattle.std.specs.Option.{option_map};
 ghost use Rattle.c_values.specs.Name.{same_name};
-ghost use Rattle.ac_expr.specs.Expression.{Var, WordLit};
-ghost use Rattle.ac_expr.specs.CodeExpression.{exp_of, kind_of};
-ghost use Rattle.ac_expr.specs.CodeSignature.{binder_of};
+ghost use Rattle.expression_lang.specs.Expression.{Var, WordLit};
+ghost use Rattle.expression_lang.specs.CodeExpression.{exp_of, kind_of};
+ghost use Rattle.expression_lang.specs.CodeSignature.{binder_of};
 ghost use Rattle.simpl_lang.specs.CodeCommand.{condition_of};
 ghost use Rattle.monad_lang.specs.CodeProgram.{start_of};
 ghost use Rattle.rule_local.specs.Table.{vars, vars_with, as_starts, conj, zeros};
 ghost use Rattle.rule_local.specs.CodeRow.{IsZeroOf};
 
 use crate::name_lists::kind_in;
-use ac_expr::{Binder, Exp, Kind};
+use expression_lang::{Binder, Exp, Kind};
 use monad_lang::Start;
 use simpl_lang::Condition;
 

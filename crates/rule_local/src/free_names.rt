@@ -1,13 +1,13 @@
 //! Which names are free in programs.
 
 ghost use Rattle.std.specs.Prelude.{◌≡◌, ◌||◌, map};
-ghost use Rattle.ac_expr.specs.CodeExpression.{exp_of};
-ghost use Rattle.ac_expr.specs.Facts.{names};
+ghost use Rattle.expression_lang.specs.CodeExpression.{exp_of};
+ghost use Rattle.expression_lang.specs.Mentions.{names};
 ghost use Rattle.monad_lang.specs.CodeProgram.{place_of, start_of, mon_of};
 ghost use Rattle.monad_lang.specs.Names.{is_in_some, is_in_start, is_in_place, is_free};
 
 use crate::name_lists::{is_among, is_started};
-use ac_expr::{Exp, IsName};
+use expression_lang::{Exp, IsName};
 use monad_lang::{Mon, Place, Start};
 
 /// Whether an expression has the name.

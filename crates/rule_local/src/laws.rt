@@ -2,8 +2,8 @@
 
 ghost use Rattle.std.specs.Prelude.{◌≡◌, true, List};
 ghost use Rattle.c_values.specs.Name.{Name, is_among};
-ghost use Rattle.ac_expr.specs.Expression.{Exp};
-ghost use Rattle.ac_expr.specs.Signature.{Binder, names_of};
+ghost use Rattle.expression_lang.specs.Expression.{Exp};
+ghost use Rattle.expression_lang.specs.Signature.{Binder, names_of};
 ghost use Rattle.simpl_lang.specs.Command.{Condition, Simpl, SimplUnit};
 ghost use Rattle.simpl_lang.specs.Form.{is_flat};
 ghost use Rattle.simpl_lang.specs.Names.{command_names};

@@ -3,15 +3,15 @@
 ghost use Rattle.std.specs.Prelude.{◌≡◌, ◌↔◌, IsTrue, [], ◌∷◌, map, string_bytes};
 ghost use Rattle.std.specs.Option.{option_map};
 ghost use Rattle.c_values.specs.Name.{is_among};
-ghost use Rattle.ac_expr.specs.CodeExpression.{kind_of};
-ghost use Rattle.ac_expr.specs.CodeSignature.{binder_of};
-ghost use Rattle.ac_expr.specs.Signature.{names_of};
+ghost use Rattle.expression_lang.specs.CodeExpression.{kind_of};
+ghost use Rattle.expression_lang.specs.CodeSignature.{binder_of};
+ghost use Rattle.expression_lang.specs.Signature.{names_of};
 ghost use Rattle.simpl_lang.specs.Command as plain;
 ghost use Rattle.monad_lang.specs.Run.{start_names};
 ghost use Rattle.monad_lang.specs.CodeProgram.{start_of};
 ghost use Rattle.rule_local.specs.Table.{AreNone};
 
-use ac_expr::{Binder, Kind};
+use expression_lang::{Binder, Kind};
 use monad_lang::Start;
 
 /// Whether one of the names is this one.

@@ -4,7 +4,7 @@ ghost use Rattle.std.specs.Prelude.{◌≡◌};
 ghost use Rattle.rule_local.specs.CodeRow.{arity, parts_of};
 ghost use Rattle.rule_local.specs.CodeRule.{rule_of};
 
-use ac_expr::Binder;
+use expression_lang::Binder;
 
 /// A rule. What it asks of a command and a program is defined in `specs/Table`.
 #[derive(Clone, Copy, Debug, PartialEq, Eq)]

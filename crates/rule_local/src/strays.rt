@@ -1,15 +1,15 @@
 //! Whether the free names of a program are parameters.
 
 ghost use Rattle.std.specs.Prelude.{◌↔◌, IsTrue, map};
-ghost use Rattle.ac_expr.specs.CodeSignature.{binder_of};
-ghost use Rattle.ac_expr.specs.Signature.{names_of};
+ghost use Rattle.expression_lang.specs.CodeSignature.{binder_of};
+ghost use Rattle.expression_lang.specs.Signature.{names_of};
 ghost use Rattle.monad_lang.specs.CodeProgram.{mon_of};
 ghost use Rattle.rule_local.specs.Table.{AllFreeAmong};
 ghost use Rattle.rule_local.specs.CodeFree.{is_stray};
 
 use crate::free_names::is_free;
 use crate::name_lists::is_bound;
-use ac_expr::{Binder, Exp, Test};
+use expression_lang::{Binder, Exp, Test};
 use monad_lang::{Mon, NoPlace};
 
 /// A name that is no parameter, and free in the program.
@@ -21,8 +21,8 @@ struct IsStray<'a> {
 
 impl Test for IsStray<'_> {
     ghost use Rattle.std.specs.Prelude.{map};
-    ghost use Rattle.ac_expr.specs.CodeSignature.{binder_of};
-    ghost use Rattle.ac_expr.specs.Signature.{names_of};
+    ghost use Rattle.expression_lang.specs.CodeSignature.{binder_of};
+    ghost use Rattle.expression_lang.specs.Signature.{names_of};
     ghost use Rattle.monad_lang.specs.CodeProgram.{mon_of};
     ghost use Rattle.rule_local.specs.CodeFree.{is_stray};
 

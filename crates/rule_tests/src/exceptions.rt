@@ -194,7 +194,7 @@ fn nested(alloc: Global, head: &str, count: u32, inner: Simpl) -> Result<Simpl, 
             "seq_left" => Simpl::Seq(part, Box::new(alloc, Simpl::Skip)?),
             "catch_left" => Simpl::Catch(part, Box::new(alloc, Simpl::Skip)?),
             "catch_throw" => Simpl::Catch(part, Box::new(alloc, Simpl::Throw)?),
-            _ => Simpl::While(Vec::new(alloc), ac_expr::Exp::Truth(true), part),
+            _ => Simpl::While(Vec::new(alloc), expression_lang::Exp::Truth(true), part),
         };
     }
     Ok(c)

@@ -2,7 +2,7 @@
 //! that is no instance of its rule; `notation` says what the words are.
 
 use crate::notation::{command, program, tree};
-use ac_expr::{Binder, Kind};
+use expression_lang::{Binder, Kind};
 use rule_local::{Context, Rule, check};
 use rule_trees::At;
 use std::alloc::{AllocError, Global};

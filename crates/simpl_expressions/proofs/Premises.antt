@@ -1,7 +1,7 @@
 -- One condition more under a premise.
 use Rattle.std.proofs.Common.{◌≡◌, ℕ, List, [], ◌∷◌, ◌++◌, map, append_assoc, refl, sym, ap, ◌∙◌}
-use Rattle.ac_expr.specs.Expression.{Exp, Imp, Not, Var}
-use Rattle.ac_expr.specs.CodeExpression.{exp_of}
+use Rattle.expression_lang.specs.Expression.{Exp, Imp, Not, Var}
+use Rattle.expression_lang.specs.CodeExpression.{exp_of}
 use Rattle.simpl_lang.specs.declared.command.Condition.{Condition}
 use Rattle.simpl_lang.specs.Command as P
 use Rattle.simpl_lang.specs.CodeCommand.{condition_of, guard_kind_of}

@@ -1,7 +1,7 @@
 -- Expressions whose value is 1 or 0, and what stands for the truth of one.
 use Rattle.std.specs.Prelude.{Bool, true, false}
 use Rattle.c_values.specs.Layout.{Layout}
-use Rattle.ac_expr.specs.Expression as E
+use Rattle.expression_lang.specs.Expression as E
 use Rattle.c_lang.specs.Typed.{Expr, Compare, Equate, Not, And, Or}
 use Rattle.generation.specs.Guards.{truth}
 

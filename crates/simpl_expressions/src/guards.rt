@@ -3,7 +3,7 @@
 
 ghost use Rattle.std.specs.Prelude.{◌≡◌, ◌++◌, map, OnOk, IfOk};
 ghost use Rattle.c_lang.specs.CodeTyped as typed;
-ghost use Rattle.ac_expr.specs.CodeExpression.{exp_of, level_of};
+ghost use Rattle.expression_lang.specs.CodeExpression.{exp_of, level_of};
 ghost use Rattle.simpl_lang.specs.CodeCommand.{condition_of};
 ghost use Rattle.generation.specs.Guards as rules;
 ghost use Rattle.simpl_expressions.specs.CodeTests.{where_is};
@@ -11,7 +11,7 @@ ghost use Rattle.simpl_expressions.specs.CodeTests.{where_is};
 use crate::checks::{add_accesses, add_bounds, add_computation, add_negation, add_shift};
 use crate::terms::{implication, not};
 use crate::values::truth;
-use ac_expr::{Exp, Level};
+use expression_lang::{Exp, Level};
 use c_lang::tree::{Expr, Path, Place};
 use c_values::Layout;
 use simpl_lang::Condition;

@@ -5,13 +5,13 @@ ghost use Rattle.c_values.specs.Word.{Wult, Wule, Wslt, Wsle};
 ghost use Rattle.c_values.specs.Types.{is_signed};
 ghost use Rattle.c_values.specs.CodeTypes.{int_type_of};
 ghost use Rattle.c_values.specs.CodeWord as words;
-ghost use Rattle.ac_expr.specs.Expression as E;
-ghost use Rattle.ac_expr.specs.CodeExpression.{exp_of};
+ghost use Rattle.expression_lang.specs.Expression as E;
+ghost use Rattle.expression_lang.specs.CodeExpression.{exp_of};
 ghost use Rattle.c_lang.specs.CodeTyped as typed;
 ghost use Rattle.generation.specs.Guards as rules;
 
 use crate::terms::{equal, not};
-use ac_expr::Exp;
+use expression_lang::Exp;
 use c_lang::tree::{Arithmetic, Bitwise, Direction, Equality, Relation, Sign};
 use c_values::{IntType, ShiftOp, WordOp, WordTest, is_signed};
 use std::alloc::{AllocError, Global};

@@ -5,13 +5,13 @@ ghost use Rattle.c_values.specs.Width.{IsWidth};
 ghost use Rattle.c_values.specs.Word.{word};
 ghost use Rattle.c_values.specs.CodeTypes.{target_of, int_type_of, type_of};
 ghost use Rattle.c_values.specs.CodeWord.{unary_op_of, word_op_of};
-ghost use Rattle.ac_expr.specs.CodeExpression.{exp_of, cast_op_of};
-ghost use Rattle.ac_expr.specs.Expression as E;
+ghost use Rattle.expression_lang.specs.CodeExpression.{exp_of, cast_op_of};
+ghost use Rattle.expression_lang.specs.Expression as E;
 ghost use Rattle.generation.specs.Guards as rules;
 
 use crate::ranges::{greatest_of, least_of, natural};
 use crate::scalars::Bits;
-use ac_expr::{CastOp, Exp};
+use expression_lang::{CastOp, Exp};
 use c_values::views::word;
 use c_values::{CType, IntType, Number, Target, UnaryOp, WordOp, copy_of, width_of};
 use std::alloc::{AllocError, Global};

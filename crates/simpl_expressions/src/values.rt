@@ -3,7 +3,7 @@
 ghost use Rattle.std.specs.Prelude.{◌≡◌, IfOk};
 ghost use Rattle.c_lang.specs.Typed as C;
 ghost use Rattle.c_lang.specs.CodeTyped as typed;
-ghost use Rattle.ac_expr.specs.CodeExpression.{exp_of, path_of};
+ghost use Rattle.expression_lang.specs.CodeExpression.{exp_of, path_of};
 ghost use Rattle.generation.specs.Guards as rules;
 ghost use Rattle.simpl_expressions.specs.CodeTests.{IsTest};
 
@@ -13,7 +13,7 @@ use crate::terms::{
     and, cast_to, choice, nonzero, not, number, of_truth, on_word, on_words, or, pointer_moved_by,
     variable, word_of,
 };
-use ac_expr::{Exp, Path};
+use expression_lang::{Exp, Path};
 use c_lang::tree::{Expr, Path as TypedPath, Place};
 use c_values::{Layout, UnaryOp, copy_of};
 use std::alloc::{AllocError, Global};

@@ -1,7 +1,7 @@
 -- Each function at its level, by position and by name.
 use Rattle.std.proofs.Common.{◌≡◌, List, [], ◌∷◌, map, refl, sym, ap, ◌∙◌}
 use Rattle.c_values.specs.Name.{Name}
-use Rattle.ac_expr.specs.Sort.{Level}
+use Rattle.expression_lang.specs.Sort.{Level}
 use Rattle.c_lang.specs.Typed.{TypedFn}
 use Rattle.simpl_gen.specs.CodeAtLevels.{at_levels}
 

@@ -4,10 +4,10 @@ use Rattle.correspondence.specs.Corresponds.{Corresponds}
 use Rattle.c_values.specs.Name.{Name}
 use Rattle.c_values.specs.Layout.{Layout, GlobalVar}
 use Rattle.c_values.specs.CodeValue.{global_of}
-use Rattle.ac_expr.specs.Sort.{Level}
-use Rattle.ac_expr.specs.Signature.{Signature}
-use Rattle.ac_expr.specs.CodeExpression.{level_of}
-use Rattle.ac_expr.specs.CodeSignature.{signature_of}
+use Rattle.expression_lang.specs.Sort.{Level}
+use Rattle.expression_lang.specs.Signature.{Signature}
+use Rattle.expression_lang.specs.CodeExpression.{level_of}
+use Rattle.expression_lang.specs.CodeSignature.{signature_of}
 use Rattle.simpl_lang.specs.Command.{SimplFn, SimplUnit}
 use Rattle.simpl_lang.specs.Exec.{simpl_runs}
 use Rattle.simpl_lang.specs.CodeCommand.{simpl_fn_of, simpl_unit_of}

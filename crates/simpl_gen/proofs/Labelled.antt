@@ -1,7 +1,7 @@
 -- One label more before others.
 use Rattle.std.proofs.Common.{◌≡◌, ℕ, zero, suc, ◌+◌, ◌<◌, List, [], ◌∷◌, length, get_or, drop, ℤ, sym, ap, ◌∙◌, arith}
 use Rattle.c_values.specs.Types.{Target, IntType}
-use Rattle.ac_expr.specs.Expression.{Or, Eq, Var}
+use Rattle.expression_lang.specs.Expression.{Or, Eq, Var}
 use Rattle.generation.specs.Guards.{word_of}
 use Rattle.generation.specs.Generate.{is_one_of, switch_local}
 

@@ -1,6 +1,6 @@
 -- What the code's lists of added locals stand for.
 use Rattle.std.specs.Prelude.{map}
-use Rattle.ac_expr.specs.CodeSignature.{binder_of}
+use Rattle.expression_lang.specs.CodeSignature.{binder_of}
 use Rattle.simpl_gen.specs.declared.locals.Added as A
 use Rattle.generation.specs.Generate.{Added}
 

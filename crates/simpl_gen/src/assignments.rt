@@ -3,13 +3,13 @@
 ghost use Rattle.std.specs.Prelude.{◌≡◌, ◌++◌, map, OnOk, IfOk};
 ghost use Rattle.c_lang.specs.Typed as C;
 ghost use Rattle.c_lang.specs.CodeTyped as typed;
-ghost use Rattle.ac_expr.specs.CodeExpression.{exp_of, level_of};
+ghost use Rattle.expression_lang.specs.CodeExpression.{exp_of, level_of};
 ghost use Rattle.simpl_lang.specs.CodeCommand.{condition_of, simpl_of};
 ghost use Rattle.generation.specs.Guards.{guards, exp};
 ghost use Rattle.generation.specs.Generate as rules;
 
 use crate::commands::{set, with_guards};
-use ac_expr::{Exp, Level};
+use expression_lang::{Exp, Level};
 use c_lang::tree::{Destination, Expr, Place};
 use c_values::{Layout, copy_of};
 use simpl_expressions::{add_accesses, add_guards, add_place_guards, path_to, value};

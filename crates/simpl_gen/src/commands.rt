@@ -1,12 +1,12 @@
 //! Commands that generation puts together from others. Each is boxed where it is made.
 
 ghost use Rattle.std.specs.Prelude.{◌≡◌, map, string_bytes, IfOk};
-ghost use Rattle.ac_expr.specs.CodeExpression.{exp_of};
+ghost use Rattle.expression_lang.specs.CodeExpression.{exp_of};
 ghost use Rattle.simpl_lang.specs.Command.{Skip, Set, Pick, Seq, Cond};
 ghost use Rattle.simpl_lang.specs.CodeCommand.{condition_of, simpl_of};
 ghost use Rattle.generation.specs.Generate.{guarded};
 
-use ac_expr::Exp;
+use expression_lang::Exp;
 use simpl_lang::{Condition, Simpl};
 use std::alloc::{AllocError, Global};
 

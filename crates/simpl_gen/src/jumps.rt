@@ -1,7 +1,7 @@
 //! Jumps: return, break and continue, which are exceptions that `$exn` tells apart.
 
 ghost use Rattle.std.specs.Prelude.{◌≡◌, pos, map, IfOk};
-ghost use Rattle.ac_expr.specs.CodeExpression.{exp_of};
+ghost use Rattle.expression_lang.specs.CodeExpression.{exp_of};
 ghost use Rattle.simpl_lang.specs.Command.{Catch};
 ghost use Rattle.simpl_lang.specs.CodeCommand.{condition_of, simpl_of};
 ghost use Rattle.generation.specs.Generate as rules;
@@ -9,7 +9,7 @@ ghost use Rattle.simpl_gen.specs.CodeJump.{exception_of};
 
 use crate::commands::{conditional, sequence, set, skip};
 use crate::names::exception_local;
-use ac_expr::Exp;
+use expression_lang::Exp;
 use simpl_expressions::terms::{equal, int_literal, variable};
 use simpl_lang::{Condition, Simpl};
 use std::alloc::{AllocError, Global};

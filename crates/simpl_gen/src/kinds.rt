@@ -3,11 +3,11 @@
 ghost use Rattle.std.specs.Prelude.{◌≡◌};
 ghost use Rattle.std.specs.Option.{option_map};
 ghost use Rattle.c_values.specs.CodeTypes.{target_of, type_of};
-ghost use Rattle.ac_expr.specs.Sort.{Numbers};
-ghost use Rattle.ac_expr.specs.CodeExpression.{kind_of, level_of};
-ghost use Rattle.ac_expr.specs.Signature as rules;
+ghost use Rattle.expression_lang.specs.Sort.{Numbers};
+ghost use Rattle.expression_lang.specs.CodeExpression.{kind_of, level_of};
+ghost use Rattle.expression_lang.specs.Signature as rules;
 
-use ac_expr::{Kind, Level};
+use expression_lang::{Kind, Level};
 use c_values::{CType, Target, is_signed, width_of};
 use simpl_expressions::scalars::bits_of_type;
 

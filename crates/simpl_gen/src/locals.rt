@@ -4,11 +4,11 @@ ghost use Rattle.std.specs.Prelude.{◌≡◌, ◌++◌, ◌∷◌, [], map, str
 ghost use Rattle.std.specs.Option.{option_map};
 ghost use Rattle.c_values.specs.CodeTypes.{target_of, int_type_of, type_of};
 ghost use Rattle.c_values.specs.Types.{Integer};
-ghost use Rattle.ac_expr.specs.Sort.{BoolKind};
+ghost use Rattle.expression_lang.specs.Sort.{BoolKind};
 ghost use Rattle.c_lang.specs.CodeTyped as typed;
-ghost use Rattle.ac_expr.specs.CodeExpression.{kind_of, level_of};
-ghost use Rattle.ac_expr.specs.CodeSignature.{binder_of};
-ghost use Rattle.ac_expr.specs.Signature.{kind_at, binder};
+ghost use Rattle.expression_lang.specs.CodeExpression.{kind_of, level_of};
+ghost use Rattle.expression_lang.specs.CodeSignature.{binder_of};
+ghost use Rattle.expression_lang.specs.Signature.{kind_at, binder};
 ghost use Rattle.c_meaning.specs.Kinds as kinds;
 ghost use Rattle.generation.specs.Generate as rules;
 ghost use Rattle.simpl_gen.specs.CodeAdded.{added_of};
@@ -17,7 +17,7 @@ use crate::kinds::kind_at;
 use crate::names::{
     call_local, exception_local, first_local, result_local, switch_local, thrown_local,
 };
-use ac_expr::{Binder, Kind, Level};
+use expression_lang::{Binder, Kind, Level};
 use c_lang::tree::{Groups, Statement, Statements, TypedFn, Use, Variable};
 use c_values::{CType, IntType, Target};
 use std::alloc::{AllocError, Global};

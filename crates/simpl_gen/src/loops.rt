@@ -2,7 +2,7 @@
 
 ghost use Rattle.std.specs.Prelude.{◌≡◌, ◌++◌, map, OnOk, IfOk};
 ghost use Rattle.c_lang.specs.CodeTyped as typed;
-ghost use Rattle.ac_expr.specs.CodeExpression.{exp_of, level_of};
+ghost use Rattle.expression_lang.specs.CodeExpression.{exp_of, level_of};
 ghost use Rattle.simpl_lang.specs.Command.{Seq};
 ghost use Rattle.simpl_lang.specs.CodeCommand.{condition_of, simpl_of};
 ghost use Rattle.generation.specs.Guards.{guards, truth};
@@ -11,7 +11,7 @@ ghost use Rattle.generation.specs.Generate as rules;
 use crate::commands::{sequence, set};
 use crate::jumps::{body_of_loop, loop_with_breaks};
 use crate::names::first_local;
-use ac_expr::{Exp, Level};
+use expression_lang::{Exp, Level};
 use c_lang::tree::{Expr, Test};
 use c_values::Layout;
 use simpl_expressions::terms::{implication, not, or, truth_literal, variable};

@@ -3,7 +3,7 @@
 ghost use Rattle.std.specs.Prelude.{◌≡◌, IfOk};
 ghost use Rattle.c_values.specs.CodeTypes.{int_type_of};
 ghost use Rattle.c_lang.specs.CodeTyped as typed;
-ghost use Rattle.ac_expr.specs.CodeExpression.{level_of};
+ghost use Rattle.expression_lang.specs.CodeExpression.{level_of};
 ghost use Rattle.simpl_lang.specs.Command.{Set, Seq, Cond};
 ghost use Rattle.simpl_lang.specs.Exec.{result_local};
 ghost use Rattle.simpl_lang.specs.CodeCommand.{simpl_of};
@@ -17,7 +17,7 @@ use crate::jumps::{Jump, jump_out};
 use crate::loops::{do_while, for_loop, while_loop};
 use crate::names::result_local;
 use crate::switches::{is_one_of, switch};
-use ac_expr::Level;
+use expression_lang::Level;
 use c_lang::tree::{Expr, Groups, Statement, Statements};
 use c_values::{IntType, Layout};
 use simpl_expressions::{add_guards, truth, value};

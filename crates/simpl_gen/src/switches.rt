@@ -3,17 +3,17 @@
 ghost use Rattle.std.specs.Prelude.{◌≡◌, map, IfOk};
 ghost use Rattle.c_values.specs.CodeTypes.{target_of, int_type_of};
 ghost use Rattle.c_lang.specs.CodeTyped as typed;
-ghost use Rattle.ac_expr.specs.CodeExpression.{exp_of, level_of};
+ghost use Rattle.expression_lang.specs.CodeExpression.{exp_of, level_of};
 ghost use Rattle.simpl_lang.specs.Command.{Set, Seq, Catch};
 ghost use Rattle.simpl_lang.specs.CodeCommand.{simpl_of};
-ghost use Rattle.ac_expr.specs.Expression.{Eq, Var};
+ghost use Rattle.expression_lang.specs.Expression.{Eq, Var};
 ghost use Rattle.generation.specs.Guards as values;
 ghost use Rattle.generation.specs.Generate as rules;
 
 use crate::commands::{sequence, set, with_guards};
 use crate::jumps::until_break;
 use crate::names::switch_local;
-use ac_expr::{Exp, Level};
+use expression_lang::{Exp, Level};
 use c_lang::tree::Expr;
 use c_values::{IntType, Layout, Number, Target};
 use simpl_expressions::terms::{equal, or, truth_literal, variable, word_of};

@@ -2,14 +2,14 @@
 use Rattle.std.proofs.Common.{◌≡◌, Bool, true, false, ◌&&◌, List, [], ◌∷◌, map, Option, Some, None, cond, refl, sym, length, ◌==◌, ◌∙◌, suc, eqb-true, arith}
 use Rattle.std.proofs.lemmas.Bool.{false_from_ne_true}
 use Rattle.c_values.specs.Name.{Name}
-use Rattle.ac_expr.specs.declared.signatures.Binder as B
-use Rattle.ac_expr.specs.declared.expression.Exp as R
-use Rattle.ac_expr.specs.CodeExpression.{exp_of}
-use Rattle.ac_expr.specs.CodeSignature.{binder_of}
-use Rattle.ac_expr.specs.Expression.{Exp}
-use Rattle.ac_expr.specs.Sort.{Scalar, Sort, Of, PartsSort, Kind, Scope, same_scalar, word_sort_of}
-use Rattle.ac_expr.specs.Signature.{Signature, kinds_of}
-use Rattle.ac_expr.specs.Sorted.{program_sort, scalar_in, with_scalar, scalars_of, same_scalars, call_scalars, result_scalars}
+use Rattle.expression_lang.specs.declared.signatures.Binder as B
+use Rattle.expression_lang.specs.declared.expression.Exp as R
+use Rattle.expression_lang.specs.CodeExpression.{exp_of}
+use Rattle.expression_lang.specs.CodeSignature.{binder_of}
+use Rattle.expression_lang.specs.Expression.{Exp}
+use Rattle.expression_lang.specs.Sort.{Scalar, Sort, Of, PartsSort, Kind, Scope, same_scalar, word_sort_of}
+use Rattle.expression_lang.specs.Signature.{Signature, kinds_of}
+use Rattle.expression_lang.specs.Sorted.{program_sort, scalar_in, with_scalar, scalars_of, same_scalars, call_scalars, result_scalars}
 use Rattle.simpl_lang.specs.Sorted.{fits_target, is_scalar_of}
 use Rattle.simpl_lang.specs.CodeForms.{may_take, may_go_to}
 

@@ -5,10 +5,10 @@ use Rattle.correspondence.specs.OneEnd.{Continues, Deeper, AllContinue}
 use Rattle.correspondence.proofs.Continues.{continues_itself, then_continues, choose_continues, loop_continues, called_continues, below_continues}
 use Rattle.c_values.specs.Choice.{Choice}
 use Rattle.c_values.specs.Layout.{Layout}
-use Rattle.ac_expr.specs.Signature.{Binder, Signature, Invocation, signature}
-use Rattle.ac_expr.specs.GuardKind.{GuardKind}
+use Rattle.expression_lang.specs.Signature.{Binder, Signature, Invocation, signature}
+use Rattle.expression_lang.specs.GuardKind.{GuardKind}
 use Rattle.simpl_lang.specs.Command.{Simpl, Skip, Throw, Set, SetGlobal, Store, Pick, Seq, Cond, Guard, Catch, While, Call, SimplFn, SimplUnit, simpl_fn}
-use Rattle.ac_expr.specs.Machine.{Machine}
+use Rattle.expression_lang.specs.Machine.{Machine}
 use Rattle.simpl_lang.specs.Exec.{Flow, Normal, Abrupt, Runs, normally, handled, holds_on, execs, function_runs, bodies, functions_below, simpl_runs}
 
 normally_continues : (r r' : Machine → Ends Flow GuardKind) → ((m : Machine) → Continues (r m) (r' m)) → (f : Flow) → Continues (normally r f) (normally r' f)

@@ -6,11 +6,11 @@ use Rattle.correspondence.proofs.Included.{included_itself, then_included, choos
 use Rattle.c_values.specs.Value.{Value}
 use Rattle.c_values.specs.Choice.{Any, Fill}
 use Rattle.c_values.specs.Layout.{Layout}
-use Rattle.ac_expr.specs.GuardKind.{GuardKind}
-use Rattle.ac_expr.specs.Machine.{Machine}
-use Rattle.ac_expr.specs.Sort.{Kind}
-use Rattle.ac_expr.specs.Signature.{Binder, Signature, Invocation, signature}
-use Rattle.ac_expr.proofs.Filled.{picked_word_at_included}
+use Rattle.expression_lang.specs.GuardKind.{GuardKind}
+use Rattle.expression_lang.specs.Machine.{Machine}
+use Rattle.expression_lang.specs.Sort.{Kind}
+use Rattle.expression_lang.specs.Signature.{Binder, Signature, Invocation, signature}
+use Rattle.expression_lang.proofs.Filled.{picked_word_at_included}
 use Rattle.simpl_lang.specs.Command.{Simpl, Skip, Throw, Set, SetGlobal, Store, Pick, Seq, Cond, Guard, Catch, While, Call, SimplFn, SimplUnit, simpl_fn, kind_of}
 use Rattle.simpl_lang.specs.Exec.{Flow, Normal, Abrupt, Runs, normally, handled, holds_on, picked_local, execs, function_runs, bodies, functions_below, simpl_runs}
 

@@ -3,13 +3,13 @@ use Rattle.std.proofs.Common.{◌≡◌, List, [], ◌∷◌, map, None, string_
 use Rattle.c_values.specs.Layout.{Layout, global_type}
 use Rattle.c_values.specs.declared.values.GlobalVar as G
 use Rattle.c_values.specs.CodeValue.{global_of}
-use Rattle.ac_expr.specs.declared.names.Names as N
-use Rattle.ac_expr.specs.declared.signatures.Binder as B
-use Rattle.ac_expr.specs.Sort.{word_sort_of}
-use Rattle.ac_expr.specs.Signature.{Signature, names_of, kinds_of}
-use Rattle.ac_expr.specs.Sorted.{names_with}
-use Rattle.ac_expr.specs.CodeSignature.{binder_of}
-use Rattle.ac_expr.specs.CodeSort as C
+use Rattle.expression_lang.specs.declared.names.Names as N
+use Rattle.expression_lang.specs.declared.signatures.Binder as B
+use Rattle.expression_lang.specs.Sort.{word_sort_of}
+use Rattle.expression_lang.specs.Signature.{Signature, names_of, kinds_of}
+use Rattle.expression_lang.specs.Sorted.{names_with}
+use Rattle.expression_lang.specs.CodeSignature.{binder_of}
+use Rattle.expression_lang.specs.CodeSort as C
 use Rattle.simpl_lang.specs.Command.{Simpl}
 use Rattle.simpl_lang.specs.Sorted.{is_sorted}
 

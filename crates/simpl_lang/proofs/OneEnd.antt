@@ -5,13 +5,13 @@ use Rattle.correspondence.specs.OneEnd.{OneEnd, HaveOneEnd}
 use Rattle.correspondence.proofs.OneEnd.{done_once, fault_once, stop_once, choose_once, then_once, loop_once, called_once, below_once}
 use Rattle.c_values.specs.Choice.{Fill}
 use Rattle.c_values.specs.Layout.{Layout}
-use Rattle.ac_expr.specs.Expression.{Exp}
-use Rattle.ac_expr.specs.Sort.{Kind}
-use Rattle.ac_expr.specs.Signature.{Binder, Signature, Invocation, signature}
-use Rattle.ac_expr.proofs.Picked.{picked_word_at_once}
-use Rattle.ac_expr.specs.GuardKind.{GuardKind}
+use Rattle.expression_lang.specs.Expression.{Exp}
+use Rattle.expression_lang.specs.Sort.{Kind}
+use Rattle.expression_lang.specs.Signature.{Binder, Signature, Invocation, signature}
+use Rattle.expression_lang.proofs.Picked.{picked_word_at_once}
+use Rattle.expression_lang.specs.GuardKind.{GuardKind}
 use Rattle.simpl_lang.specs.Command.{Condition, Simpl, Skip, Throw, Set, SetGlobal, Store, Pick, Seq, Cond, Guard, Catch, While, Call, SimplFn, SimplUnit, simpl_fn, kind_of}
-use Rattle.ac_expr.specs.Machine.{Machine}
+use Rattle.expression_lang.specs.Machine.{Machine}
 use Rattle.simpl_lang.specs.Exec.{Flow, Normal, Abrupt, Runs, normally, handled, turned, checked, entered, picked_local, execs, ended, function_runs, bodies, functions_below, simpl_runs}
 
 normally_once : (next : Machine → Ends Flow GuardKind) → ((m : Machine) → OneEnd (next m)) → (f : Flow) → OneEnd (normally next f)

@@ -7,10 +7,10 @@ use Rattle.c_values.specs.Types.{Target, CType, Integer, Void, Ptr, Struct, Arra
 use Rattle.c_values.specs.Layout.{Layout, IsLayout, StructDef, Shape, Incomplete, Scalar, Record, Row, type_of, shape_of, shape_from, shapes_after, struct_shape, is_complete}
 use Rattle.c_values.proofs.Laid.{name_is, shape_type, structs_of}
 use Rattle.c_values.specs.CodeSameType.{type_is, same_type-refl}
-use Rattle.ac_expr.specs.Sort as S
-use Rattle.ac_expr.specs.Sort.{Sort, Of, PartsSort, are_same, sort_at}
-use Rattle.ac_expr.specs.Sorted.{fits_place}
-use Rattle.ac_expr.proofs.Sorting.{struct_is, IsStructShape, struct_sort, array_sort}
+use Rattle.expression_lang.specs.Sort as S
+use Rattle.expression_lang.specs.Sort.{Sort, Of, PartsSort, are_same, sort_at}
+use Rattle.expression_lang.specs.Sorted.{fits_place}
+use Rattle.expression_lang.proofs.Sorting.{struct_is, IsStructShape, struct_sort, array_sort}
 use Rattle.simpl_lang.specs.CodeForms.{HasCompleteParts}
 
 -- the shape of a struct of the name, or of one without a body

@@ -10,10 +10,10 @@ use Rattle.c_values.specs.Layout.{Layout, size_of, shape_of}
 use Rattle.c_values.specs.Path.{Field, Index, spot, sel, upd}
 use Rattle.c_memory.specs.Tags.{is_pointer_ok}
 use Rattle.c_memory.specs.Heap.{read_heap, is_tagged}
-use Rattle.ac_expr.specs.Expression.{Exp, Var, WordLit, NumberLit, TruthLit, WordBinary, WordShift, WordUnary, WordCompare, Cast, ToNat, ToInt, ToWord, Arith, Negate, Lt, Le, Between, Eq, And, Or, Imp, Not, If, Padd, At, Load, Read, Tagged, PtrOk, Global, Sel, Upd, Path, Here, IntoField, IntoElement}
-use Rattle.ac_expr.specs.Evaluation.{Env, State, value, steps, cast_op, moved, moved_to, if_truth}
-use Rattle.ac_expr.specs.Facts.{names}
-use Rattle.ac_expr.specs.Signature.{values_of}
+use Rattle.expression_lang.specs.Expression.{Exp, Var, WordLit, NumberLit, TruthLit, WordBinary, WordShift, WordUnary, WordCompare, Cast, ToNat, ToInt, ToWord, Arith, Negate, Lt, Le, Between, Eq, And, Or, Imp, Not, If, Padd, At, Load, Read, Tagged, PtrOk, Global, Sel, Upd, Path, Here, IntoField, IntoElement}
+use Rattle.expression_lang.specs.Evaluation.{Env, State, value, steps, cast_op, moved, moved_to, if_truth}
+use Rattle.expression_lang.specs.Mentions.{names}
+use Rattle.expression_lang.specs.Signature.{values_of}
 use Rattle.simpl_lang.specs.Names.{AgreeBut, path_names, some_names}
 
 -- of two parts that name no x

@@ -1,9 +1,9 @@
 -- The parts of an expression's value are those of a complete type.
 use Rattle.std.proofs.Common.{◌≡◌, Option, Some, None, sym}
 use Rattle.c_values.specs.Layout.{IsLayout}
-use Rattle.ac_expr.specs.Expression.{Exp}
-use Rattle.ac_expr.specs.Sort.{Scope, Sort, Of, PartsSort, sort_of}
-use Rattle.ac_expr.proofs.WholeShapes.{parts_complete}
+use Rattle.expression_lang.specs.Expression.{Exp}
+use Rattle.expression_lang.specs.Sort.{Scope, Sort, Of, PartsSort, sort_of}
+use Rattle.expression_lang.proofs.WholeShapes.{parts_complete}
 use Rattle.simpl_lang.specs.CodeForms.{HasCompleteParts}
 
 pub sort_whole : (g : Scope) (e : Exp) (o : Option Sort) → IsLayout g.layout → o ≡ sort_of g e → HasCompleteParts g.layout o

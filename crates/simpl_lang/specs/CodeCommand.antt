@@ -3,14 +3,14 @@ use Rattle.std.specs.Prelude.{map, string_bytes}
 use Rattle.std.specs.Option.{option_map}
 use Rattle.c_values.specs.CodeTypes.{type_of}
 use Rattle.c_values.specs.CodeValue.{global_of}
-use Rattle.ac_expr.specs.CodeExpression.{exp_of, path_of, level_of}
-use Rattle.ac_expr.specs.CodeSignature.{binder_of, signature_of}
+use Rattle.expression_lang.specs.CodeExpression.{exp_of, path_of, level_of}
+use Rattle.expression_lang.specs.CodeSignature.{binder_of, signature_of}
 use Rattle.simpl_lang.specs.declared.command.GuardKind as G
 use Rattle.simpl_lang.specs.declared.command.Condition as C
 use Rattle.simpl_lang.specs.declared.command.Simpl as S
 use Rattle.simpl_lang.specs.declared.units.SimplFn as F
 use Rattle.simpl_lang.specs.declared.units.SimplUnit as U
-use Rattle.ac_expr.specs.GuardKind.{GuardKind, Div, Signed, Shift, Pointer, Bounds, Unreached, Tag, Wrap}
+use Rattle.expression_lang.specs.GuardKind.{GuardKind, Div, Signed, Shift, Pointer, Bounds, Unreached, Tag, Wrap}
 use Rattle.simpl_lang.specs.Command.{Condition, Simpl, Skip, Throw, Set, SetGlobal, Store, Pick, Seq, Cond, Guard, Catch, While, Call, SimplFn, SimplUnit}
 
 abbrev pub guard_kind_of : G.GuardKind → GuardKind

@@ -3,12 +3,12 @@
 use Rattle.std.specs.Prelude.{◌≡◌, Bool, true, false, ◌&&◌, List, map, Option, Some, None}
 use Rattle.c_values.specs.Name.{Name, same_name, are_distinct}
 use Rattle.c_values.specs.Layout.{Layout, shape_of, is_complete}
-use Rattle.ac_expr.specs.declared.names.Names as N
-use Rattle.ac_expr.specs.CodeSignature.{signature_of}
-use Rattle.ac_expr.specs.CodeSort.{scope_of}
-use Rattle.ac_expr.specs.Sort.{Scope, Scalar, Sort, Of, PartsSort, Kind, word_sort_of, are_kinds}
-use Rattle.ac_expr.specs.Signature.{Signature, names_of, kinds_of}
-use Rattle.ac_expr.specs.Sorted.{same_scalars}
+use Rattle.expression_lang.specs.declared.names.Names as N
+use Rattle.expression_lang.specs.CodeSignature.{signature_of}
+use Rattle.expression_lang.specs.CodeSort.{scope_of}
+use Rattle.expression_lang.specs.Sort.{Scope, Scalar, Sort, Of, PartsSort, Kind, word_sort_of, are_kinds}
+use Rattle.expression_lang.specs.Signature.{Signature, names_of, kinds_of}
+use Rattle.expression_lang.specs.Sorted.{same_scalars}
 use Rattle.simpl_lang.specs.Command.{SimplFn, SimplUnit}
 use Rattle.simpl_lang.specs.Sorted as Sorted
 use Rattle.simpl_lang.specs.Sorted.{is_scalar_of, same_level, come_first, holds_result, is_sorted, are_fns_sorted, are_signed}

@@ -1,6 +1,6 @@
 -- Commands from all but their last command and that, and commands without commands in them.
 use Rattle.std.specs.Prelude.{List, [], ◌∷◌, map}
-use Rattle.ac_expr.specs.CodeExpression.{exp_of}
+use Rattle.expression_lang.specs.CodeExpression.{exp_of}
 use Rattle.simpl_lang.specs.declared.fronts.Front as F
 use Rattle.simpl_lang.specs.Command.{Simpl, Seq, Cond, Guard, Catch, While}
 use Rattle.simpl_lang.specs.CodeCommand.{condition_of, simpl_of}

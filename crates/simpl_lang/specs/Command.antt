@@ -5,10 +5,10 @@ use Rattle.c_values.specs.Name.{Name, same_name}
 use Rattle.c_values.specs.Types.{CType}
 use Rattle.c_values.specs.Program.{function_named}
 use Rattle.c_values.specs.Layout.{Layout, GlobalVar}
-use Rattle.ac_expr.specs.GuardKind.{GuardKind}
-use Rattle.ac_expr.specs.Expression.{Exp, Path}
-use Rattle.ac_expr.specs.Sort.{Level, Kind}
-use Rattle.ac_expr.specs.Signature.{Binder, Signature}
+use Rattle.expression_lang.specs.GuardKind.{GuardKind}
+use Rattle.expression_lang.specs.Expression.{Exp, Path}
+use Rattle.expression_lang.specs.Sort.{Level, Kind}
+use Rattle.expression_lang.specs.Signature.{Binder, Signature}
 
 -- a condition that has to hold, and what it is about
 pub record Condition : Type 0 where

@@ -11,13 +11,13 @@ use Rattle.c_values.specs.Layout.{Layout}
 use Rattle.c_values.specs.Path.{upd}
 use Rattle.c_values.specs.Choice.{Choice}
 use Rattle.c_memory.specs.Heap.{write_heap}
-use Rattle.ac_expr.specs.Expression.{Exp}
-use Rattle.ac_expr.specs.GuardKind.{GuardKind}
-use Rattle.ac_expr.specs.Machine.{Machine, machine_with, with_local, Returned}
-use Rattle.ac_expr.specs.Sort.{Kind}
-use Rattle.ac_expr.specs.Evaluation.{Env, State, value, steps, holds}
-use Rattle.ac_expr.specs.View.{picked_word_at, zero_word_at}
-use Rattle.ac_expr.specs.Signature.{Binder, Signature, Invocation, names_of, signature, values_of, bound, no_env}
+use Rattle.expression_lang.specs.Expression.{Exp}
+use Rattle.expression_lang.specs.GuardKind.{GuardKind}
+use Rattle.expression_lang.specs.Machine.{Machine, machine_with, with_local, Returned}
+use Rattle.expression_lang.specs.Sort.{Kind}
+use Rattle.expression_lang.specs.Evaluation.{Env, State, value, steps, holds}
+use Rattle.expression_lang.specs.View.{picked_word_at, zero_word_at}
+use Rattle.expression_lang.specs.Signature.{Binder, Signature, Invocation, names_of, signature, values_of, bound, no_env}
 use Rattle.simpl_lang.specs.Command.{Condition, Simpl, Skip, Throw, Set, SetGlobal, Store, Pick, Seq, Cond, Guard, Catch, While, Call, SimplFn, SimplUnit, simpl_fn, kind_of}
 
 -- a command ends normally or by an exception

@@ -1,8 +1,8 @@
 -- The flag, a local that stands for an exception once commands are free of them. No command has its name before that.
 use Rattle.std.specs.Prelude.{◌≡◌, false, List, [], ◌∷◌, Some, codes}
 use Rattle.c_values.specs.Name.{Name, is_among}
-use Rattle.ac_expr.specs.Sort.{BoolKind}
-use Rattle.ac_expr.specs.Signature.{Signature, names_of}
+use Rattle.expression_lang.specs.Sort.{BoolKind}
+use Rattle.expression_lang.specs.Signature.{Signature, names_of}
 use Rattle.simpl_lang.specs.Command.{SimplFn, SimplUnit, kind_of}
 use Rattle.simpl_lang.specs.Names.{command_names}
 

@@ -1,10 +1,10 @@
 -- Names of locals in commands.
 use Rattle.std.specs.Prelude.{◌≡◌, Bool, false, ◌||◌, List, [], ◌∷◌, Option, Some, None}
 use Rattle.c_values.specs.Name.{Name, same_name}
-use Rattle.ac_expr.specs.Expression.{Exp, Path}
-use Rattle.ac_expr.specs.Evaluation.{Env}
-use Rattle.ac_expr.specs.Form.{path_has}
-use Rattle.ac_expr.specs.Facts.{is_name, names}
+use Rattle.expression_lang.specs.Expression.{Exp, Path}
+use Rattle.expression_lang.specs.Evaluation.{Env}
+use Rattle.expression_lang.specs.Form.{path_has}
+use Rattle.expression_lang.specs.Mentions.{is_name, names}
 use Rattle.simpl_lang.specs.Command.{Condition, Simpl, Skip, Throw, Set, SetGlobal, Store, Pick, Seq, Cond, Guard, Catch, While, Call}
 
 abbrev pub path_names : Name → Path → Bool

@@ -2,9 +2,9 @@
 use Rattle.std.specs.Prelude.{◌≡◌, ◌==◌, Bool, true, false, ◌&&◌, List, [], ◌∷◌, map, Option, Some, None}
 use Rattle.c_values.specs.Name.{Name, same_name, are_distinct}
 use Rattle.c_values.specs.Layout.{IsLayout, global_type}
-use Rattle.ac_expr.specs.Sort.{Level, Bytes, Words, Numbers, Scalar, Sort, Of, Kind, WordKind, NatKind, IntKind, BoolKind, Scope, same_scalar, is_truth, word_sort_of, are_kinds}
-use Rattle.ac_expr.specs.Signature.{Binder, Signature, names_of, kinds_of, signature}
-use Rattle.ac_expr.specs.Sorted.{names_with, program_sort, scalars_of, typed_place, global_place, fits_place, call_scalars}
+use Rattle.expression_lang.specs.Sort.{Level, Bytes, Words, Numbers, Scalar, Sort, Of, Kind, WordKind, NatKind, IntKind, BoolKind, Scope, same_scalar, is_truth, word_sort_of, are_kinds}
+use Rattle.expression_lang.specs.Signature.{Binder, Signature, names_of, kinds_of, signature}
+use Rattle.expression_lang.specs.Sorted.{names_with, program_sort, scalars_of, typed_place, global_place, fits_place, call_scalars}
 use Rattle.simpl_lang.specs.Command.{Condition, Simpl, Skip, Throw, Set, SetGlobal, Store, Pick, Seq, Cond, Guard, Catch, While, Call, SimplFn, SimplUnit, kind_of}
 use Rattle.simpl_lang.specs.Exec.{result_local}
 

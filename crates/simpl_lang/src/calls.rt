@@ -2,19 +2,19 @@
 
 ghost use Rattle.std.specs.Prelude.{◌≡◌, map, string_bytes};
 ghost use Rattle.std.specs.Option.{option_map};
-ghost use Rattle.ac_expr.specs.Sort.{Of, word_sort_of};
-ghost use Rattle.ac_expr.specs.Signature.{signature, kinds_of};
-ghost use Rattle.ac_expr.specs.Sorted.{scalars_of, call_scalars};
-ghost use Rattle.ac_expr.specs.CodeExpression.{exp_of, kind_of};
-ghost use Rattle.ac_expr.specs.CodeSignature.{binder_of, signature_of};
-ghost use Rattle.ac_expr.specs.CodeSort.{names_of};
+ghost use Rattle.expression_lang.specs.Sort.{Of, word_sort_of};
+ghost use Rattle.expression_lang.specs.Signature.{signature, kinds_of};
+ghost use Rattle.expression_lang.specs.Sorted.{scalars_of, call_scalars};
+ghost use Rattle.expression_lang.specs.CodeExpression.{exp_of, kind_of};
+ghost use Rattle.expression_lang.specs.CodeSignature.{binder_of, signature_of};
+ghost use Rattle.expression_lang.specs.CodeSort.{names_of};
 ghost use Rattle.simpl_lang.specs.Sorted.{fits_target, is_scalar_of};
 ghost use Rattle.simpl_lang.specs.CodeForms.{scope_in, signatures_in, may_take, may_go_to};
 
 use crate::program_sorts::program_sort;
 use crate::scalars::is_of;
 use crate::units::SimplUnit;
-use ac_expr::{Binder, Exp, Kind, Names, Signature, scalar_of_kind};
+use expression_lang::{Binder, Exp, Kind, Names, Signature, scalar_of_kind};
 
 /// Whether a call is of a function of the unit, with arguments and a target of its kinds.
 #[tactic(auto, using(crate::proofs::Arguments::calls_none, crate::proofs::Arguments::calls_one))]

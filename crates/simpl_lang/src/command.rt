@@ -1,6 +1,6 @@
 //! Commands.
 
-use ac_expr::{Exp, Path};
+use expression_lang::{Exp, Path};
 use c_values::CType;
 
 /// Why a guard stands where it does. `Tag` and `Wrap` are watched by a function's level, the others always.

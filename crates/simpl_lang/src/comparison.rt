@@ -9,7 +9,7 @@ ghost use Rattle.simpl_lang.specs.CodeCompared.{Says, LastIsSmaller};
 
 use crate::command::Simpl;
 use crate::conditions::{same_condition, same_conditions};
-use ac_expr::{equal_types, same_exps};
+use expression_lang::{equal_types, same_exps};
 
 impl Simpl {
     /// Whether two commands are the same. It goes along the last parts by a loop, since a text may have long sequences.

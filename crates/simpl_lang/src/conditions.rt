@@ -21,7 +21,7 @@ pub fn same_condition(condition: &Condition, other: &Condition) -> bool
 }
 
 /// Whether two lists have the same conditions.
-#[tactic(auto, using(ac_expr::proofs::SameLists::maps_end, ac_expr::proofs::SameLists::maps_go_on))]
+#[tactic(auto, using(expression_lang::proofs::SameLists::maps_end, expression_lang::proofs::SameLists::maps_go_on))]
 pub fn same_conditions(conditions: &[Condition], others: &[Condition]) -> bool
     ensures { IsTrue result ↔ (map condition_of conditions.now ≡ map condition_of others.now) }
 {

@@ -10,7 +10,7 @@ ghost use Rattle.simpl_lang.specs.CodeCopied.{peeled_in, LastIsSmaller};
 use crate::command::Simpl;
 use crate::conditions::{copy_of_condition, copy_of_conditions};
 use crate::fronts::{Front, boxed, whole};
-use ac_expr::copy_exps;
+use expression_lang::copy_exps;
 use c_values::copy_of;
 use std::alloc::{AllocError, Global};
 

@@ -3,12 +3,12 @@
 ghost use Rattle.std.specs.Prelude.{◌≡◌, map};
 ghost use Rattle.c_values.specs.Name.{is_among, are_distinct};
 ghost use Rattle.c_values.specs.CodeValue.{global_of};
-ghost use Rattle.ac_expr.specs.Signature.{names_of};
-ghost use Rattle.ac_expr.specs.CodeSignature.{binder_of};
+ghost use Rattle.expression_lang.specs.Signature.{names_of};
+ghost use Rattle.expression_lang.specs.CodeSignature.{binder_of};
 ghost use Rattle.simpl_lang.specs.CodeCommand.{simpl_fn_of};
 
 use crate::units::SimplFn;
-use ac_expr::Binder;
+use expression_lang::Binder;
 use c_values::GlobalVar;
 
 /// What has a name.

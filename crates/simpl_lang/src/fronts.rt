@@ -5,7 +5,7 @@ ghost use Rattle.simpl_lang.specs.CodeCommand.{simpl_of};
 ghost use Rattle.simpl_lang.specs.CodeFront.{with_front};
 
 use crate::command::{Condition, Simpl};
-use ac_expr::Exp;
+use expression_lang::Exp;
 use std::alloc::{AllocError, Global};
 
 /// All but the last command of a command.

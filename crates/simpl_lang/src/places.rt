@@ -4,17 +4,17 @@ ghost use Rattle.std.specs.Prelude.{◌≡◌};
 ghost use Rattle.std.specs.Option.{option_map};
 ghost use Rattle.c_values.specs.Layout.{shape_of};
 ghost use Rattle.c_values.specs.CodeTypes.{type_of};
-ghost use Rattle.ac_expr.specs.Sort.{sort_at};
-ghost use Rattle.ac_expr.specs.Sorted.{program_sort, part_place, typed_place, global_place, fits_place};
-ghost use Rattle.ac_expr.specs.CodeExpression.{exp_of, path_of};
-ghost use Rattle.ac_expr.specs.CodeSort.{sort_value};
+ghost use Rattle.expression_lang.specs.Sort.{sort_at};
+ghost use Rattle.expression_lang.specs.Sorted.{program_sort, part_place, typed_place, global_place, fits_place};
+ghost use Rattle.expression_lang.specs.CodeExpression.{exp_of, path_of};
+ghost use Rattle.expression_lang.specs.CodeSort.{sort_value};
 ghost use Rattle.simpl_lang.specs.CodeForms.{scope_in, HasCompleteParts};
 
 use crate::program_sorts::program_sort;
 use crate::units::SimplUnit;
-use ac_expr::parts::global;
-use ac_expr::sort_rules::{are_same, is_root, is_word_of};
-use ac_expr::{Exp, IsPartOfValue, Names, Path, Sort, along};
+use expression_lang::parts::global;
+use expression_lang::sort_rules::{are_same, is_root, is_word_of};
+use expression_lang::{Exp, IsPartOfValue, Names, Path, Sort, along};
 use c_values::{CType, Layout, address_width, is_object, width_of};
 
 /// Whether a value may go to a part of a global.

@@ -2,15 +2,15 @@
 
 ghost use Rattle.std.specs.Prelude.{◌≡◌};
 ghost use Rattle.std.specs.Option.{option_map};
-ghost use Rattle.ac_expr.specs.Sort.{is_truth};
-ghost use Rattle.ac_expr.specs.Sorted.{program_sort};
-ghost use Rattle.ac_expr.specs.CodeExpression.{exp_of};
-ghost use Rattle.ac_expr.specs.CodeSort.{sort_value};
+ghost use Rattle.expression_lang.specs.Sort.{is_truth};
+ghost use Rattle.expression_lang.specs.Sorted.{program_sort};
+ghost use Rattle.expression_lang.specs.CodeExpression.{exp_of};
+ghost use Rattle.expression_lang.specs.CodeSort.{sort_value};
 ghost use Rattle.simpl_lang.specs.CodeForms.{scope_in, HasCompleteParts};
 
 use crate::units::SimplUnit;
-use ac_expr::sort_rules::is_truth;
-use ac_expr::{Exp, IsPartOfValue, Names, Sort, sort_of};
+use expression_lang::sort_rules::is_truth;
+use expression_lang::{Exp, IsPartOfValue, Names, Sort, sort_of};
 
 /// The sort of an expression of a program. There is none where a part of a value is taken or replaced.
 pub(crate) fn program_sort<'a>(u: &'a SimplUnit, names: &Names<'_>, e: &'a Exp) -> Option<Sort<'a>>

@@ -4,9 +4,9 @@ ghost use Rattle.std.specs.Prelude.{ℕ, Option, List, ◌≤◌};
 ghost use Rattle.correspondence.specs.OneEnd.{OneEnd, Continues, Deeper};
 ghost use Rattle.correspondence.specs.Included.{Included};
 ghost use Rattle.c_values.specs.Choice.{Choice, Any, Fill};
-ghost use Rattle.ac_expr.specs.Signature.{Binder, Invocation};
+ghost use Rattle.expression_lang.specs.Signature.{Binder, Invocation};
 ghost use Rattle.simpl_lang.specs.Command.{Simpl, SimplUnit};
-ghost use Rattle.ac_expr.specs.Machine.{Machine};
+ghost use Rattle.expression_lang.specs.Machine.{Machine};
 ghost use Rattle.simpl_lang.specs.Exec.{execs, functions_below, simpl_runs};
 
 /// Under a fill number a call has exactly one end, and so has a command that calls the functions of a unit: at every

@@ -2,12 +2,12 @@
 
 ghost use Rattle.std.specs.Prelude.{◌≡◌};
 ghost use Rattle.std.specs.Option.{option_map};
-ghost use Rattle.ac_expr.specs.Sort.{is_kind};
-ghost use Rattle.ac_expr.specs.CodeExpression.{kind_of};
-ghost use Rattle.ac_expr.specs.CodeSort.{scalar_of, sort_value};
+ghost use Rattle.expression_lang.specs.Sort.{is_kind};
+ghost use Rattle.expression_lang.specs.CodeExpression.{kind_of};
+ghost use Rattle.expression_lang.specs.CodeSort.{scalar_of, sort_value};
 ghost use Rattle.simpl_lang.specs.Sorted.{is_scalar_of, same_kind};
 
-use ac_expr::{Kind, Scalar, Sort};
+use expression_lang::{Kind, Scalar, Sort};
 
 /// Whether words of the kind have one of the four widths.
 pub(crate) fn is_kind(kind: Kind) -> bool

@@ -2,8 +2,8 @@
 
 ghost use Rattle.std.specs.Prelude.{◌≡◌, map};
 ghost use Rattle.std.specs.Option.{option_map};
-ghost use Rattle.ac_expr.specs.CodeExpression.{kind_of, level_of};
-ghost use Rattle.ac_expr.specs.CodeSignature.{binder_of, signature_of};
+ghost use Rattle.expression_lang.specs.CodeExpression.{kind_of, level_of};
+ghost use Rattle.expression_lang.specs.CodeSignature.{binder_of, signature_of};
 ghost use Rattle.simpl_lang.specs.Sorted.{are_signed, come_first, holds_result, same_level};
 ghost use Rattle.simpl_lang.specs.Command as plain;
 ghost use Rattle.simpl_lang.specs.CodeCommand.{simpl_fn_of};
@@ -11,7 +11,7 @@ ghost use Rattle.simpl_lang.specs.CodeForms.{is_signed};
 
 use crate::scalars::same_kind;
 use crate::units::SimplFn;
-use ac_expr::{Binder, Kind, Level, Signature};
+use expression_lang::{Binder, Kind, Level, Signature};
 
 /// Whether the signatures are of the functions, in their order.
 pub(crate) fn are_signed(functions: &[SimplFn], signatures: &[Signature]) -> bool

@@ -1,9 +1,9 @@
 //! Which commands are well-sorted.
 
 ghost use Rattle.std.specs.Prelude.{◌≡◌, map};
-ghost use Rattle.ac_expr.specs.Sorted.{program_sort};
-ghost use Rattle.ac_expr.specs.CodeExpression.{exp_of};
-ghost use Rattle.ac_expr.specs.CodeSort.{names_of};
+ghost use Rattle.expression_lang.specs.Sorted.{program_sort};
+ghost use Rattle.expression_lang.specs.CodeExpression.{exp_of};
+ghost use Rattle.expression_lang.specs.CodeSort.{names_of};
 ghost use Rattle.simpl_lang.specs.Sorted.{is_sorted, is_scalar_of, is_local, are_conditions};
 ghost use Rattle.simpl_lang.specs.CodeCommand.{condition_of, simpl_of};
 ghost use Rattle.simpl_lang.specs.CodeForms.{scope_in, signatures_in};
@@ -14,7 +14,7 @@ use crate::places::{fits_global, fits_object};
 use crate::program_sorts::{is_test, program_sort};
 use crate::scalars::is_of;
 use crate::units::SimplUnit;
-use ac_expr::{Exp, Names};
+use expression_lang::{Exp, Names};
 
 /// Whether a command is well-sorted where these names are in scope. It goes along a sequence by a loop, since a text may
 /// have long ones.

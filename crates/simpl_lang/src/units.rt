@@ -1,7 +1,7 @@
 //! Functions and units of commands.
 
 use crate::command::Simpl;
-use ac_expr::{Binder, Level, Signature};
+use expression_lang::{Binder, Level, Signature};
 use c_values::{GlobalVar, Layout};
 
 /// A function.

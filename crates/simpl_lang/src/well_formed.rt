@@ -2,9 +2,9 @@
 
 ghost use Rattle.std.specs.Prelude.{◌≡◌, ◌&&◌, true, map};
 ghost use Rattle.c_values.specs.Name.{are_distinct};
-ghost use Rattle.ac_expr.specs.Sort.{are_kinds};
-ghost use Rattle.ac_expr.specs.Signature.{names_of, kinds_of};
-ghost use Rattle.ac_expr.specs.CodeSignature.{binder_of};
+ghost use Rattle.expression_lang.specs.Sort.{are_kinds};
+ghost use Rattle.expression_lang.specs.Signature.{names_of, kinds_of};
+ghost use Rattle.expression_lang.specs.CodeSignature.{binder_of};
 ghost use Rattle.simpl_lang.specs.Sorted.{IsWellFormed, is_sorted, are_fns_sorted, scope_of};
 ghost use Rattle.simpl_lang.specs.CodeCommand.{simpl_of, simpl_fn_of, simpl_unit_of};
 ghost use Rattle.simpl_lang.specs.CodeForms.{signatures_in, is_fn_sorted, is_formed};
@@ -14,7 +14,7 @@ use crate::scalars::is_kind;
 use crate::signed::are_signed;
 use crate::sorted::is_sorted;
 use crate::units::{SimplFn, SimplUnit};
-use ac_expr::{Binder, Names};
+use expression_lang::{Binder, Names};
 
 /// Whether a unit is well-formed. It takes no memory, and of the stack no more for more locals.
 #[tactic(auto, using(crate::proofs::Formed::formed_sound, crate::proofs::Formed::formed_complete))]

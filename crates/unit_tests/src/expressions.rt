@@ -1,6 +1,6 @@
 //! Sorts and values of expressions that are known from elsewhere.
 
-use ac_expr::{Binder, Env, EvalFault, Exp, Kind, Names, Path, Scalar, Sort, eval, sort_of};
+use expression_lang::{Binder, Env, EvalFault, Exp, Kind, Names, Path, Scalar, Sort, eval, sort_of};
 use c_memory::ByteHeap;
 use c_values::{CType, IntType, Layout, Number, NumberOp, Target, Value, Word};
 use std::alloc::{AllocError, Global};

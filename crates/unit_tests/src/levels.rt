@@ -2,7 +2,7 @@
 
 ghost use Rattle.std.specs.Prelude.{◌≡◌, IfOk};
 
-use ac_expr::Level;
+use expression_lang::Level;
 use c_lang::tree::{Destination, Expr, Statement, Statements, TypedFn, TypedUnit, Use};
 use c_levels::reasons::reason;
 use c_levels::{Reason, default_modes};

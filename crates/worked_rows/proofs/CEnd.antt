@@ -8,10 +8,10 @@ use Rattle.c_values.specs.Word.{word}
 use Rattle.c_values.specs.Value as V
 use Rattle.c_values.specs.Layout.{Layout}
 use Rattle.c_values.specs.Choice.{Choice, Fill, picked}
-use Rattle.ac_expr.specs.Sort.{Level}
-use Rattle.ac_expr.specs.Signature.{Invocation, bound}
-use Rattle.ac_expr.specs.GuardKind as K
-use Rattle.ac_expr.specs.Machine.{Machine, machine_with, with_local, Returned}
+use Rattle.expression_lang.specs.Sort.{Level}
+use Rattle.expression_lang.specs.Signature.{Invocation, bound}
+use Rattle.expression_lang.specs.GuardKind as K
+use Rattle.expression_lang.specs.Machine.{Machine, machine_with, with_local, Returned}
 use Rattle.c_lang.specs.Typed as C
 use Rattle.c_lang.specs.Labels.{is_label, has_label}
 use Rattle.c_meaning.specs.CValue.{◌>>=◌, value, values, located, accessible, converted, is_true, number_at}

@@ -5,9 +5,9 @@ use Rattle.c_values.specs.Name.{Name}
 use Rattle.c_values.specs.Types.{CType}
 use Rattle.c_values.specs.Value.{Value, nothing}
 use Rattle.c_memory.specs.Heap.{read_heap, OnBytes}
-use Rattle.ac_expr.specs.Sort.{Level}
-use Rattle.ac_expr.specs.GuardKind.{GuardKind}
-use Rattle.ac_expr.specs.Machine.{Returned}
+use Rattle.expression_lang.specs.Sort.{Level}
+use Rattle.expression_lang.specs.GuardKind.{GuardKind}
+use Rattle.expression_lang.specs.Machine.{Returned}
 use Rattle.generation.specs.Generate.{generated}
 use Rattle.worked_rows.specs.Claims.{Case, no_memory, invocation, ends, simpl_ends, bytes_at, heap_bytes, Returns, Leaves, Holds, Undefined, Stops, ReturnsInC, StopsInC}
 use Rattle.worked_rows.proofs.CEnd.{c_end, c_ends}

@@ -4,7 +4,7 @@ use Rattle.std.specs.Prelude.{codes}
 use Rattle.correspondence.specs.Outcome.{Outcome, Done, Failed, Stopped}
 use Rattle.c_values.specs.Value.{Value, nothing}
 use Rattle.c_memory.specs.Heap.{OnTypes}
-use Rattle.ac_expr.specs.Evaluation.{State}
+use Rattle.expression_lang.specs.Evaluation.{State}
 use Rattle.monad_lang.specs.Program.{FinalUnit}
 use Rattle.monad_lang.specs.Run.{Answer, Failure}
 use Rattle.worked_rows.specs.Programs.{ends, Gives, Fails}

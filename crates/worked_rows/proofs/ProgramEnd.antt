@@ -5,11 +5,11 @@ use Rattle.c_values.specs.Word.{word, unsigned, signed}
 use Rattle.c_values.specs.Value.{Value, Bits, Number, Truth}
 use Rattle.c_values.specs.Layout.{Layout}
 use Rattle.c_values.specs.Choice.{Fill}
-use Rattle.ac_expr.specs.Expression.{Exp}
-use Rattle.ac_expr.specs.Sort.{Kind, WordKind, NatKind, IntKind, BoolKind}
-use Rattle.ac_expr.specs.Evaluation.{Env, State, value, holds}
-use Rattle.ac_expr.specs.Signature.{Invocation, names_of, values_of, bound, no_env}
-use Rattle.ac_expr.specs.View.{picked_at}
+use Rattle.expression_lang.specs.Expression.{Exp}
+use Rattle.expression_lang.specs.Sort.{Kind, WordKind, NatKind, IntKind, BoolKind}
+use Rattle.expression_lang.specs.Evaluation.{Env, State, value, holds}
+use Rattle.expression_lang.specs.Signature.{Invocation, names_of, values_of, bound, no_env}
+use Rattle.expression_lang.specs.View.{picked_at}
 use Rattle.monad_lang.specs.Program.{Mon, Ret, Bind, Guard, If, Write, Loop, Call, Pick, FinalFn, FinalUnit, final_fn}
 use Rattle.monad_lang.specs.Run as R
 use Rattle.monad_lang.specs.Run.{Answer, Failure, Runs, start_names, start_values, written}

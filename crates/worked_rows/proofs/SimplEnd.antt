@@ -8,15 +8,15 @@ use Rattle.c_values.specs.Layout.{Layout}
 use Rattle.c_values.specs.Path.{upd}
 use Rattle.c_values.specs.Choice.{Fill}
 use Rattle.c_memory.specs.Heap.{write_heap}
-use Rattle.ac_expr.specs.Expression.{Exp}
-use Rattle.ac_expr.specs.Sort.{Kind, WordKind, NatKind, IntKind, BoolKind}
-use Rattle.ac_expr.specs.Evaluation.{steps}
-use Rattle.ac_expr.specs.Signature.{Binder, Signature, Invocation, names_of, signature, values_of, bound}
-use Rattle.ac_expr.specs.View.{picked_word_at}
-use Rattle.ac_expr.specs.GuardKind.{GuardKind}
+use Rattle.expression_lang.specs.Expression.{Exp}
+use Rattle.expression_lang.specs.Sort.{Kind, WordKind, NatKind, IntKind, BoolKind}
+use Rattle.expression_lang.specs.Evaluation.{steps}
+use Rattle.expression_lang.specs.Signature.{Binder, Signature, Invocation, names_of, signature, values_of, bound}
+use Rattle.expression_lang.specs.View.{picked_word_at}
+use Rattle.expression_lang.specs.GuardKind.{GuardKind}
 use Rattle.simpl_lang.specs.Command.{Condition, Simpl, Skip, Throw, Set, SetGlobal, Store, Pick, Seq, Cond, Guard, Catch, While, Call, SimplFn, SimplUnit, simpl_fn, kind_of}
 use Rattle.simpl_lang.specs.Exec as X
-use Rattle.ac_expr.specs.Machine.{Machine, Returned, machine_with, with_local}
+use Rattle.expression_lang.specs.Machine.{Machine, Returned, machine_with, with_local}
 use Rattle.simpl_lang.specs.Exec.{Flow, Normal, Abrupt, Runs, value_on, holds_on, result_into, result_of, zero_locals}
 use Rattle.worked_rows.proofs.End.{then_end, then_ends, choose_ends, FunctionsEnd, AllEnd, loop_end, loop_ends, called_end, called_ends, below_end, below_ends}
 

@@ -4,7 +4,7 @@ use Rattle.std.specs.Prelude.{[], ◌∷◌, Some, pos, codes}
 use Rattle.c_values.specs.Name.{Name}
 use Rattle.c_values.specs.Types.{UChar, CType, Integer, Ptr}
 use Rattle.c_memory.specs.Memory.{Memory}
-use Rattle.ac_expr.specs.Sort.{Level, Bytes}
+use Rattle.expression_lang.specs.Sort.{Level, Bytes}
 use Rattle.c_lang.specs.Typed.{Expr, Local, Value, Convert, Through, Here, ToLocal, Assigned, Declare, Assign, Call, Return, TypedFn, TypedUnit}
 use Rattle.worked_rows.specs.Trees.{uint, value, variable, function, unit_of}
 use Rattle.worked_rows.specs.Claims.{Case, call, bytes_from, zeros}

@@ -9,10 +9,10 @@ use Rattle.c_values.specs.Layout.{GlobalVar}
 use Rattle.c_values.specs.Choice.{Fill}
 use Rattle.c_memory.specs.Memory.{Tag, Memory}
 use Rattle.c_memory.specs.Heap.{Heap, OnBytes, OnTypes, read_heap}
-use Rattle.ac_expr.specs.Sort.{Level, Words, Numbers}
-use Rattle.ac_expr.specs.Signature.{Invocation}
-use Rattle.ac_expr.specs.GuardKind.{GuardKind}
-use Rattle.ac_expr.specs.Machine.{Returned}
+use Rattle.expression_lang.specs.Sort.{Level, Words, Numbers}
+use Rattle.expression_lang.specs.Signature.{Invocation}
+use Rattle.expression_lang.specs.GuardKind.{GuardKind}
+use Rattle.expression_lang.specs.Machine.{Returned}
 use Rattle.simpl_lang.specs.Exec.{simpl_runs}
 use Rattle.c_lang.specs.Typed.{TypedUnit}
 use Rattle.c_meaning.specs.CRun.{c_runs}

@@ -6,8 +6,8 @@ use Rattle.c_values.specs.Value as V
 use Rattle.c_values.specs.Layout.{StructDef}
 use Rattle.c_values.specs.Name.{with_name}
 use Rattle.c_memory.specs.Heap.{OnBytes}
-use Rattle.ac_expr.specs.Sort.{Level, Bytes}
-use Rattle.ac_expr.specs.Signature.{no_env}
+use Rattle.expression_lang.specs.Sort.{Level, Bytes}
+use Rattle.expression_lang.specs.Signature.{no_env}
 use Rattle.c_lang.specs.Typed.{Arithmetic, Divide, Direction, Relation, Expr, Constant, Local, Value, Convert, Negate, Compute, Shift, Compare, Move, Minus, Through, Member, Element, Here, MoveBy, Plus}
 use Rattle.c_meaning.specs.CValue.{Context}
 use Rattle.worked_rows.specs.Trees.{int, value}

@@ -4,11 +4,11 @@ use Rattle.std.specs.Prelude.{◌≡◌, List, [], ◌∷◌, Option, Some, None
 use Rattle.c_values.specs.Types.{Target}
 use Rattle.c_values.specs.Value.{Value}
 use Rattle.c_memory.specs.Heap.{OnBytes}
-use Rattle.ac_expr.specs.Sort.{Level}
-use Rattle.ac_expr.specs.Evaluation as E
-use Rattle.ac_expr.specs.Evaluation.{holds}
-use Rattle.ac_expr.specs.Signature.{no_env}
-use Rattle.ac_expr.specs.GuardKind.{GuardKind}
+use Rattle.expression_lang.specs.Sort.{Level}
+use Rattle.expression_lang.specs.Evaluation as E
+use Rattle.expression_lang.specs.Evaluation.{holds}
+use Rattle.expression_lang.specs.Signature.{no_env}
+use Rattle.expression_lang.specs.GuardKind.{GuardKind}
 use Rattle.simpl_lang.specs.Command.{Condition}
 use Rattle.c_lang.specs.Typed.{Expr}
 use Rattle.c_meaning.specs.CValue.{Context, value}

@@ -4,9 +4,9 @@ use Rattle.c_values.specs.Types.{CType, Ptr, Struct, Array, Integer, Int, UInt, 
 use Rattle.c_values.specs.Layout.{Layout, StructDef}
 use Rattle.c_values.specs.Word.{word, Wadd, Wsub, Wmul, Wand, Wor, Wxor, Wudiv, Wumod, Wsdiv, Wsmod, Wshl, Wushr, Wsshr, Wneg, Wnot, Wult, Wule, Wslt, Wsle}
 use Rattle.c_values.specs.Number as N
-use Rattle.ac_expr.specs.Expression.{Exp, Var, WordLit, WordBinary, WordShift, WordUnary, WordCompare, Cast, Zext, Sext, Trunc, ToNat, ToInt, Arith, Negate as Minus, Le, Between, Eq, And, Or, Imp, Not, If, Padd, At, Load, Tagged, PtrOk, Global, Here, IntoField, IntoElement}
-use Rattle.ac_expr.specs.Sort.{Level, Bytes, Words, Numbers}
-use Rattle.ac_expr.specs.GuardKind.{Div, Signed, Shift, Pointer, Bounds, Tag, Wrap}
+use Rattle.expression_lang.specs.Expression.{Exp, Var, WordLit, WordBinary, WordShift, WordUnary, WordCompare, Cast, Zext, Sext, Trunc, ToNat, ToInt, Arith, Negate as Minus, Le, Between, Eq, And, Or, Imp, Not, If, Padd, At, Load, Tagged, PtrOk, Global, Here, IntoField, IntoElement}
+use Rattle.expression_lang.specs.Sort.{Level, Bytes, Words, Numbers}
+use Rattle.expression_lang.specs.GuardKind.{Div, Signed, Shift, Pointer, Bounds, Tag, Wrap}
 use Rattle.simpl_lang.specs.Command.{Condition}
 use Rattle.c_lang.specs.Typed as C
 use Rattle.generation.specs.Guards.{when, exp, truth, guards}

@@ -2,9 +2,9 @@
 use Rattle.std.specs.Prelude.{◌≡◌, [], ◌∷◌, map, false, codes}
 use Rattle.c_values.specs.Word.{Wadd, Wneg, Wslt}
 use Rattle.c_values.specs.Number as N
-use Rattle.ac_expr.specs.Expression.{Exp, Var, TruthLit, WordBinary, WordUnary, WordCompare, ToInt, Arith, Negate, Eq, Padd, Load, Tagged, PtrOk, Here}
-use Rattle.ac_expr.specs.Sort.{Numbers}
-use Rattle.ac_expr.specs.GuardKind.{Signed, Pointer, Tag, Unreached}
+use Rattle.expression_lang.specs.Expression.{Exp, Var, TruthLit, WordBinary, WordUnary, WordCompare, ToInt, Arith, Negate, Eq, Padd, Load, Tagged, PtrOk, Here}
+use Rattle.expression_lang.specs.Sort.{Numbers}
+use Rattle.expression_lang.specs.GuardKind.{Signed, Pointer, Tag, Unreached}
 use Rattle.simpl_lang.specs.Command.{Simpl, Skip, Throw, Set, Pick, Seq, Cond, Guard, Catch, While}
 use Rattle.generation.specs.Guards.{when}
 use Rattle.generation.specs.Generate.{function_of}

@@ -2,8 +2,8 @@
 use Rattle.std.specs.Prelude.{List, [], ◌∷◌, Some, false, pos, codes}
 use Rattle.c_values.specs.Types.{Struct}
 use Rattle.c_values.specs.Word.{word}
-use Rattle.ac_expr.specs.Expression.{Exp, Var, WordLit, TruthLit, Not, Eq, Imp, PtrOk, Tagged}
-use Rattle.ac_expr.specs.GuardKind.{Pointer, Tag, Unreached}
+use Rattle.expression_lang.specs.Expression.{Exp, Var, WordLit, TruthLit, Not, Eq, Imp, PtrOk, Tagged}
+use Rattle.expression_lang.specs.GuardKind.{Pointer, Tag, Unreached}
 use Rattle.simpl_lang.specs.Command.{Condition, Simpl, Skip, Throw, Set, Seq, Guard, Catch}
 use Rattle.c_lang.specs.Typed.{Return, TypedFn}
 use Rattle.worked_rows.specs.Trees.{uint, unsigned_literal, function}

@@ -8,9 +8,9 @@ use Rattle.c_values.specs.Word.{Wadd}
 use Rattle.c_values.specs.Value.{Value, nothing}
 use Rattle.c_values.specs.Choice.{Fill}
 use Rattle.c_memory.specs.Heap.{OnTypes}
-use Rattle.ac_expr.specs.Expression.{Exp, Var, NumberLit, Arith, WordBinary, Between}
-use Rattle.ac_expr.specs.Sort.{Level, Words, Numbers, Kind, WordKind, NatKind}
-use Rattle.ac_expr.specs.Signature.{Binder}
+use Rattle.expression_lang.specs.Expression.{Exp, Var, NumberLit, Arith, WordBinary, Between}
+use Rattle.expression_lang.specs.Sort.{Level, Words, Numbers, Kind, WordKind, NatKind}
+use Rattle.expression_lang.specs.Signature.{Binder}
 use Rattle.monad_lang.specs.Program.{Mon, Ret, Bind, Guard, FinalUnit}
 use Rattle.monad_lang.specs.Run.{Answer, Failure, program_runs}
 

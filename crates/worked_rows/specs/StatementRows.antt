@@ -2,10 +2,10 @@
 use Rattle.std.specs.Prelude.{◌≡◌, ℕ, zero, suc, true, false, List, [], ◌∷◌, ◌++◌, Option, Some, None, pos, codes}
 use Rattle.c_values.specs.Types.{Ilp32, CType, Ptr, Struct, Integer, Int, UInt, UChar}
 use Rattle.c_values.specs.Word.{Wudiv}
-use Rattle.ac_expr.specs.Expression.{Exp, Var, TruthLit, WordBinary, Cast, Zext, Trunc, ToNat, Eq, Or, Imp, Not, Load, Here, IntoField, IntoElement}
-use Rattle.ac_expr.specs.Sort.{Level, Bytes, Words, Numbers, Kind, WordKind, NatKind, IntKind, BoolKind}
-use Rattle.ac_expr.specs.Signature.{Binder}
-use Rattle.ac_expr.specs.GuardKind.{Div, Unreached}
+use Rattle.expression_lang.specs.Expression.{Exp, Var, TruthLit, WordBinary, Cast, Zext, Trunc, ToNat, Eq, Or, Imp, Not, Load, Here, IntoField, IntoElement}
+use Rattle.expression_lang.specs.Sort.{Level, Bytes, Words, Numbers, Kind, WordKind, NatKind, IntKind, BoolKind}
+use Rattle.expression_lang.specs.Signature.{Binder}
+use Rattle.expression_lang.specs.GuardKind.{Div, Unreached}
 use Rattle.simpl_lang.specs.Command.{Condition, Simpl, Skip, Throw, Set, SetGlobal, Store, Pick, Seq, Cond, Guard, Catch, While, Call}
 use Rattle.simpl_lang.specs.Form as forms
 use Rattle.c_lang.specs.Typed as C

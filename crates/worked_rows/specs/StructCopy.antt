@@ -6,7 +6,7 @@ use Rattle.c_values.specs.Name.{Name, same_name}
 use Rattle.c_values.specs.Value.{Value as V, Parts, more, no_values}
 use Rattle.c_values.specs.Layout.{StructDef}
 use Rattle.c_memory.specs.Memory.{Memory}
-use Rattle.ac_expr.specs.Sort.{Level, Bytes, Numbers}
+use Rattle.expression_lang.specs.Sort.{Level, Bytes, Numbers}
 use Rattle.c_lang.specs.Typed.{Expr, Local, Value, Convert, Place, Through, Here, ToPlace, Assign, NoResult, Call, TypedUnit}
 use Rattle.worked_rows.specs.Trees.{uint, value, char_value, variable, function, unit_of}
 use Rattle.worked_rows.specs.Claims.{Case, call, bytes_from, zeros, tag}

@@ -2,7 +2,7 @@
 
 ghost use Rattle.std.specs.Prelude.{Some, None, pos, [], ◌∷◌, codes};
 ghost use Rattle.correspondence.specs.Outcome.{Turns, Depth};
-ghost use Rattle.ac_expr.specs.GuardKind.{Div, Signed, Shift, Pointer, Bounds, Tag, Wrap};
+ghost use Rattle.expression_lang.specs.GuardKind.{Div, Signed, Shift, Pointer, Bounds, Tag, Wrap};
 ghost use Rattle.c_meaning.specs.CRun.{plain};
 ghost use Rattle.worked_rows.specs.Trees.{uint, value, char_value, minus};
 ghost use Rattle.worked_rows.specs.Claims.{Returns, Leaves, Holds, Undefined, Stops, ReturnsInC, StopsInC, words, numbers};

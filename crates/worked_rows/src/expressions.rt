@@ -2,8 +2,8 @@
 
 ghost use Rattle.std.specs.Prelude.{pos};
 ghost use Rattle.c_values.specs.Types.{Ilp32, Lp64, Char, SChar, UChar, Short, UShort, Int, UInt, Long, ULong, LLong, ULLong};
-ghost use Rattle.ac_expr.specs.Sort.{Bytes, Words, Numbers};
-ghost use Rattle.ac_expr.specs.GuardKind.{Div, Signed, Shift, Pointer, Bounds, Tag, Wrap};
+ghost use Rattle.expression_lang.specs.Sort.{Bytes, Words, Numbers};
+ghost use Rattle.expression_lang.specs.GuardKind.{Div, Signed, Shift, Pointer, Bounds, Tag, Wrap};
 ghost use Rattle.c_lang.specs.Typed.{Add, Subtract, Multiply, Divide, Remainder, Left, Right, Less, GreaterEqual, Compute, Compare, And, Or, Choose};
 ghost use Rattle.worked_rows.specs.Trees.{int, value, minus};
 ghost use Rattle.worked_rows.specs.ExpressionClaims.{alone, Evaluates, IsUndefined};

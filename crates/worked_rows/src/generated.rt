@@ -1,7 +1,7 @@
 //! What is generated for small texts.
 
 ghost use Rattle.std.specs.Prelude.{◌≡◌, [], take, codes};
-ghost use Rattle.ac_expr.specs.Sort.{Bytes, Numbers};
+ghost use Rattle.expression_lang.specs.Sort.{Bytes, Numbers};
 ghost use Rattle.generation.specs.Guards.{guards};
 ghost use Rattle.generation.specs.Generate.{function_of};
 ghost use Rattle.worked_rows.specs.Trees.{layout};

@@ -2,7 +2,7 @@
 
 ghost use Rattle.std.specs.Prelude.{Some, None, pos};
 ghost use Rattle.correspondence.specs.Outcome.{Turns};
-ghost use Rattle.ac_expr.specs.GuardKind.{Unreached};
+ghost use Rattle.expression_lang.specs.GuardKind.{Unreached};
 ghost use Rattle.c_meaning.specs.CRun.{plain};
 ghost use Rattle.worked_rows.specs.Trees.{value};
 ghost use Rattle.worked_rows.specs.Claims.{Returns, Undefined, Stops};

@@ -1,7 +1,7 @@
 -- What is written so far, and then the rest of the path, is the path's text.
 use Rattle.std.proofs.Common.{◌≡◌, ◌≤◌, ◌++◌}
-use Rattle.ac_expr.specs.declared.paths.Path.{size-Path}
-use Rattle.ac_expr.specs.CodeExpression.{path_of}
+use Rattle.expression_lang.specs.declared.paths.Path.{size-Path}
+use Rattle.expression_lang.specs.CodeExpression.{path_of}
 use Rattle.ac_core.specs.ProgramText.{spaced, step_texts}
 use Rattle.ac_core.proofs.expression_text.+texts.Given as goal
 

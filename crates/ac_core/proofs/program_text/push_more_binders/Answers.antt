@@ -1,5 +1,5 @@
 use Rattle.std.proofs.Common.{◌++◌, sym, ap, ◌∙◌}
-use Rattle.ac_expr.specs.CodeSignature.{binder_of}
+use Rattle.expression_lang.specs.CodeSignature.{binder_of}
 use Rattle.ac_core.specs.ProgramText.{binder_text}
 use Rattle.ac_core.proofs.Spaced.{spaced_more_seen, written_more}
 use Rattle.ac_core.proofs.program_text.push_more_binders.Goals as goal

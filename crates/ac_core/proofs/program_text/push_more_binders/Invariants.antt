@@ -1,5 +1,5 @@
 use Rattle.std.proofs.Common.{◌≡◌, ◌++◌, map, take}
-use Rattle.ac_expr.specs.CodeSignature.{binder_of}
+use Rattle.expression_lang.specs.CodeSignature.{binder_of}
 use Rattle.ac_core.specs.ProgramText.{spaced, binder_text}
 use Rattle.ac_core.proofs.program_text.push_more_binders.Given as goal
 

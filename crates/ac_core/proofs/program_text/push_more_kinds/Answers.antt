@@ -1,6 +1,6 @@
 use Rattle.std.proofs.Common.{◌++◌, sym, ap, ◌∙◌}
-use Rattle.ac_expr.specs.CodeExpression.{kind_of}
-use Rattle.ac_expr.specs.declared.sort.Kind.TheVariants as K
+use Rattle.expression_lang.specs.CodeExpression.{kind_of}
+use Rattle.expression_lang.specs.declared.sort.Kind.TheVariants as K
 use Rattle.ac_core.specs.ProgramText.{kind_text}
 use Rattle.ac_core.proofs.Spaced.{spaced_next_seen, written_more}
 use Rattle.ac_core.proofs.program_text.push_more_kinds.Goals as goal

@@ -1,5 +1,5 @@
 use Rattle.std.proofs.Common.{◌≡◌, ◌++◌, map, take}
-use Rattle.ac_expr.specs.CodeExpression.{kind_of}
+use Rattle.expression_lang.specs.CodeExpression.{kind_of}
 use Rattle.ac_core.specs.ProgramText.{spaced, kind_text}
 use Rattle.ac_core.proofs.program_text.push_more_kinds.Given as goal
 

@@ -1,5 +1,5 @@
 use Rattle.std.proofs.Common.{◌≡◌, ◌++◌, map, take}
-use Rattle.ac_expr.specs.CodeExpression.{exp_of}
+use Rattle.expression_lang.specs.CodeExpression.{exp_of}
 use Rattle.ac_core.specs.ProgramText.{spaced, exp_text}
 use Rattle.ac_core.proofs.program_text.push_values.Given as goal
 

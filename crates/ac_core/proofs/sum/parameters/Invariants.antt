@@ -1,6 +1,6 @@
 use Rattle.std.proofs.Common.{◌≡◌, map, take}
 use Rattle.std.specs.Prelude.{string_bytes}
-use Rattle.ac_expr.specs.CodeSignature.{binder_of}
+use Rattle.expression_lang.specs.CodeSignature.{binder_of}
 use Rattle.ac_core.specs.Sum.{parameter}
 use Rattle.ac_core.proofs.sum.parameters.Given as goal
 

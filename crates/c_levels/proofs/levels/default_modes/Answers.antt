@@ -4,7 +4,7 @@ use Rattle.std.specs.Prelude.{string_bytes}
 use Rattle.std.specs.HashMap.{get_by_text}
 use Rattle.std.specs.HashSet.{contains_text}
 use Rattle.std.proofs.lemmas.Result.{IfOk-weaker}
-use Rattle.ac_expr.specs.CodeExpression.{level_of}
+use Rattle.expression_lang.specs.CodeExpression.{level_of}
 use Rattle.c_lang.specs.CodeTyped.{function_of}
 use Rattle.c_lang.specs.declared.tree.TypedFn as F
 use Rattle.c_levels.specs.CodeSpread.{listed, leads_by, IsSpread}

@@ -2,7 +2,7 @@
 use Rattle.std.proofs.Common.{◌≡◌, ◌++◌, map, length}
 use Rattle.std.specs.HashSet.{contains_text}
 use Rattle.c_lang.specs.CodeTyped.{function_of}
-use Rattle.ac_expr.specs.CodeExpression.{level_of}
+use Rattle.expression_lang.specs.CodeExpression.{level_of}
 use Rattle.c_levels.specs.CodeModes.{default_levels}
 use Rattle.c_levels.proofs.levels.levels.Given as goal
 

@@ -1,7 +1,7 @@
 -- It is looked for among the functions that are left.
 use Rattle.std.proofs.Common.{◌≡◌, ◌+◌, map, length}
 use Rattle.c_lang.specs.CodeTyped.{function_of}
-use Rattle.ac_expr.specs.CodeExpression.{level_of}
+use Rattle.expression_lang.specs.CodeExpression.{level_of}
 use Rattle.c_levels.specs.CodeReason.{position_from}
 use Rattle.c_levels.proofs.reasons.position.Given as goal
 

@@ -1,4 +1,4 @@
-use Rattle.ac_expr.specs.GuardKind.{Tag, Wrap}
+use Rattle.expression_lang.specs.GuardKind.{Tag, Wrap}
 use Rattle.c_meaning.specs.CValue.{value}
 use Rattle.c_meaning.proofs.WatchedValue.{plainly, value_watched, keeps_value}
 use Rattle.c_meaning.proofs.WatchedRun.{watched_same}

@@ -1,7 +1,7 @@
 -- The rows so far.
 use Rattle.std.proofs.Common.{◌≡◌, Bool, List}
 use Rattle.c_values.specs.Name.{Name}
-use Rattle.ac_expr.specs.declared.signatures.Binder as B
+use Rattle.expression_lang.specs.declared.signatures.Binder as B
 use Rattle.local_lift.specs.CodeRows.{marks, Moves, adding}
 use Rattle.local_lift.proofs.changes.all_added.Given as goal
 

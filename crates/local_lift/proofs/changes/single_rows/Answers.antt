@@ -1,5 +1,5 @@
 use Rattle.std.proofs.Common.{rules, ◌≡◌, ◌++◌, ◌∷◌, [], List, subst, sym}
-use Rattle.ac_expr.specs.declared.signatures.Binder as B
+use Rattle.expression_lang.specs.declared.signatures.Binder as B
 use Rattle.c_values.specs.Name.{same_name}
 use Rattle.local_lift.specs.declared.rows.Row.{Row}
 use Rattle.local_lift.specs.Live.{none}

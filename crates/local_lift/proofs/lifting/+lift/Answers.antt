@@ -2,8 +2,8 @@
 use Rattle.std.proofs.Common.{rules, ◌≡◌, suc, ◌*◌, ◌<◌, ◌++◌, ◌∷◌, [], List, map, string_bytes, arith, sym, subst, ap, ◌∙◌, IfOk}
 use Rattle.std.specs.Option.{option_map}
 use Rattle.c_values.specs.Name.{Name}
-use Rattle.ac_expr.specs.CodeExpression.{exp_of}
-use Rattle.ac_expr.specs.CodeSignature.{binder_of}
+use Rattle.expression_lang.specs.CodeExpression.{exp_of}
+use Rattle.expression_lang.specs.CodeSignature.{binder_of}
 use Rattle.simpl_lang.specs.declared.command.Simpl as S
 use Rattle.simpl_lang.specs.declared.command.Simpl.{size-Simpl}
 use Rattle.simpl_lang.specs.Command as plain

@@ -1,7 +1,7 @@
 -- What is lifted so far is what is done lifted, with the row before it, and the fronts that are left, around what is done, are the
 -- whole.
 use Rattle.std.proofs.Common.{◌≡◌, suc, ◌*◌, vec_len, map, string_bytes}
-use Rattle.ac_expr.specs.CodeSignature.{binder_of}
+use Rattle.expression_lang.specs.CodeSignature.{binder_of}
 use Rattle.simpl_lang.specs.Command.{Simpl}
 use Rattle.simpl_lang.specs.declared.command.Simpl.{size-Simpl}
 use Rattle.simpl_lang.specs.CodeCommand.{simpl_of}

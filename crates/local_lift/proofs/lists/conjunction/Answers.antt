@@ -1,5 +1,5 @@
 use Rattle.std.proofs.Common.{rules, ◌≡◌, ◌++◌, ◌∷◌, [], ◌∙◌}
-use Rattle.ac_expr.specs.CodeExpression.{exp_of}
+use Rattle.expression_lang.specs.CodeExpression.{exp_of}
 use Rattle.simpl_lang.specs.CodeCommand.{condition_of}
 use Rattle.local_lift.proofs.ListLaws.{conj_of_last, before_of_last}
 use Rattle.local_lift.proofs.lists.conjunction.Goals as goal

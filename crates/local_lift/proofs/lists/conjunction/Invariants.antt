@@ -1,6 +1,6 @@
 -- What is made so far, and the conditions that are left before it, are all.
 use Rattle.std.proofs.Common.{◌≡◌, length, map}
-use Rattle.ac_expr.specs.CodeExpression.{exp_of}
+use Rattle.expression_lang.specs.CodeExpression.{exp_of}
 use Rattle.simpl_lang.specs.CodeCommand.{condition_of}
 use Rattle.rule_local.specs.Table.{conj}
 use Rattle.local_lift.specs.CodeLists.{conj_before}

@@ -1,6 +1,6 @@
 -- None so far has the name.
 use Rattle.std.proofs.Common.{◌≡◌, map, length}
-use Rattle.ac_expr.specs.CodeSignature.{binder_of}
+use Rattle.expression_lang.specs.CodeSignature.{binder_of}
 use Rattle.simpl_lang.specs.Command.{kind_of}
 use Rattle.local_lift.proofs.lists.kind_held.Given as goal
 

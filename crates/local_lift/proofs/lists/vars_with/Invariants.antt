@@ -1,6 +1,6 @@
 -- What is made so far, and what is left, are all.
 use Rattle.std.proofs.Common.{◌≡◌, ◌++◌, length, map, string_bytes}
-use Rattle.ac_expr.specs.CodeExpression.{exp_of}
+use Rattle.expression_lang.specs.CodeExpression.{exp_of}
 use Rattle.rule_local.specs.Table.{vars_with}
 use Rattle.local_lift.proofs.lists.vars_with.Given as goal
 

@@ -3,7 +3,7 @@ use Rattle.std.proofs.Common.{rules, ◌≡◌, suc, ◌*◌, ◌<◌, ◌≤◌
 use Rattle.std.specs.Option.{option_map}
 use Rattle.c_values.specs.Name.{same_name}
 use Rattle.c_values.specs.CodeTypes.{type_of}
-use Rattle.ac_expr.specs.CodeExpression.{exp_of, path_of}
+use Rattle.expression_lang.specs.CodeExpression.{exp_of, path_of}
 use Rattle.simpl_lang.specs.declared.command.Simpl.{size-Simpl}
 use Rattle.simpl_lang.specs.Command as plain
 use Rattle.simpl_lang.specs.CodeCommand.{condition_of, simpl_of}

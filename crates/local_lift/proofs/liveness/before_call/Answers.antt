@@ -1,6 +1,6 @@
 use Rattle.std.proofs.Common.{map, string_bytes}
 use Rattle.std.specs.Option.{option_map}
-use Rattle.ac_expr.specs.CodeExpression.{exp_of}
+use Rattle.expression_lang.specs.CodeExpression.{exp_of}
 use Rattle.monad_lang.specs.Names.{is_in_some}
 use Rattle.local_lift.specs.CodeRows.{adding, without_target}
 use Rattle.local_lift.proofs.RowLaws.{moves_then}

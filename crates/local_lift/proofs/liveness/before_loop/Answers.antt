@@ -1,7 +1,7 @@
 use Rattle.std.proofs.Common.{rules, ◌≡◌, Bool, ◌||◌, List, [], ◌∷◌, ◌++◌, map, subst, ap₂, ◌∙◌}
 use Rattle.c_values.specs.Name.{Name, same_name}
-use Rattle.ac_expr.specs.CodeExpression.{exp_of}
-use Rattle.ac_expr.specs.Facts as facts
+use Rattle.expression_lang.specs.CodeExpression.{exp_of}
+use Rattle.expression_lang.specs.Mentions as mentions
 use Rattle.simpl_lang.specs.Command.{Simpl}
 use Rattle.simpl_lang.specs.CodeCommand.{condition_of}
 use Rattle.rule_local.specs.Table.{conj}
@@ -16,7 +16,7 @@ use Rattle.local_lift.proofs.liveness.before_loop.Goals as goal
 pub returns : goal.returns
 returns c =
     let xs = names c.args.locals.now in
-    let tests : Name → Bool = λ z. facts.names z (conj (map condition_of c.args.conditions.now)) || facts.names z (exp_of c.args.test.now) in
+    let tests : Name → Bool = λ z. mentions.names z (conj (map condition_of c.args.conditions.now)) || mentions.names z (exp_of c.args.test.now) in
     let apart : c.args.turns.items ≡ c.pop.new.self.items ++ c.in-Some.of_none ∷ [] = search rules in
     λ a h. let leads : Name → Name → Bool = λ z. live xs a (same_name z) in
     let q = matrix_apart c.args.locals.now leads (live xs a none) c.args.locals.now c.pop.new.self.items c.in-Some.of_none (subst (λ (rs : List Row). MatrixAnd c.args.locals.now leads (live xs a none) c.args.locals.now rs) apart h) in

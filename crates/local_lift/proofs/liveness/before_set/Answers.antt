@@ -1,5 +1,5 @@
-use Rattle.ac_expr.specs.CodeExpression.{exp_of}
-use Rattle.ac_expr.specs.Facts.{names}
+use Rattle.expression_lang.specs.CodeExpression.{exp_of}
+use Rattle.expression_lang.specs.Mentions.{names}
 use Rattle.local_lift.proofs.liveness.before_set.Goals as goal
 
 pub returns : goal.returns

@@ -1,6 +1,6 @@
 use Rattle.std.proofs.Common.{◌||◌}
-use Rattle.ac_expr.specs.CodeExpression.{exp_of, path_of}
-use Rattle.ac_expr.specs.Facts.{names}
+use Rattle.expression_lang.specs.CodeExpression.{exp_of, path_of}
+use Rattle.expression_lang.specs.Mentions.{names}
 use Rattle.simpl_lang.specs.Names.{path_names}
 use Rattle.local_lift.proofs.liveness.before_write.Goals as goal
 

@@ -1,8 +1,8 @@
 -- None so far has the name.
 use Rattle.std.proofs.Common.{◌≡◌, map, drop}
 use Rattle.c_values.specs.Name.{is_among}
-use Rattle.ac_expr.specs.CodeSignature.{binder_of}
-use Rattle.ac_expr.specs.Signature.{names_of}
+use Rattle.expression_lang.specs.CodeSignature.{binder_of}
+use Rattle.expression_lang.specs.Signature.{names_of}
 use Rattle.local_lift.proofs.translation.is_bound.Given as goal
 
 abbrev pub invariant-binders : goal.invariant-binders

@@ -2,9 +2,9 @@
 use Rattle.std.proofs.Common.{rules, ◌≡◌, ◌==◌, true, false, [], List, length, map, string_bytes, eq-eqb, eqb-true, sym, ap, ◌∙◌}
 use Rattle.std.proofs.lemmas.Bool.{false≢true}
 use Rattle.c_values.specs.Name.{Name}
-use Rattle.ac_expr.specs.CodeExpression.{exp_of}
-use Rattle.ac_expr.specs.CodeSignature.{binder_of}
-use Rattle.ac_expr.specs.Signature.{names_of}
+use Rattle.expression_lang.specs.CodeExpression.{exp_of}
+use Rattle.expression_lang.specs.CodeSignature.{binder_of}
+use Rattle.expression_lang.specs.Signature.{names_of}
 use Rattle.simpl_lang.specs.CodeCommand.{simpl_of}
 use Rattle.rule_local.specs.CodeRule.{context_of}
 use Rattle.rule_local.specs.Table.{zeros}

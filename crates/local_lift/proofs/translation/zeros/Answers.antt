@@ -1,6 +1,6 @@
 use Rattle.std.proofs.Common.{rules, ◌≡◌, ◌++◌, ◌∷◌, [], List, map, string_bytes, subst, ap, ◌∙◌}
-use Rattle.ac_expr.specs.CodeExpression.{exp_of}
-use Rattle.ac_expr.specs.CodeSignature.{binder_of}
+use Rattle.expression_lang.specs.CodeExpression.{exp_of}
+use Rattle.expression_lang.specs.CodeSignature.{binder_of}
 use Rattle.simpl_lang.specs.Command.{kind_of}
 use Rattle.local_lift.proofs.ListLaws.{mapped_push, no_length}
 use Rattle.local_lift.proofs.ZeroLaws.{ZerosSo, zeros_all, zeros_more}

@@ -1,10 +1,10 @@
 -- What is made so far, before the zeros that are left, is all.
 use Rattle.std.proofs.Common.{◌≡◌, true, List, Some, length, map, string_bytes}
-use Rattle.ac_expr.specs.Expression.{Exp}
-use Rattle.ac_expr.specs.CodeExpression.{exp_of}
-use Rattle.ac_expr.specs.CodeSignature.{binder_of}
-use Rattle.ac_expr.specs.Signature.{kinds_of}
-use Rattle.ac_expr.specs.Sort.{are_kinds}
+use Rattle.expression_lang.specs.Expression.{Exp}
+use Rattle.expression_lang.specs.CodeExpression.{exp_of}
+use Rattle.expression_lang.specs.CodeSignature.{binder_of}
+use Rattle.expression_lang.specs.Signature.{kinds_of}
+use Rattle.expression_lang.specs.Sort.{are_kinds}
 use Rattle.rule_local.specs.Table.{zeros}
 use Rattle.local_lift.proofs.ZeroLaws.{ZerosSo}
 use Rattle.local_lift.proofs.translation.zeros.Given as goal

@@ -1,6 +1,6 @@
 -- What is left passes where the whole does.
 use Rattle.std.proofs.Common.{◌≡◌, map, length}
-use Rattle.ac_expr.specs.CodeExpression.{exp_of}
+use Rattle.expression_lang.specs.CodeExpression.{exp_of}
 use Rattle.monad_lang.specs.Form.{some_has}
 use Rattle.monad_lang.proofs.forms.some_pass.Given as goal
 

@@ -1,5 +1,5 @@
 use Rattle.std.proofs.Common.{map, string_bytes}
-use Rattle.ac_expr.specs.CodeExpression.{exp_of}
+use Rattle.expression_lang.specs.CodeExpression.{exp_of}
 use Rattle.simpl_lang.specs.CodeCommand.{simpl_of}
 use Rattle.monad_lang.specs.CodeProgram.{mon_of}
 use Rattle.rule_local.specs.Table.{is_needed}

@@ -1,6 +1,6 @@
 -- What is left is the names that are left where all are.
 use Rattle.std.proofs.Common.{◌≡◌, ◌↔◌, map, length, string_bytes}
-use Rattle.ac_expr.specs.CodeExpression.{exp_of}
+use Rattle.expression_lang.specs.CodeExpression.{exp_of}
 use Rattle.rule_local.specs.Table.{vars}
 use Rattle.rule_local.proofs.expressions.are_vars.Given as goal
 

@@ -1,7 +1,7 @@
 -- What is left is the zeros of the locals that are left where all are.
 use Rattle.std.proofs.Common.{◌≡◌, ◌↔◌, map, length, string_bytes, Some}
-use Rattle.ac_expr.specs.CodeExpression.{exp_of}
-use Rattle.ac_expr.specs.CodeSignature.{binder_of}
+use Rattle.expression_lang.specs.CodeExpression.{exp_of}
+use Rattle.expression_lang.specs.CodeSignature.{binder_of}
 use Rattle.rule_local.specs.Table.{zeros}
 use Rattle.rule_local.proofs.expressions.are_zeros.Given as goal
 

@@ -1,6 +1,6 @@
 -- What is left is the conditions that are left as one where the whole is all of them.
 use Rattle.std.proofs.Common.{◌≡◌, ◌↔◌, map, length}
-use Rattle.ac_expr.specs.CodeExpression.{exp_of}
+use Rattle.expression_lang.specs.CodeExpression.{exp_of}
 use Rattle.simpl_lang.specs.CodeCommand.{condition_of}
 use Rattle.rule_local.specs.Table.{conj}
 use Rattle.rule_local.proofs.expressions.is_conjunction.Given as goal

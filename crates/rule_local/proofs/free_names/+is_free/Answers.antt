@@ -2,9 +2,9 @@
 -- body has it.
 use Rattle.std.proofs.Common.{rules, subst, arith, ◌<◌, ◌≡◌, Bool, true, false, not, ◌&&◌, ◌||◌, map, refl, sym, ap, ◌∙◌}
 use Rattle.c_values.specs.Name.{is_among}
-use Rattle.ac_expr.specs.CodeExpression.{exp_of}
-use Rattle.ac_expr.specs.Facts.{names}
-use Rattle.ac_expr.specs.declared.expression.Exp as E
+use Rattle.expression_lang.specs.CodeExpression.{exp_of}
+use Rattle.expression_lang.specs.Mentions.{names}
+use Rattle.expression_lang.specs.declared.expression.Exp as E
 use Rattle.monad_lang.specs.declared.program.Mon as M
 use Rattle.monad_lang.specs.declared.program.Mon.{size-Mon}
 use Rattle.monad_lang.specs.declared.program.Mon.TheBlock.{the_depth}

@@ -1,6 +1,6 @@
 -- What is left has the name where all have.
 use Rattle.std.proofs.Common.{◌≡◌, map, length}
-use Rattle.ac_expr.specs.CodeExpression.{exp_of}
+use Rattle.expression_lang.specs.CodeExpression.{exp_of}
 use Rattle.monad_lang.specs.Names.{is_in_some}
 use Rattle.rule_local.proofs.free_names.is_in_some.Given as goal
 

@@ -1,7 +1,7 @@
 -- What is left is unbound where all are.
 use Rattle.std.proofs.Common.{◌↔◌, map, length, string_bytes}
-use Rattle.ac_expr.specs.CodeSignature.{binder_of}
-use Rattle.ac_expr.specs.Signature.{names_of}
+use Rattle.expression_lang.specs.CodeSignature.{binder_of}
+use Rattle.expression_lang.specs.Signature.{names_of}
 use Rattle.rule_local.specs.Table.{AreNone}
 use Rattle.rule_local.proofs.name_lists.are_unbound.Given as goal
 

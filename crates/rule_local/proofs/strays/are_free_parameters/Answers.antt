@@ -1,6 +1,6 @@
 use Rattle.std.proofs.Common.{map}
-use Rattle.ac_expr.specs.CodeSignature.{binder_of}
-use Rattle.ac_expr.specs.Signature.{names_of}
+use Rattle.expression_lang.specs.CodeSignature.{binder_of}
+use Rattle.expression_lang.specs.Signature.{names_of}
 use Rattle.monad_lang.specs.CodeProgram.{mon_of}
 use Rattle.rule_local.proofs.NoStrays.{no_strays}
 use Rattle.rule_local.proofs.strays.are_free_parameters.Goals as goal

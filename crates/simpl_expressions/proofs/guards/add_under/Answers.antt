@@ -1,8 +1,8 @@
 -- One condition more under the premise.
 use Rattle.std.proofs.Common.{map, ap, ◌∙◌}
 use Rattle.c_lang.specs.CodeTyped.{expr_of}
-use Rattle.ac_expr.specs.Expression.{Imp}
-use Rattle.ac_expr.specs.CodeExpression.{exp_of}
+use Rattle.expression_lang.specs.Expression.{Imp}
+use Rattle.expression_lang.specs.CodeExpression.{exp_of}
 use Rattle.simpl_lang.specs.CodeCommand.{condition_of, guard_kind_of}
 use Rattle.generation.specs.Guards.{when}
 use Rattle.simpl_expressions.specs.CodeTests.{where_is}

@@ -1,7 +1,7 @@
 -- The guards so far, and then those of the arguments that are left.
 use Rattle.std.proofs.Common.{◌≡◌, ◌++◌, map, length}
 use Rattle.c_lang.specs.CodeTyped.{expr_of}
-use Rattle.ac_expr.specs.CodeExpression.{level_of}
+use Rattle.expression_lang.specs.CodeExpression.{level_of}
 use Rattle.simpl_lang.specs.CodeCommand.{condition_of}
 use Rattle.generation.specs.Guards.{argument_guards}
 use Rattle.simpl_gen.proofs.calls.add_argument_guards.Given as goal

@@ -1,7 +1,7 @@
 -- The values so far, and then those of the arguments that are left.
 use Rattle.std.proofs.Common.{◌≡◌, ◌++◌, map, length}
 use Rattle.c_lang.specs.CodeTyped.{expr_of}
-use Rattle.ac_expr.specs.CodeExpression.{exp_of}
+use Rattle.expression_lang.specs.CodeExpression.{exp_of}
 use Rattle.generation.specs.Guards.{exps}
 use Rattle.simpl_gen.proofs.calls.values.Given as goal
 

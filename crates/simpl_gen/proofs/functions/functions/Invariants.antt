@@ -1,7 +1,7 @@
 -- What was generated, and then the functions that are left, are all of them.
 use Rattle.std.proofs.Common.{◌≡◌, ◌++◌, map, length}
 use Rattle.c_lang.specs.CodeTyped.{function_of}
-use Rattle.ac_expr.specs.CodeExpression.{level_of}
+use Rattle.expression_lang.specs.CodeExpression.{level_of}
 use Rattle.simpl_lang.specs.CodeCommand.{simpl_fn_of}
 use Rattle.generation.specs.Generate as rules
 use Rattle.simpl_gen.specs.CodeAtLevels.{at_levels}

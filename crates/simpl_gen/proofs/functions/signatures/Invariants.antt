@@ -1,8 +1,8 @@
 -- What was generated, and then the functions that are left, are all of them.
 use Rattle.std.proofs.Common.{◌≡◌, ◌++◌, map, length}
 use Rattle.c_lang.specs.CodeTyped.{function_of}
-use Rattle.ac_expr.specs.CodeExpression.{level_of}
-use Rattle.ac_expr.specs.CodeSignature.{signature_of}
+use Rattle.expression_lang.specs.CodeExpression.{level_of}
+use Rattle.expression_lang.specs.CodeSignature.{signature_of}
 use Rattle.generation.specs.Generate as rules
 use Rattle.simpl_gen.specs.CodeAtLevels.{at_levels}
 use Rattle.simpl_gen.proofs.functions.signatures.Given as goal

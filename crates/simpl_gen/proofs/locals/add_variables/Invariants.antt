@@ -2,8 +2,8 @@
 use Rattle.std.proofs.Common.{◌≡◌, ◌++◌, map, length}
 use Rattle.c_values.specs.CodeTypes.{target_of}
 use Rattle.c_lang.specs.CodeTyped.{variable_of}
-use Rattle.ac_expr.specs.CodeExpression.{level_of}
-use Rattle.ac_expr.specs.CodeSignature.{binder_of}
+use Rattle.expression_lang.specs.CodeExpression.{level_of}
+use Rattle.expression_lang.specs.CodeSignature.{binder_of}
 use Rattle.c_meaning.specs.Kinds.{variables}
 use Rattle.simpl_gen.proofs.locals.add_variables.Given as goal
 

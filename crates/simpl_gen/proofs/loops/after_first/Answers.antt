@@ -1,7 +1,7 @@
 -- One condition more for later turns.
 use Rattle.std.proofs.Common.{ap, ◌∙◌}
-use Rattle.ac_expr.specs.Expression.{Imp, Not, Var}
-use Rattle.ac_expr.specs.CodeExpression.{exp_of}
+use Rattle.expression_lang.specs.Expression.{Imp, Not, Var}
+use Rattle.expression_lang.specs.CodeExpression.{exp_of}
 use Rattle.simpl_lang.specs.CodeCommand.{guard_kind_of}
 use Rattle.generation.specs.Guards.{when}
 use Rattle.simpl_expressions.proofs.Premises.{put_later}

@@ -1,7 +1,7 @@
 -- The labels from here on are tested.
 use Rattle.std.proofs.Common.{◌≡◌, ◌<◌, drop, length}
 use Rattle.c_values.specs.CodeTypes.{target_of, int_type_of}
-use Rattle.ac_expr.specs.CodeExpression.{exp_of}
+use Rattle.expression_lang.specs.CodeExpression.{exp_of}
 use Rattle.generation.specs.Generate.{is_one_of}
 use Rattle.simpl_gen.proofs.switches.is_one_of.Given as goal
 

@@ -1,9 +1,9 @@
 -- What is left of the arguments fits what is left of the parameters if all do.
 use Rattle.std.proofs.Common.{◌≡◌, map, length}
-use Rattle.ac_expr.specs.Signature.{kinds_of}
-use Rattle.ac_expr.specs.Sorted.{scalars_of}
-use Rattle.ac_expr.specs.CodeExpression.{exp_of}
-use Rattle.ac_expr.specs.CodeSignature.{binder_of}
+use Rattle.expression_lang.specs.Signature.{kinds_of}
+use Rattle.expression_lang.specs.Sorted.{scalars_of}
+use Rattle.expression_lang.specs.CodeExpression.{exp_of}
+use Rattle.expression_lang.specs.CodeSignature.{binder_of}
 use Rattle.simpl_lang.specs.CodeForms.{scope_in, may_take}
 use Rattle.simpl_lang.proofs.calls.may_take.Given as goal
 

@@ -1,7 +1,7 @@
 -- None so far has the name.
 use Rattle.std.proofs.Common.{◌≡◌, map, drop}
-use Rattle.ac_expr.specs.Signature.{signature}
-use Rattle.ac_expr.specs.CodeSignature.{signature_of}
+use Rattle.expression_lang.specs.Signature.{signature}
+use Rattle.expression_lang.specs.CodeSignature.{signature_of}
 use Rattle.simpl_lang.proofs.calls.signature.Given as goal
 
 abbrev pub invariant-signatures : goal.invariant-signatures

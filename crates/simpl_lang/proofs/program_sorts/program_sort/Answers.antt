@@ -1,9 +1,9 @@
 -- The sort is one of an expression.
 use Rattle.std.proofs.Common.{ap, ◌∙◌}
 use Rattle.std.specs.Option.{option_map}
-use Rattle.ac_expr.specs.Sort.{sort_of}
-use Rattle.ac_expr.specs.CodeExpression.{exp_of}
-use Rattle.ac_expr.specs.CodeSort.{sort_value, scope_of}
+use Rattle.expression_lang.specs.Sort.{sort_of}
+use Rattle.expression_lang.specs.CodeExpression.{exp_of}
+use Rattle.expression_lang.specs.CodeSort.{sort_value, scope_of}
 use Rattle.simpl_lang.specs.CodeForms.{scope_in}
 use Rattle.simpl_lang.proofs.WholeParts.{sort_whole}
 use Rattle.simpl_lang.proofs.program_sorts.program_sort.Goals as goal

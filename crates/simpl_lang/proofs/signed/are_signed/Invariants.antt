@@ -1,6 +1,6 @@
 -- What is left of the functions has what is left of the signatures if all have.
 use Rattle.std.proofs.Common.{◌≡◌, map, length}
-use Rattle.ac_expr.specs.CodeSignature.{signature_of}
+use Rattle.expression_lang.specs.CodeSignature.{signature_of}
 use Rattle.simpl_lang.specs.Sorted.{are_signed}
 use Rattle.simpl_lang.specs.CodeCommand.{simpl_fn_of}
 use Rattle.simpl_lang.proofs.signed.are_signed.Given as goal

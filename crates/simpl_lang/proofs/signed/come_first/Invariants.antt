@@ -1,6 +1,6 @@
 -- What is left of the parameters comes first in what is left of the locals if all do.
 use Rattle.std.proofs.Common.{◌≡◌, map, length}
-use Rattle.ac_expr.specs.CodeSignature.{binder_of}
+use Rattle.expression_lang.specs.CodeSignature.{binder_of}
 use Rattle.simpl_lang.specs.Sorted.{come_first}
 use Rattle.simpl_lang.proofs.signed.come_first.Given as goal
 

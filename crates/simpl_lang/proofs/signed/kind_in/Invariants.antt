@@ -1,6 +1,6 @@
 -- None so far has the name.
 use Rattle.std.proofs.Common.{◌≡◌, map, drop}
-use Rattle.ac_expr.specs.CodeSignature.{binder_of}
+use Rattle.expression_lang.specs.CodeSignature.{binder_of}
 use Rattle.simpl_lang.specs.Command.{kind_of}
 use Rattle.simpl_lang.proofs.signed.kind_in.Given as goal
 

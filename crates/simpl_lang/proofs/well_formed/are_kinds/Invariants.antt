@@ -1,8 +1,8 @@
 -- Those so far are of kinds that are.
 use Rattle.std.proofs.Common.{◌≡◌, map, drop}
-use Rattle.ac_expr.specs.Sort.{are_kinds}
-use Rattle.ac_expr.specs.Signature.{kinds_of}
-use Rattle.ac_expr.specs.CodeSignature.{binder_of}
+use Rattle.expression_lang.specs.Sort.{are_kinds}
+use Rattle.expression_lang.specs.Signature.{kinds_of}
+use Rattle.expression_lang.specs.CodeSignature.{binder_of}
 use Rattle.simpl_lang.proofs.well_formed.are_kinds.Given as goal
 
 abbrev pub invariant-locals : goal.invariant-locals

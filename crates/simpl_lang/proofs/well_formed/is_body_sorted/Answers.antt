@@ -1,6 +1,6 @@
 -- At first no name is in scope, and then the locals are.
 use Rattle.std.proofs.Common.{ap, ◌∙◌}
-use Rattle.ac_expr.specs.CodeSort as C
+use Rattle.expression_lang.specs.CodeSort as C
 use Rattle.simpl_lang.specs.CodeCommand.{simpl_of}
 use Rattle.simpl_lang.specs.CodeForms.{signatures_in}
 use Rattle.simpl_lang.proofs.LocalNames.{locals_in_scope}

@@ -1,6 +1,0 @@
--- What is copied so far.
-use Rattle.std.proofs.Common.{◌≡◌, map, take, string_bytes}
-use Rattle.ac_expr.proofs.lists.copy_names.Given as goal
-
-abbrev pub invariant-loop-name : goal.invariant-loop-name
-invariant-loop-name l = map string_bytes l.copies.items ≡ map string_bytes (take l.name-index l.names)
