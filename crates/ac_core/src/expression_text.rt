@@ -10,8 +10,8 @@ ghost use Rattle.ac_core.specs.CodeHeads.{IsTest, IsPlace};
 ghost use Rattle.expression_lang.specs.CodeExpression.{cast_op_of, exp_of, path_of};
 ghost use Rattle.ac_core.specs.ProgramText.{form, row, spaced, number_text, truth_text, int_type_text, type_text, word_op_text, shift_text, unary_text, test_text, cast_text, arith_text, exp_text, step_texts};
 
-use expression_lang::{CastOp, Exp, Path};
 use c_values::{CType, IntType, Number, NumberOp, ShiftOp, UnaryOp, Word, WordOp, WordTest};
+use expression_lang::{CastOp, Exp, Path};
 use itoa::Buffer;
 use std::alloc::AllocError;
 

@@ -8,9 +8,9 @@ ghost use Rattle.monad_lang.specs.CodeProgram.{mon_of, final_fn_of, final_unit_o
 ghost use Rattle.ac_core.specs.Sum as sums;
 ghost use Rattle.ac_core.specs.CodeSum.{sum_of, function_of};
 
-use expression_lang::{Binder, Exp, Kind, Level};
 use c_values::views::word;
 use c_values::{Layout, Number, NumberOp, nat};
+use expression_lang::{Binder, Exp, Kind, Level};
 use monad_lang::{FinalFn, FinalUnit, Mon};
 use std::alloc::{AllocError, Global};
 

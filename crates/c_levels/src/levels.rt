@@ -15,8 +15,8 @@ use crate::called::{callers, calls};
 use crate::casts::casts;
 use crate::modes::Modes;
 use crate::spreading::spread;
-use expression_lang::Level;
 use c_lang::tree::{TypedFn, TypedUnit};
+use expression_lang::Level;
 use std::alloc::{AllocError, Global};
 use std::collections::HashSet;
 

@@ -15,8 +15,8 @@ ghost use Rattle.c_levels.specs.CodeReason.{IsReason, position_from, first_posit
 
 use crate::casts::casts;
 use crate::modes::{Modes, Reason};
-use expression_lang::Level;
 use c_lang::tree::{Groups, Statement, Statements, TypedFn, TypedUnit};
+use expression_lang::Level;
 
 /// The first of the reasons that holds of the function at a position. Of the functions that it calls, the first in its
 /// text that works on bytes counts.

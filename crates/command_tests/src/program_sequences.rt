@@ -1,7 +1,7 @@
 //! Tests of long sequences of programs.
 
-use expression_lang::Exp;
 use c_values::Number;
+use expression_lang::Exp;
 use monad_lang::Mon;
 use std::alloc::{AllocError, Global};
 use std::test::Fail;

@@ -1,7 +1,7 @@
 //! Tests of which units are well-formed: a good unit, and others that miss one thing.
 
-use expression_lang::{Binder, Exp, Kind, Level, Path, Signature};
 use c_values::{CType, GlobalVar, IntType, Layout, Number, StructDef, Target, Value, Word};
+use expression_lang::{Binder, Exp, Kind, Level, Path, Signature};
 use simpl_lang::{Condition, GuardKind, Simpl, SimplFn, SimplUnit, forms_ok};
 use std::alloc::{AllocError, Global};
 use std::test::Fail;

@@ -22,8 +22,8 @@ ghost use Rattle.local_lift.specs.LiftedByLive.{by_live};
 
 use crate::lists::{conjunction, kind_held, starts, vars, vars_with};
 use crate::names::is_among;
-use expression_lang::{Binder, Exp, Path, copy_exps};
 use c_values::{CType, copy_of};
+use expression_lang::{Binder, Exp, Path, copy_exps};
 use monad_lang::{Mon, Place, boxed};
 use rule_local::Rule;
 use rule_trees::Tree;

@@ -9,8 +9,8 @@ ghost use Rattle.monad_lang.specs.CodeCopied.{peeled_in, LastIsSmaller};
 use crate::fronts::{Front, boxed, whole};
 use crate::program::{Mon, Place};
 use crate::starts::copy_of_starts;
-use expression_lang::{copy_exps, copy_names};
 use c_values::copy_of;
+use expression_lang::{copy_exps, copy_names};
 use std::alloc::{AllocError, Global};
 
 impl Mon {

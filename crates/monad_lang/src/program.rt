@@ -1,7 +1,7 @@
 //! Programs as plain data. `specs/Program` has the language, and `specs/Run` what programs do.
 
-use expression_lang::{Binder, Exp, Kind, Level, Path};
 use c_values::{CType, Program};
+use expression_lang::{Binder, Exp, Kind, Level, Path};
 
 /// What is written.
 #[derive(Debug, Drop)]

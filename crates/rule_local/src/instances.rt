@@ -16,8 +16,8 @@ use crate::carried::{carries_free, carries_needed};
 use crate::expressions::{are_starts_of, are_vars, are_vars_with, are_zeros, is_conjunction};
 use crate::name_lists::{are_unbound, is_among, is_none, is_only, kind_in};
 use crate::rule::{Context, Rule};
-use expression_lang::{Exp, Kind, Path, equal_types, same_exps};
 use c_values::CType;
+use expression_lang::{Exp, Kind, Path, equal_types, same_exps};
 use monad_lang::{Mon, Place};
 use simpl_lang::{Condition, Simpl};
 

@@ -20,9 +20,9 @@ ghost use Rattle.generation.specs.Guards as rules;
 use crate::ranges::{greatest_of, natural};
 use crate::terms::{between, equal, in_type, not, number, word_of};
 use crate::values::{number_of, value};
-use expression_lang::{Exp, Level};
 use c_lang::tree::{Arithmetic, Direction, Expr, Path, Place};
 use c_values::{CType, IntType, Layout, NumberOp, ShiftOp, copy_of, is_signed, width_of};
+use expression_lang::{Exp, Level};
 use simpl_lang::{Condition, GuardKind};
 use std::alloc::{AllocError, Global};
 

@@ -11,9 +11,9 @@ ghost use Rattle.simpl_expressions.specs.CodeTests.{where_is};
 use crate::checks::{add_accesses, add_bounds, add_computation, add_negation, add_shift};
 use crate::terms::{implication, not};
 use crate::values::truth;
-use expression_lang::{Exp, Level};
 use c_lang::tree::{Expr, Path, Place};
 use c_values::Layout;
+use expression_lang::{Exp, Level};
 use simpl_lang::Condition;
 use std::alloc::{AllocError, Global};
 

@@ -11,9 +11,9 @@ ghost use Rattle.c_lang.specs.CodeTyped as typed;
 ghost use Rattle.generation.specs.Guards as rules;
 
 use crate::terms::{equal, not};
-use expression_lang::Exp;
 use c_lang::tree::{Arithmetic, Bitwise, Direction, Equality, Relation, Sign};
 use c_values::{IntType, ShiftOp, WordOp, WordTest, is_signed};
+use expression_lang::Exp;
 use std::alloc::{AllocError, Global};
 
 /// Of an arithmetic operator on operands of a type.

@@ -11,9 +11,9 @@ ghost use Rattle.generation.specs.Guards as rules;
 
 use crate::ranges::{greatest_of, least_of, natural};
 use crate::scalars::Bits;
-use expression_lang::{CastOp, Exp};
 use c_values::views::word;
 use c_values::{CType, IntType, Number, Target, UnaryOp, WordOp, copy_of, width_of};
+use expression_lang::{CastOp, Exp};
 use std::alloc::{AllocError, Global};
 
 /// The value of a name.

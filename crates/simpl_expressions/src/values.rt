@@ -13,9 +13,9 @@ use crate::terms::{
     and, cast_to, choice, nonzero, not, number, of_truth, on_word, on_words, or, pointer_moved_by,
     variable, word_of,
 };
-use expression_lang::{Exp, Path};
 use c_lang::tree::{Expr, Path as TypedPath, Place};
 use c_values::{Layout, UnaryOp, copy_of};
+use expression_lang::{Exp, Path};
 use std::alloc::{AllocError, Global};
 
 /// The value of an expression.

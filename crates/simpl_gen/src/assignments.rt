@@ -9,9 +9,9 @@ ghost use Rattle.generation.specs.Guards.{guards, exp};
 ghost use Rattle.generation.specs.Generate as rules;
 
 use crate::commands::{set, with_guards};
-use expression_lang::{Exp, Level};
 use c_lang::tree::{Destination, Expr, Place};
 use c_values::{Layout, copy_of};
+use expression_lang::{Exp, Level};
 use simpl_expressions::{add_accesses, add_guards, add_place_guards, path_to, value};
 use simpl_lang::{Condition, Simpl};
 use std::alloc::{AllocError, Global};

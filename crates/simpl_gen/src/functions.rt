@@ -22,10 +22,10 @@ use crate::kinds::result_kind;
 use crate::layout_copies::{copy_of_globals, copy_of_layout};
 use crate::locals::{add_variables, locals};
 use crate::statements::commands;
-use expression_lang::{Exp, Level, Signature};
 use c_lang::tree::{TypedFn, TypedUnit};
 use c_levels::Modes;
 use c_values::{CType, Layout, Target};
+use expression_lang::{Exp, Level, Signature};
 use simpl_lang::{Condition, GuardKind, Simpl, SimplFn, SimplUnit};
 use std::alloc::{AllocError, Global};
 

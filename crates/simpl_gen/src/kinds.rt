@@ -7,8 +7,8 @@ ghost use Rattle.expression_lang.specs.Sort.{Numbers};
 ghost use Rattle.expression_lang.specs.CodeExpression.{kind_of, level_of};
 ghost use Rattle.expression_lang.specs.Signature as rules;
 
-use expression_lang::{Kind, Level};
 use c_values::{CType, Target, is_signed, width_of};
+use expression_lang::{Kind, Level};
 use simpl_expressions::scalars::bits_of_type;
 
 /// The kind of a name of a type.

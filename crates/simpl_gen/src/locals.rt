@@ -17,9 +17,9 @@ use crate::kinds::kind_at;
 use crate::names::{
     call_local, exception_local, first_local, result_local, switch_local, thrown_local,
 };
-use expression_lang::{Binder, Kind, Level};
 use c_lang::tree::{Groups, Statement, Statements, TypedFn, Use, Variable};
 use c_values::{CType, IntType, Target};
+use expression_lang::{Binder, Kind, Level};
 use std::alloc::{AllocError, Global};
 
 /// The locals that generation adds: of calls, of switches, and of do-whiles.

@@ -1,7 +1,7 @@
 //! Commands.
 
-use expression_lang::{Exp, Path};
 use c_values::CType;
+use expression_lang::{Exp, Path};
 
 /// Why a guard stands where it does. `Tag` and `Wrap` are watched by a function's level, the others always.
 #[derive(Clone, Copy, Debug, PartialEq, Eq)]

@@ -10,8 +10,8 @@ ghost use Rattle.simpl_lang.specs.CodeCopied.{peeled_in, LastIsSmaller};
 use crate::command::Simpl;
 use crate::conditions::{copy_of_condition, copy_of_conditions};
 use crate::fronts::{Front, boxed, whole};
-use expression_lang::copy_exps;
 use c_values::copy_of;
+use expression_lang::copy_exps;
 use std::alloc::{AllocError, Global};
 
 impl Simpl {

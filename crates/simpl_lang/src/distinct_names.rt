@@ -8,8 +8,8 @@ ghost use Rattle.expression_lang.specs.CodeSignature.{binder_of};
 ghost use Rattle.simpl_lang.specs.CodeCommand.{simpl_fn_of};
 
 use crate::units::SimplFn;
-use expression_lang::Binder;
 use c_values::GlobalVar;
+use expression_lang::Binder;
 
 /// What has a name.
 trait Named {

@@ -12,10 +12,10 @@ ghost use Rattle.simpl_lang.specs.CodeForms.{scope_in, HasCompleteParts};
 
 use crate::program_sorts::program_sort;
 use crate::units::SimplUnit;
+use c_values::{CType, Layout, address_width, is_object, width_of};
 use expression_lang::parts::global;
 use expression_lang::sort_rules::{are_same, is_root, is_word_of};
 use expression_lang::{Exp, IsPartOfValue, Names, Path, Sort, along};
-use c_values::{CType, Layout, address_width, is_object, width_of};
 
 /// Whether a value may go to a part of a global.
 pub(crate) fn fits_global(

@@ -1,8 +1,8 @@
 //! Functions and units of commands.
 
 use crate::command::Simpl;
-use expression_lang::{Binder, Level, Signature};
 use c_values::{GlobalVar, Layout};
+use expression_lang::{Binder, Level, Signature};
 
 /// A function.
 #[derive(Debug, Drop)]

@@ -1,8 +1,10 @@
 //! Sorts and values of expressions that are known from elsewhere.
 
-use expression_lang::{Binder, Env, EvalFault, Exp, Kind, Names, Path, Scalar, Sort, eval, sort_of};
 use c_memory::ByteHeap;
 use c_values::{CType, IntType, Layout, Number, NumberOp, Target, Value, Word};
+use expression_lang::{
+    Binder, Env, EvalFault, Exp, Kind, Names, Path, Scalar, Sort, eval, sort_of,
+};
 use std::alloc::{AllocError, Global};
 use std::test::Fail;
 

@@ -2,11 +2,11 @@
 
 ghost use Rattle.std.specs.Prelude.{◌≡◌, IfOk};
 
-use expression_lang::Level;
 use c_lang::tree::{Destination, Expr, Statement, Statements, TypedFn, TypedUnit, Use};
 use c_levels::reasons::reason;
 use c_levels::{Reason, default_modes};
 use c_values::{CType, IntType, Layout, Target};
+use expression_lang::Level;
 use std::alloc::{AllocError, Global};
 use std::test::Fail;
 
