@@ -1,11 +1,11 @@
 //! Tests of generation, from texts. `worked_rows::generation_rows` has a row for each form of an expression and of a statement.
 
-use expression_lang::Signature;
 use c_lex::tokens;
 use c_parse::parse;
 use c_types::check_unit;
 use c_values::Target;
 use exception_elim::translate;
+use expression_lang::Signature;
 use rule_exn::check;
 use rule_local::Context;
 use simpl_gen::{default_modes, generate};

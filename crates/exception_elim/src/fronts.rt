@@ -19,11 +19,11 @@ use std::alloc::{AllocError, Global};
 /// All but the last part of a command; other parts are taken to theirs already.
 #[derive(Drop)]
 pub(crate) enum Front {
-    Seq(Eliminated),
-    Cond(Box<Exp>, Eliminated),
-    Guard(Condition),
+    Seq(Box<Eliminated>),
+    Cond(Box<Exp>, Box<Eliminated>),
+    Guard(Box<Condition>),
     /// The body of a catch that may throw.
-    Catch(Eliminated),
+    Catch(Box<Eliminated>),
     While(Vec<Condition>, Box<Exp>),
 }
 
@@ -36,10 +36,10 @@ pub(crate) fn with_front(
     ensures { IfOk result (λ e. done_of e ≡ with_front front (done_of last)) }
 {
     match front {
-        Front::Seq(first) => sequence(alloc, first, last),
-        Front::Cond(test, first) => conditional(alloc, test, first, last),
-        Front::Guard(condition) => guarded(alloc, condition, last),
-        Front::Catch(body) => handled(alloc, body, last),
+        Front::Seq(first) => sequence(alloc, Box::into_inner(first), last),
+        Front::Cond(test, first) => conditional(alloc, test, Box::into_inner(first), last),
+        Front::Guard(condition) => guarded(alloc, Box::into_inner(condition), last),
+        Front::Catch(body) => handled(alloc, Box::into_inner(body), last),
         Front::While(conditions, test) => repeated(alloc, conditions, test, last),
     }
 }

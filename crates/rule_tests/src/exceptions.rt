@@ -2,6 +2,7 @@
 //! is no instance of its rule; `notation` says what the words are.
 
 use crate::notation::{command, tree};
+use crate::sizes::{nested, within};
 use exception_elim::translate;
 use rule_exn::{Rule, check};
 use rule_trees::{At, Tree};
@@ -183,23 +184,6 @@ fn is_taken(alloc: Global, left: &Simpl) -> Result<bool, Fail> {
     Ok(check(&tree, left, &right).is_ok() && is_flat(&right))
 }
 
-// A command around another, so many times.
-fn nested(alloc: Global, head: &str, count: u32, inner: Simpl) -> Result<Simpl, Fail> {
-    let mut c = inner;
-    for _ in 0..count {
-        let part = Box::new(alloc, c)?;
-        c = match head {
-            "seq" => Simpl::Seq(Box::new(alloc, Simpl::Skip)?, part),
-            "seq_throw" => Simpl::Seq(Box::new(alloc, Simpl::Throw)?, part),
-            "seq_left" => Simpl::Seq(part, Box::new(alloc, Simpl::Skip)?),
-            "catch_left" => Simpl::Catch(part, Box::new(alloc, Simpl::Skip)?),
-            "catch_throw" => Simpl::Catch(part, Box::new(alloc, Simpl::Throw)?),
-            _ => Simpl::While(Vec::new(alloc), expression_lang::Exp::Truth(true), part),
-        };
-    }
-    Ok(c)
-}
-
 #[test]
 fn long_spines_are_translated_and_checked(rt: HostRuntime) -> Result<(), Fail> {
     let alloc = rt.alloc();
@@ -217,24 +201,11 @@ fn deep_nesting_is_translated_and_checked(rt: HostRuntime) -> Result<(), Fail> {
     let alloc = rt.alloc();
     for head in ["seq_left", "catch_left", "catch_throw"] {
         for inner in [Simpl::Skip, Simpl::Throw] {
-            let c = nested(alloc, head, 2_048, inner)?;
+            let c = nested(alloc, head, 4_096, inner)?;
             assert!(rt; is_taken(alloc, &c)?, "{head}");
         }
     }
     Ok(())
-}
-
-// `set` with words before and after it, each so many times.
-fn within(alloc: Global, before: &str, after: &str, times: u32) -> Result<Simpl, Fail> {
-    let mut words = String::new(alloc);
-    for _ in 0..times {
-        words.push_str(before)?;
-    }
-    words.push_str("set")?;
-    for _ in 0..times {
-        words.push_str(after)?;
-    }
-    command(alloc, words.as_str())
 }
 
 // A straight line, nested loops that are left, and nested choices, of 100, 200, 400 and 800 commands.

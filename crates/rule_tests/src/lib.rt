@@ -7,3 +7,5 @@ mod exceptions;
 mod locals;
 #[cfg(test)]
 mod notation;
+#[cfg(test)]
+mod sizes;

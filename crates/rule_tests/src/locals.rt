@@ -2,9 +2,12 @@
 //! that is no instance of its rule; `notation` says what the words are.
 
 use crate::notation::{command, program, tree};
-use expression_lang::{Binder, Kind};
+use crate::sizes::{nested, within};
+use expression_lang::{Binder, Exp, Kind};
+use local_lift::translate;
 use rule_local::{Context, Rule, check};
 use rule_trees::At;
+use simpl_lang::Simpl;
 use std::alloc::{AllocError, Global};
 use std::test::Fail;
 
@@ -212,5 +215,98 @@ fn a_returned_constant(rt: HostRuntime) -> Result<(), Fail> {
     let right = format!(in rt.alloc(); "1bind 2bind {set} $ret $thrown {rest} $ret 1ret $ret")?;
     let found = bad_node(rt.alloc(), rules, left, right.as_str(), &["$ret"])?;
     assert!(rt; found == None);
+    Ok(())
+}
+
+// Whether the rules take a command to what its locals are lifted to, which is in bytes form.
+fn is_lifted(
+    left: &Simpl,
+    context: Context<'_>,
+    outputs: &[String],
+    alloc: Global,
+) -> Result<bool, Fail> {
+    let (right, tree) = translate(alloc, left, context, outputs)?;
+    Ok(check(&tree, left, &right, outputs, context).is_ok() && right.is_bytes())
+}
+
+// The same in a function with the locals above, which gives `x`.
+fn is_lifted_here(alloc: Global, left: &Simpl) -> Result<bool, Fail> {
+    let locals = locals(alloc)?;
+    let parameters = parameters(alloc)?;
+    let context = Context {
+        locals: &locals,
+        parameters: &parameters,
+    };
+    let mut outputs = Vec::new(alloc);
+    outputs.push(String::from_str(alloc, "x")?)?;
+    is_lifted(left, context, &outputs, alloc)
+}
+
+#[test]
+fn long_spines_are_lifted_and_checked(rt: HostRuntime) -> Result<(), Fail> {
+    let alloc = rt.alloc();
+    for inner in ["skip", "set", "call"] {
+        let c = nested(alloc, "seq", 1_000_000, command(alloc, inner)?)?;
+        assert!(rt; is_lifted_here(alloc, &c)?, "{inner}");
+    }
+    Ok(())
+}
+
+#[test]
+fn deep_nesting_is_lifted_and_checked(rt: HostRuntime) -> Result<(), Fail> {
+    let alloc = rt.alloc();
+    for head in ["seq_left", "cond_left", "while"] {
+        let c = nested(alloc, head, 4_096, command(alloc, "set")?)?;
+        assert!(rt; is_lifted_here(alloc, &c)?, "{head}");
+    }
+    Ok(())
+}
+
+// A straight line, nested loops, and nested choices, of 100, 200, 400 and 800 commands.
+#[test]
+fn commands_of_many_sizes(rt: HostRuntime) -> Result<(), Fail> {
+    let alloc = rt.alloc();
+    let shapes = [
+        ("seq set ", "", [50u32, 100, 200, 400]),
+        ("while seq set ", " skip", [25, 50, 100, 200]),
+        ("cond seq set ", " skip", [25, 50, 100, 200]),
+    ];
+    for (before, after, sizes) in shapes {
+        for times in sizes {
+            let c = within(alloc, before, after, times)?;
+            assert!(rt; is_lifted_here(alloc, &c)?, "{before}");
+        }
+    }
+    Ok(())
+}
+
+// A straight line of sets, as many as are asked, each of one of 32 locals to another.
+fn many_locals(alloc: Global, count: u32) -> Result<bool, Fail> {
+    let mut locals = Vec::new(alloc);
+    for k in 0..32u32 {
+        let name = format!(in alloc; "v{k}")?;
+        locals.push(binder(alloc, name.as_str(), Kind::Word(32))?)?;
+    }
+    let mut c = Simpl::Skip;
+    for k in 0..count {
+        let name = format!(in alloc; "v{}", k % 32)?;
+        let other = format!(in alloc; "v{}", k * 5 % 32)?;
+        let set = Box::new(alloc, Simpl::Set(name, Exp::Var(other)))?;
+        c = Simpl::Seq(set, Box::new(alloc, c)?);
+    }
+    let context = Context {
+        locals: &locals,
+        parameters: &[],
+    };
+    let mut outputs = Vec::new(alloc);
+    outputs.push(String::from_str(alloc, "v0")?)?;
+    is_lifted(&c, context, &outputs, alloc)
+}
+
+#[test]
+fn sequences_over_many_locals(rt: HostRuntime) -> Result<(), Fail> {
+    for count in [50, 100, 200, 400] {
+        assert!(rt; many_locals(rt.alloc(), count)?, "{count}");
+    }
     Ok(())
 }

@@ -1,8 +1,8 @@
 //! Commands, programs and trees of rules from words, heads before their parts (Polish notation). The words are read from the last to
 //! the first, with a stack for what has been read.
 
-use expression_lang::{Exp, Kind, Path};
 use c_values::{CType, IntType, Word};
+use expression_lang::{Exp, Kind, Path};
 use monad_lang::{Mon, Place, Start};
 use rule_trees::Tree;
 use simpl_lang::{Condition, GuardKind, Simpl};
