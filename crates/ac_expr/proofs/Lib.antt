@@ -1,0 +1,3 @@
+pub mod GivesLaws
+pub mod LastingFacts
+pub mod LastingParts

@@ -1,4 +1,9 @@
 pub mod Fact
 pub mod Facts
+pub mod Passed
+pub mod Lasting
+pub mod Guarded
 pub mod Known
 pub mod CodeFacts
+pub mod CodeChain
+pub mod CodeLasting

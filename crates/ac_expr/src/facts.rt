@@ -1,13 +1,12 @@
 //! Facts: what is known at a place of a program.
 
-ghost use Rattle.std.specs.Prelude.{◌≡◌, [], ◌∷◌};
-ghost use Rattle.ac_expr.specs.Facts.{without_name, without_reads};
-ghost use Rattle.expression_lang.specs.CodeSort.{scalar_of, scope_of};
-ghost use Rattle.ac_expr.specs.CodeFacts.{fact_of, facts_of, scope_of_facts};
-ghost use Rattle.expression_lang.specs.Sorted.{scope_with};
+ghost use Rattle.std.specs.Prelude.{◌≡◌};
+ghost use Rattle.expression_lang.specs.Mentions.{names, reads};
+ghost use Rattle.ac_expr.specs.Fact.{stands_for};
+ghost use Rattle.ac_expr.specs.CodeFacts.{fact_of};
 
-use expression_lang::{Exp, Names, Scalar};
-use c_values::{CType, GlobalVar, Layout, Number};
+use c_values::{CType, Number};
+use expression_lang::{Exp, IsName, IsReading};
 
 /// A fact stands for an expression, which isn't built.
 #[derive(Drop)]
@@ -28,46 +27,35 @@ pub enum Fact<'a> {
     Equal(&'a Exp, &'a Exp),
 }
 
-/// Facts, with the names in scope, the layout and the globals: a chain, each link of which borrows the one before.
-#[derive(Drop)]
-pub enum Facts<'a> {
-    None(&'a Layout, &'a [GlobalVar], &'a Names<'a>),
-    With(&'a Facts<'a>, &'a Fact<'a>),
-    Bound(&'a Facts<'a>, &'a str, Scalar),
-    WithoutReads(&'a Facts<'a>),
-}
-
-impl<'a> Facts<'a> {
-    /// No facts.
-    pub fn new(l: &'a Layout, globals: &'a [GlobalVar], names: &'a Names<'a>) -> Facts<'a>
-        ensures facts { facts_of result ≡ [] }
-        ensures scope { scope_of_facts result ≡ scope_of l.now names.now globals.now }
+impl Fact<'_> {
+    /// Whether it has the name.
+    pub(crate) fn names(&self, name: &str) -> bool
+        ensures { result ≡ names name.now (stands_for (fact_of self.now)) }
     {
-        Facts::None(l, globals, names)
+        let test = IsName { name };
+        match self {
+            Fact::Whole(e) => e.any(&test),
+            Fact::Not(e) => e.any(&test),
+            Fact::Tagged(_, p) => p.any(&test),
+            Fact::Between(_, x, _) => x.any(&test),
+            Fact::AtLeast(x, _) => x.any(&test),
+            Fact::AtMost(x, _) => x.any(&test),
+            Fact::Equal(a, b) => a.any(&test) || b.any(&test),
+        }
     }
 
-    /// The same facts, and one more.
-    pub fn with(&'a self, fact: &'a Fact<'a>) -> Facts<'a>
-        ensures facts { facts_of result ≡ fact_of fact.now ∷ facts_of self.now }
-        ensures scope { scope_of_facts result ≡ scope_of_facts self.now }
+    /// Whether it looks at the state.
+    pub(crate) fn reads(&self) -> bool
+        ensures { result ≡ reads (stands_for (fact_of self.now)) }
     {
-        Facts::With(self, fact)
-    }
-
-    /// A name comes into scope, and the facts that name it are forgotten.
-    pub fn bind(&'a self, name: &'a str, scalar: Scalar) -> Facts<'a>
-        ensures facts { facts_of result ≡ without_name name.now (facts_of self.now) }
-        ensures scope { scope_of_facts result
-            ≡ scope_with (name.now ∷ []) (scalar_of scalar ∷ []) (scope_of_facts self.now) }
-    {
-        Facts::Bound(self, name, scalar)
-    }
-
-    /// The facts that read are forgotten.
-    pub fn forget_reads(&'a self) -> Facts<'a>
-        ensures facts { facts_of result ≡ without_reads (facts_of self.now) }
-        ensures scope { scope_of_facts result ≡ scope_of_facts self.now }
-    {
-        Facts::WithoutReads(self)
+        match self {
+            Fact::Whole(e) => e.any(&IsReading),
+            Fact::Not(e) => e.any(&IsReading),
+            Fact::Tagged(_, p) => p.any(&IsReading),
+            Fact::Between(_, x, _) => x.any(&IsReading),
+            Fact::AtLeast(x, _) => x.any(&IsReading),
+            Fact::AtMost(x, _) => x.any(&IsReading),
+            Fact::Equal(a, b) => a.any(&IsReading) || b.any(&IsReading),
+        }
     }
 }

@@ -1,10 +1,16 @@
 //! What is known of expressions at a place of a program. The language of expressions itself is handed on.
 #![tactic(auto)]
 
+mod chain;
+mod claims;
 mod facts;
+mod knowing;
+mod lasting;
 
+pub use chain::{Facts, Sequence, Split};
 pub use expression_lang::{
     Binder, CastOp, Env, EvalFault, Exp, Kind, Level, Names, Path, Scalar, Signature, Sort, eval,
     scalar_of_kind, sort_of,
 };
-pub use facts::{Fact, Facts};
+pub use facts::Fact;
+pub use knowing::known;

@@ -1,0 +1,11 @@
+-- Nothing comes after.
+use Rattle.std.proofs.Common.{◌≡◌, ◌↔◌, IsTrue}
+use Rattle.ac_expr.specs.Fact.{stands_for}
+use Rattle.ac_expr.specs.Known.{GivesAtOnce}
+use Rattle.ac_expr.specs.CodeFacts.{fact_of}
+use Rattle.ac_expr.specs.CodeChain.{facts_of}
+use Rattle.ac_expr.proofs.LastingFacts.{after_nothing, two}
+use Rattle.ac_expr.proofs.knowing.some_gives_at_once.Goals as goal
+
+pub returns : goal.returns
+returns g c = two c.some.ensures (after_nothing (λ e. GivesAtOnce e (stands_for (fact_of c.args.claim.now))) (facts_of g.S.Sequence.parts c.args.facts.now))
