@@ -3,13 +3,13 @@
 ghost use Rattle.std.specs.Prelude.{◌≡◌, ◌≢◌, [], ◌∷◌, length, IfNone, IfSome};
 
 /// A rule, and a tree for each of its parts, in their order.
-pub struct Tree<R: Copy> {
+pub struct Tree<R: Drop> {
     pub rule: R,
     pub parts: Vec<Tree<R>>,
 }
 
 // A derived drop would call itself once for each level, and a tree is as deep as what it speaks of.
-impl<R: Copy> Drop for Tree<R> {
+impl<R: Drop> Drop for Tree<R> {
     fn drop(mut self) {
         loop {
             let Tree {
@@ -25,7 +25,7 @@ impl<R: Copy> Drop for Tree<R> {
 }
 
 /// The only one of trees.
-pub fn only<R: Copy>(parts: &[Tree<R>]) -> Option<&Tree<R>>
+pub fn only<R: Drop>(parts: &[Tree<R>]) -> Option<&Tree<R>>
     ensures some { IfSome result (λ part. parts.now ≡ part.now ∷ []) }
     ensures none { IfNone result (length parts.now ≢ 1) }
 {
@@ -36,7 +36,7 @@ pub fn only<R: Copy>(parts: &[Tree<R>]) -> Option<&Tree<R>>
 }
 
 /// The two of two trees.
-pub fn both<R: Copy>(parts: &[Tree<R>]) -> Option<(&Tree<R>, &Tree<R>)>
+pub fn both<R: Drop>(parts: &[Tree<R>]) -> Option<(&Tree<R>, &Tree<R>)>
     ensures some { IfSome result (λ (first, last). parts.now ≡ first.now ∷ last.now ∷ []) }
     ensures none { IfNone result (length parts.now ≢ 2) }
 {
