@@ -4,7 +4,7 @@ use Rattle.simpl_lang.specs.declared.command.Simpl.{size-Simpl}
 use Rattle.simpl_lang.specs.CodeCommand.{simpl_of}
 use Rattle.exception_elim.specs.CodeDone.{done}
 use Rattle.exception_elim.specs.CodeFront.{with_fronts}
-use Rattle.exception_elim.proofs.translation.eliminated.Given as goal
+use Rattle.exception_elim.proofs.translation.+eliminated.Given as goal
 
 abbrev pub invariant-along : goal.invariant-along
 invariant-along l = record {
