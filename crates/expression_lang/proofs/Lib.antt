@@ -19,3 +19,4 @@ pub mod Filled
 pub mod PartFaults
 pub mod ReadyParts
 pub mod OperandSorts
+pub mod SameValues

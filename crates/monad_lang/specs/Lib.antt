@@ -5,6 +5,7 @@ pub mod Sorted
 pub mod Names
 pub mod Form
 pub mod Steady
+pub mod Lasting
 pub mod CodeProgram
 pub mod CodeFront
 pub mod CodeCompared
