@@ -1,10 +1,12 @@
 //! What is known of expressions at a place of a program. The language of expressions itself is handed on.
 #![tactic(auto)]
 
+mod fact_laws;
 mod facts;
 
 pub use expression_lang::{
     Binder, CastOp, Env, EvalFault, Exp, Kind, Level, Names, Path, Scalar, Signature, Sort, eval,
     scalar_of_kind, sort_of,
 };
+pub use fact_laws::known_facts_hold;
 pub use facts::{Fact, Facts};

@@ -19,4 +19,3 @@ pub mod Filled
 pub mod PartFaults
 pub mod ReadyParts
 pub mod OperandSorts
-pub mod SameValues

@@ -1,7 +1,8 @@
 -- Runs keep the tags of the heap, whatever they are called with.
 use Rattle.std.proofs.Common.{◌≡◌, ℕ, zero, suc, List, Option, Some, None, inl, inr, refl, ◌∙◌}
 use Rattle.correspondence.specs.Always.{Always}
-use Rattle.correspondence.proofs.Always.{Keeps, then_always, loop_keeps, choose_always, done_always, called_always}
+use Rattle.correspondence.proofs.Always.{then_always}
+use Rattle.monad_lang.proofs.KeptAlong.{Keeps, loop_keeps, choose_always, done_always, called_always}
 use Rattle.c_values.specs.Types.{CType}
 use Rattle.c_values.specs.Value.{Value}
 use Rattle.c_values.specs.Layout.{Layout}
@@ -35,8 +36,8 @@ module _ (l : Layout) (p : Choice) where
   runs_keep_tags (Loop starts guard test m) env depth gs h s =
       loop_keeps AllKeepTags (λ f fs k. k.1) (KeepsTags s) (KeepsTags s) _ _
       (λ a k. choose_always (Keeps (KeepsTags s) (KeepsTags s)) (holds l _ a.state guard) _ _
-        (λ i. choose_always (Keeps (KeepsTags s) (KeepsTags s)) (holds l _ a.state test) _ _ (λ j. done_always (Keeps (KeepsTags s) (KeepsTags s)) (inl a) k) (λ j. done_always (Keeps (KeepsTags s) (KeepsTags s)) (inr a) k))
-        (λ i b e. absurd e))
+      (λ i. choose_always (Keeps (KeepsTags s) (KeepsTags s)) (holds l _ a.state test) _ _ (λ j. done_always (Keeps (KeepsTags s) (KeepsTags s)) (inl a) k) (λ j. done_always (Keeps (KeepsTags s) (KeepsTags s)) (inr a) k))
+      (λ i b e. absurd e))
       (λ fs q a k. then_always (KeepsTags s) (Keeps (KeepsTags s) (KeepsTags s)) _ _ (λ b e. runs_keep_tags m _ depth fs q a.state b e ∙ k) (λ b j. done_always (Keeps (KeepsTags s) (KeepsTags s)) (inl b) j))
       gs h _ refl
   runs_keep_tags (Call f es) env depth gs h s =

@@ -2,4 +2,8 @@ pub mod OneEnd
 pub mod Continues
 pub mod Filled
 pub mod WithFronts
+pub mod KeptAlong
 pub mod KeepsTags
+pub mod HeapWritten
+pub mod SortedValues
+pub mod RunsLast

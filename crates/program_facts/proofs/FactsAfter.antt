@@ -4,7 +4,8 @@ use Rattle.std.proofs.Common.{◌≡◌, ℕ, Bool, true, false, not, cond, List
 use Rattle.std.proofs.lemmas.Bool.{or_parts, not-true, true≢false}
 use Rattle.correspondence.specs.Outcome.{Done, done, fault, choose}
 use Rattle.correspondence.specs.Always.{Always}
-use Rattle.correspondence.proofs.Always.{Keeps, then_always, loop_keeps, choose_always, done_always}
+use Rattle.correspondence.proofs.Always.{then_always}
+use Rattle.monad_lang.proofs.KeptAlong.{Keeps, loop_keeps, choose_always, done_always}
 use Rattle.c_values.specs.Name.{Name, with_name}
 use Rattle.c_values.specs.Value.{Value, truth_in}
 use Rattle.c_values.specs.Layout.{Layout}
@@ -16,7 +17,7 @@ use Rattle.expression_lang.specs.Signature.{bound}
 use Rattle.ac_expr.specs.Fact.{Fact, stands_for, AllSay}
 use Rattle.expression_lang.specs.Mentions.{names, reads}
 use Rattle.ac_expr.specs.Facts.{facts_where, without_name, without_reads}
-use Rattle.expression_lang.proofs.SameValues.{unnamed_same, unread_same}
+use Rattle.ac_expr.proofs.SameValues.{unnamed_same, unread_same}
 use Rattle.monad_lang.specs.Program.{Mon, Ret, Bind, Guard, If, Write, Loop, Call, Pick}
 use Rattle.monad_lang.specs.Run.{Answer, Failure, Runs, runs}
 use Rattle.program_facts.specs.Flow.{changes_state, without_names, guarded, facts_after}
