@@ -2,7 +2,6 @@
 -- one more; a loop's guard begins with none, its test has the guard, and its body the guard and the test.
 use Rattle.std.specs.Prelude.{Bool, true, false, ◌||◌, List, [], ◌∷◌, if◌then◌else◌}
 use Rattle.c_values.specs.Name.{Name}
-use Rattle.expression_lang.specs.Expression.{Exp}
 use Rattle.ac_expr.specs.Fact.{Fact, Whole}
 use Rattle.ac_expr.specs.Facts.{without_name, without_reads}
 use Rattle.monad_lang.specs.Program.{Mon, Ret, Bind, Guard, If, Write, Loop, Call, Pick}
