@@ -1,3 +1,5 @@
 pub mod GivesLaws
+pub mod KnownHolds
 pub mod LastingFacts
 pub mod LastingParts
+pub mod SameValues

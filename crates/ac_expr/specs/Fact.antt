@@ -1,5 +1,5 @@
 -- Facts: what is known at a place of a program. A fact stands for an expression, which the code doesn't build.
-use Rattle.std.specs.Prelude.{◌≡◌, ℤ, true}
+use Rattle.std.specs.Prelude.{◌≡◌, ℤ, true, List, [], ◌∷◌}
 use Rattle.c_values.specs.Types.{CType}
 use Rattle.c_values.specs.Layout.{Layout}
 use Rattle.expression_lang.specs.Expression.{Exp, NumberLit, Le, Between, Eq, Not, Tagged}
@@ -27,3 +27,7 @@ stands_for (Equal a b) = Eq a b
 -- what a fact says of an environment and a state
 abbrev pub Says : Layout → Env → State → Fact → Type 0
 Says l env s f = holds l env s (stands_for f) ≡ true
+
+abbrev pub AllSay : Layout → Env → State → List Fact → Type 0
+AllSay l env s [] = Unit {0}
+AllSay l env s (f ∷ fs) = Says l env s f × AllSay l env s fs

@@ -3,6 +3,7 @@
 
 mod chain;
 mod claims;
+mod fact_laws;
 mod facts;
 mod knowing;
 mod lasting;
@@ -12,5 +13,6 @@ pub use expression_lang::{
     Binder, CastOp, Env, EvalFault, Exp, Kind, Level, Names, Path, Scalar, Signature, Sort, eval,
     scalar_of_kind, sort_of,
 };
+pub use fact_laws::known_facts_hold;
 pub use facts::Fact;
 pub use knowing::known;

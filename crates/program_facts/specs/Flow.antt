@@ -1,10 +1,10 @@
 -- How facts go through a program: which are known in the second part of a Bind. In a branch of an If the test or its negation is
 -- one more; a loop's guard begins with none, its test has the guard, and its body the guard and the test.
-use Rattle.std.specs.Prelude.{Bool, true, false, ◌||◌, List, [], ◌∷◌, if◌then◌else◌}
+use Rattle.std.specs.Prelude.{Bool, true, false, ◌||◌, List, [], ◌∷◌, Option, Some, None}
 use Rattle.c_values.specs.Name.{Name}
 use Rattle.expression_lang.specs.Expression.{Exp}
-use Rattle.ac_expr.specs.Fact.{Fact, Whole}
-use Rattle.ac_expr.specs.Facts.{without_name, without_reads}
+use Rattle.ac_expr.specs.Fact.{Fact}
+use Rattle.ac_expr.specs.Passed.{Part, after}
 use Rattle.monad_lang.specs.Program.{Mon, Ret, Bind, Guard, If, Write, Loop, Call, Pick}
 
 -- a write or a call stands in it
@@ -18,16 +18,19 @@ changes_state (Loop starts guard test m) = changes_state m
 changes_state (Call f es) = true
 changes_state (Pick k) = false
 
-abbrev pub without_names : List Name → List Fact → List Fact
-without_names [] fs = fs
-without_names (x ∷ xs) fs = without_names xs (without_name x fs)
+abbrev pub guard_in : Mon → Option Exp
+guard_in (Guard e) = Some e
+guard_in m = None
 
--- a guard that was passed holds
-abbrev pub guarded : Mon → List Fact → List Fact
-guarded (Guard e) fs = Whole e ∷ fs
-guarded m fs = fs
+-- a program whose values have these names, as a part of a sequence
+abbrev pub part : Mon → List Name → Part
+part m xs = record { guard = guard_in m; names = xs; changes = changes_state m }
 
--- after a program whose values have these names: its guard is known, and what names one of them, or reads where it may have
--- changed the state, is forgotten
+-- after it: its guard is known, and what names one of the names, or reads where it may have changed the state, is forgotten
 abbrev pub facts_after : Mon → List Name → List Fact → List Fact
-facts_after m xs fs = without_names xs (guarded m (if changes_state m then without_reads fs else fs))
+facts_after m xs fs = after (part m xs) fs
+
+-- the parts that come one after the other
+abbrev pub parts : Mon → List Part
+parts (Bind m xs n) = part m xs ∷ parts n
+parts m = []

@@ -25,6 +25,6 @@ returns-then-exp_gives-2 g t c =
     let same : IsTrue c.is_claimed.result ↔ (claim ≡ Imp a b) = subst (λ q. IsTrue c.is_claimed.result ↔ (claim ≡ exp_of q)) c.in-Imp.is c.is_claimed.ensures in
     let gives : Gives (facts_of g.S.Sequence.parts c.args.facts.now) b claim = search rules in
     let known : IsTrue c.some_gives_at_once.result ↔ SomeFact (λ fact. GivesAtOnce fact a) (facts_of g.S.Sequence.parts c.args.facts.now) =
-        subst (λ q. IsTrue c.some_gives_at_once.result ↔ SomeFact (λ fact. GivesAtOnce fact (exp_of q)) (facts_of g.S.Sequence.parts c.args.facts.now)) c.deref-then-exp_gives-2.ensures c.some_gives_at_once.ensures in
+    subst (λ q. IsTrue c.some_gives_at_once.result ↔ SomeFact (λ fact. GivesAtOnce fact (exp_of q)) (facts_of g.S.Sequence.parts c.args.facts.now)) c.deref-then-exp_gives-2.ensures c.some_gives_at_once.ensures in
     two (by_condition (facts_of g.S.Sequence.parts c.args.facts.now) a b claim c.is_claimed.result c.some_gives_at_once.result same c.if-is_claimed.false gives known)
     (subst (λ q. Gives (facts_of g.S.Sequence.parts c.args.facts.now) (exp_of q) claim ↔ Gives (facts_of g.S.Sequence.parts c.args.facts.now) (exp_of c.args.e.now) claim) c.in-Imp.is c.along.invariant.same)
