@@ -1,6 +1,6 @@
 //! Exceptions taken out of a command.
 
-ghost use Rattle.std.specs.Prelude.{◌≡◌, true, false, List, map, Some, IfOk};
+ghost use Rattle.std.specs.Prelude.{◌≡◌, ℕ, suc, true, List, map, Some, IfOk};
 ghost use Rattle.expression_lang.specs.CodeExpression.{exp_of};
 ghost use Rattle.expression_lang.specs.Signature.{Signature};
 ghost use Rattle.expression_lang.specs.Sort.{Scope, TruthSort};
@@ -8,11 +8,15 @@ ghost use Rattle.simpl_lang.specs.CodeCommand.{condition_of, simpl_of};
 ghost use Rattle.simpl_lang.specs.Flag.{thrown_local};
 ghost use Rattle.simpl_lang.specs.Form.{is_flat};
 ghost use Rattle.simpl_lang.specs.Sorted.{is_sorted};
-ghost use Rattle.simpl_lang.specs.Command.{Skip, Throw, Catch, Simpl as Command};
+ghost use Rattle.simpl_lang.specs.declared.command.Simpl.{size-Simpl};
+ghost use Rattle.simpl_lang.specs.Command.{Seq, Throw, Catch, Simpl as Command};
+ghost use Rattle.rule_exn.specs.Rule.{CatchPlain, CatchSkip};
+ghost use Rattle.rule_exn.specs.Table as table;
 ghost use Rattle.rule_exn.specs.Table.{Takes};
+ghost use Rattle.rule_exn.specs.Eliminated as spec;
 ghost use Rattle.rule_exn.specs.CodeRule.{rule_of, tree_of};
 ghost use Rattle.exception_elim.specs.CodeDone.{Done, done, done_of, guarded, looped, Stays};
-ghost use Rattle.exception_elim.specs.CodeFront.{with_front, with_fronts};
+ghost use Rattle.exception_elim.specs.CodeFront.{LastIsSmaller, peeled_in, with_front, with_fronts};
 
 use crate::eliminated::{Eliminated, leaf, over_one};
 use crate::flags::{cleared, raised};
@@ -43,6 +47,7 @@ pub fn translate(alloc: Global, left: &Simpl) -> Result<(Box<Simpl>, Tree<Rule>)
 
 // It goes along the last parts by a loop, since a text may have long sequences. What a nested command is taken to comes boxed, so
 // that each level takes little of the stack.
+#[cycle(eliminated)]
 #[tactic(auto, using(crate::proofs::WithFronts::with_fronts_push))]
 fn eliminated(alloc: Global, c: &Simpl) -> Result<Box<Eliminated>, AllocError>
     ensures { IfOk result (λ e. done_of e.value ≡ done (simpl_of c.now)) }
@@ -50,42 +55,45 @@ fn eliminated(alloc: Global, c: &Simpl) -> Result<Box<Eliminated>, AllocError>
     let mut fronts = Vec::new(alloc);
     let mut rest = c;
     'along: loop {
-        match rest {
-            Simpl::Seq(first, last) => {
-                fronts.push(Front::Seq(eliminated(alloc, first)?))?;
-                rest = &**last;
+        match peeled(alloc, rest)? {
+            Peel::Ended(last) => return closed(alloc, fronts, last),
+            Peel::Last(front, last) => {
+                fronts.push(front)?;
+                rest = last;
             }
-            Simpl::Cond(test, first, last) => {
-                let test = test.boxed_copy(alloc)?;
-                fronts.push(Front::Cond(test, eliminated(alloc, first)?))?;
-                rest = &**last;
-            }
-            Simpl::Catch(body, handler) => {
-                let body = eliminated(alloc, body)?;
-                if body.is_quiet {
-                    return closed(alloc, fronts, plain_catch(alloc, body)?);
-                }
-                if matches!(&**handler, Simpl::Skip) {
-                    return closed(alloc, fronts, skipped_catch(alloc, body)?);
-                }
-                fronts.push(Front::Catch(body))?;
-                rest = &**handler;
-            }
-            Simpl::Guard(condition, last) => {
-                fronts.push(guard(alloc, condition)?)?;
-                rest = &**last;
-            }
-            Simpl::While(conditions, test, last) => {
-                fronts.push(turn(alloc, conditions, test)?)?;
-                rest = &**last;
-            }
-            Simpl::Throw => return closed(alloc, fronts, thrown(alloc)?),
-            Simpl::Skip => return closed(alloc, fronts, step(alloc, Rule::Skip, rest)?),
-            Simpl::Set(_, _) | Simpl::SetGlobal(_, _, _) | Simpl::Store(_, _, _, _) => {
-                return closed(alloc, fronts, step(alloc, Rule::Set, rest)?);
-            }
-            Simpl::Pick(_) => return closed(alloc, fronts, step(alloc, Rule::Pick, rest)?),
-            Simpl::Call(_, _, _) => return closed(alloc, fronts, step(alloc, Rule::Call, rest)?),
+        }
+    }
+}
+
+// A command with all but its last part taken to what stands for it.
+#[derive(Drop)]
+enum Peel<'a> {
+    Ended(Box<Eliminated>),
+    Last(Front, &'a Simpl),
+}
+
+#[cycle(eliminated)]
+fn peeled(alloc: Global, c: &Simpl) -> Result<Peel<'_>, AllocError>
+    ensures same { IfOk result (λ peel. peeled_in peel ≡ done (simpl_of c.now)) }
+    ensures smaller { IfOk result (λ peel. LastIsSmaller peel (size-Simpl c.now)) }
+{
+    match c {
+        Simpl::Skip => step(alloc, Rule::Skip, c),
+        Simpl::Set(_, _) | Simpl::SetGlobal(_, _, _) | Simpl::Store(_, _, _, _) => {
+            step(alloc, Rule::Set, c)
+        }
+        Simpl::Pick(_) => step(alloc, Rule::Pick, c),
+        Simpl::Call(_, _, _) => step(alloc, Rule::Call, c),
+        Simpl::Throw => thrown(alloc),
+        Simpl::Seq(first, last) => Ok(Peel::Last(Front::Seq(eliminated(alloc, first)?), &**last)),
+        Simpl::Cond(test, first, last) => {
+            let test = test.boxed_copy(alloc)?;
+            Ok(Peel::Last(Front::Cond(test, eliminated(alloc, first)?), &**last))
+        }
+        Simpl::Guard(condition, last) => Ok(Peel::Last(guard(alloc, condition)?, &**last)),
+        Simpl::Catch(body, handler) => caught(alloc, eliminated(alloc, body)?, &**handler),
+        Simpl::While(conditions, test, last) => {
+            Ok(Peel::Last(turn(alloc, conditions, test)?, &**last))
         }
     }
 }
@@ -108,56 +116,103 @@ fn turn(alloc: Global, conditions: &[Condition], test: &Exp) -> Result<Front, Al
 }
 
 // What stays as it is.
-fn step(alloc: Global, rule: Rule, c: &Simpl) -> Result<Eliminated, AllocError>
+fn step<'a>(alloc: Global, rule: Rule, c: &Simpl) -> Result<Peel<'a>, AllocError>
     requires { Stays (rule_of rule) (simpl_of c.now) }
-    ensures { IfOk result (λ e. done_of e ≡ done (simpl_of c.now)) }
+    ensures same { IfOk result (λ peel. peeled_in peel ≡ done (simpl_of c.now)) }
+    ensures smaller { IfOk result (λ peel. (n : ℕ) → LastIsSmaller peel n) }
 {
-    Ok(Eliminated {
-        right: c.copy(alloc)?,
-        tree: leaf(alloc, rule),
-        is_quiet: true,
-    })
+    ended(
+        alloc,
+        Eliminated {
+            right: c.copy(alloc)?,
+            tree: leaf(alloc, rule),
+            is_quiet: true,
+        },
+    )
 }
 
-fn thrown(alloc: Global) -> Result<Eliminated, AllocError>
-    ensures { IfOk result (λ e. done_of e ≡ done Throw) }
+fn ended<'a>(alloc: Global, e: Eliminated) -> Result<Peel<'a>, AllocError>
+    ensures same { IfOk result (λ peel. peeled_in peel ≡ done_of e) }
+    ensures smaller { IfOk result (λ peel. (n : ℕ) → LastIsSmaller peel n) }
 {
-    Ok(Eliminated {
-        right: raised(alloc)?,
-        tree: leaf(alloc, Rule::Throw),
-        is_quiet: false,
-    })
+    Ok(Peel::Ended(Box::new(alloc, e)?))
 }
 
-// A catch whose body is quiet.
-fn plain_catch(alloc: Global, body: Box<Eliminated>) -> Result<Eliminated, AllocError>
+fn thrown<'a>(alloc: Global) -> Result<Peel<'a>, AllocError>
+    ensures same { IfOk result (λ peel. peeled_in peel ≡ done Throw) }
+    ensures smaller { IfOk result (λ peel. (n : ℕ) → LastIsSmaller peel n) }
+{
+    ended(
+        alloc,
+        Eliminated {
+            right: raised(alloc)?,
+            tree: leaf(alloc, Rule::Throw),
+            is_quiet: false,
+        },
+    )
+}
+
+// A catch whose body is taken to this.
+fn caught<'a>(
+    alloc: Global,
+    body: Box<Eliminated>,
+    handler: &'a Simpl,
+) -> Result<Peel<'a>, AllocError>
+    ensures same { IfOk result (λ peel. (a : Command) → done_of body.value ≡ done a →
+        peeled_in peel ≡ done (Catch a (simpl_of handler.now))) }
+    ensures smaller { IfOk result (λ peel. LastIsSmaller peel (suc (size-Simpl handler.now))) }
+{
+    if body.is_quiet {
+        return plain_catch(alloc, body);
+    }
+    if matches!(handler, Simpl::Skip) {
+        return skipped_catch(alloc, body);
+    }
+    Ok(Peel::Last(Front::Catch(body), handler))
+}
+
+fn plain_catch<'a>(alloc: Global, body: Box<Eliminated>) -> Result<Peel<'a>, AllocError>
     requires { body.value.is_quiet ≡ true }
-    ensures { IfOk result (λ e. (a b : Command) → done_of body.value ≡ done a →
-        done_of e ≡ done (Catch a b)) }
+    ensures same { IfOk result (λ peel. peeled_in peel
+        ≡ record {
+          made = spec.over_one CatchPlain (done_of body.value).made.right (done_of body.value).made;
+          quiet = true;
+        }) }
+    ensures smaller { IfOk result (λ peel. (n : ℕ) → LastIsSmaller peel n) }
 {
     let Eliminated { right, tree, .. } = Box::into_inner(body);
-    Ok(Eliminated {
-        right,
-        tree: over_one(alloc, Rule::CatchPlain, tree)?,
-        is_quiet: true,
-    })
+    let tree = over_one(alloc, Rule::CatchPlain, tree)?;
+    ended(
+        alloc,
+        Eliminated {
+            right,
+            tree,
+            is_quiet: true,
+        },
+    )
 }
 
-// A catch whose body may throw, and whose handler is a skip.
-fn skipped_catch(alloc: Global, body: Box<Eliminated>) -> Result<Eliminated, AllocError>
-    requires { body.value.is_quiet ≡ false }
-    ensures { IfOk result (λ e. (a : Command) → done_of body.value ≡ done a →
-        done_of e ≡ done (Catch a Skip)) }
+fn skipped_catch<'a>(alloc: Global, body: Box<Eliminated>) -> Result<Peel<'a>, AllocError>
+    ensures same { IfOk result (λ peel. peeled_in peel
+        ≡ record {
+          made = spec.over_one CatchSkip (Seq (done_of body.value).made.right table.cleared)
+              (done_of body.value).made;
+          quiet = true;
+        }) }
+    ensures smaller { IfOk result (λ peel. (n : ℕ) → LastIsSmaller peel n) }
 {
     let Eliminated { right, tree, .. } = Box::into_inner(body);
     let tree = over_one(alloc, Rule::CatchSkip, tree)?;
     let cleared = cleared(alloc)?;
     let right = boxed(alloc, Simpl::Seq(right, cleared))?;
-    Ok(Eliminated {
-        right,
-        tree,
-        is_quiet: true,
-    })
+    ended(
+        alloc,
+        Eliminated {
+            right,
+            tree,
+            is_quiet: true,
+        },
+    )
 }
 
 // What the whole is taken to, where its last part is taken to this; the first front is outermost.
@@ -165,13 +220,13 @@ fn skipped_catch(alloc: Global, body: Box<Eliminated>) -> Result<Eliminated, All
 fn closed(
     alloc: Global,
     mut fronts: Vec<Front>,
-    last: Eliminated,
+    last: Box<Eliminated>,
 ) -> Result<Box<Eliminated>, AllocError>
-    ensures { IfOk result (λ e. done_of e.value ≡ with_fronts fronts.items (done_of last)) }
+    ensures { IfOk result (λ e. done_of e.value ≡ with_fronts fronts.items (done_of last.value)) }
 {
     let mut whole = last;
     'back: while let Some(front) = fronts.pop() {
-        whole = with_front(alloc, front, whole)?;
+        whole = Box::new(alloc, with_front(alloc, front, Box::into_inner(whole))?)?;
     }
-    Ok(Box::new(alloc, whole)?)
+    Ok(whole)
 }
