@@ -3,3 +3,6 @@ pub mod KnownHolds
 pub mod LastingFacts
 pub mod LastingParts
 pub mod SameValues
+pub mod GivenFacts
+pub mod HeadsAgree
+pub mod SameExps

@@ -7,3 +7,5 @@ pub mod Known
 pub mod CodeFacts
 pub mod CodeChain
 pub mod CodeLasting
+pub mod Heads
+pub mod SameExp

@@ -22,6 +22,7 @@ use Rattle.expression_lang.specs.GuardKind.{GuardKind}
 use Rattle.expression_lang.specs.Machine.{Returned}
 use Rattle.monad_lang.specs.Program.{FinalUnit, FinalFn}
 use Rattle.monad_lang.specs.Run.{Answer, Failure, program_runs}
+pub use Rattle.program_facts.specs.LevelHeap.{heap_for}
 use Rattle.c_lang.specs.Typed.{TypedUnit, TypedFn, typed_fn}
 use Rattle.c_meaning.specs.CRun.{c_runs, plain}
 use Rattle.c_meaning.specs.Fitting.{AreOfTypes}
@@ -45,11 +46,6 @@ pub record IsBegin (u : TypedUnit) (f : TypedFn) (b : Begin) : Type 0 where
 -- the C run of a function, watched by levels
 abbrev pub c_ends : TypedUnit → (Name → Level) → TypedFn → Begin → Ends Returned GuardKind
 c_ends u watch f b = c_runs u watch b.choice b.turns b.depth (record { name = f.name; arguments = b.arguments; state = state_with (OnBytes b.memory) b.globals })
-
--- the heap of an abstract program at a level, for a memory
-abbrev pub heap_for : Layout → Bool → Memory → Heap
-heap_for l true m = OnTypes (view l m)
-heap_for l false m = OnBytes m
 
 -- the abstract program of a function, from a heap, the arguments being seen at the parameters' kinds
 abbrev pub program_ends : TypedUnit → Level → FinalUnit → TypedFn → Begin → Heap → Ends Answer Failure

@@ -173,7 +173,7 @@ module _ (sort_for : Kind → Scalar) (u : FinalUnit) where
     pub signed : signature_of function ≡ g
     pub sorted : is_sorted_for sort_for u function ≡ true
 
-  found : (fs : List FinalFn) (x : Name) (g : Signature) → are_sorted_for sort_for u fs ≡ true → signature (map signature_of fs) x ≡ Some g → Found (final_fn fs x) g
+  pub found : (fs : List FinalFn) (x : Name) (g : Signature) → are_sorted_for sort_for u fs ≡ true → signature (map signature_of fs) x ≡ Some g → Found (final_fn fs x) g
   found [] x g h e = absurd cc
   found (f ∷ fs) x g h e = by_name (found fs x g both.1) (same_name f.name x) e
     where
@@ -216,7 +216,7 @@ units_last sort_for u h all = record {
 }
 
 -- a well-formed unit
-sorted_at_kinds : (u : FinalUnit) (fs : List FinalFn) → are_fns_sorted u fs ≡ true → are_sorted_for sort_of_kind u fs ≡ true
+pub sorted_at_kinds : (u : FinalUnit) (fs : List FinalFn) → are_fns_sorted u fs ≡ true → are_sorted_for sort_of_kind u fs ≡ true
 sorted_at_kinds u [] h = refl
 sorted_at_kinds u (f ∷ fs) h =
     let p = and_parts (is_fn_sorted u f) (are_fns_sorted u fs) h in

@@ -6,7 +6,7 @@ use Rattle.c_values.specs.Name.{Name, same_name, with_name}
 use Rattle.c_values.specs.Types.{CType, address_width}
 use Rattle.c_values.specs.Value.{Value, word_in}
 use Rattle.c_values.specs.Layout.{Layout, IsLayout, GlobalVar, Shape, Incomplete, Scalar as WordShape, Record, Row, shape_of, is_object, global_type}
-use Rattle.c_values.specs.Path.{HasShape, upd}
+use Rattle.c_values.specs.Path.{Spot, spot, HasShape, upd}
 use Rattle.c_values.proofs.Laid.{structs_of, name_is}
 use Rattle.c_values.proofs.Parts.{laid_shape}
 use Rattle.expression_lang.specs.Expression.{Exp, Path}
@@ -149,6 +149,24 @@ module _ (g : Scope) (h : IsLayout g.layout) (vs : List GlobalVar) (known : g.gl
         heap = heap_written g.layout h t object (word_in (value g.layout env s p)).bits (steps g.layout env s path) f.end f.leads v (subst (λ r. HasShape r v) (sym f.shape) shaped) s.heap state.heap;
         globals = state.globals;
       }
+
+  -- what is written is of the shape of the part that it is written to
+  part_shaped : (t : CType) (p : Exp) (path : Path) (o : Sort) (v : Value) → typed_place g t p path ≡ Some o → HasSort g.layout o v → (r : Spot) → spot (shape_of g.layout t) (steps g.layout env s path) ≡ Some r → HasShape r.shape v
+  part_shaped t p path o v k x r e =
+      let w = only_where (is_object g.layout t && is_word_of (address_width g.layout.target) (program_sort g p)) (part_place g t path) o k in
+      let object = (and_parts (is_object g.layout t) (is_word_of (address_width g.layout.target) (program_sort g p)) w.0).0 in
+      let q = part_sorted t path o w.1 in
+      let f = fine_path g h env s names globals_there state.heap path (shape_of g.layout t) q.0 q.1 in
+      let good = good_spot g.layout (shape_of g.layout t) (steps g.layout env s path) f.end (good_object g.layout t h object) f.leads in
+      let shaped = value_shaped g.layout q.0 o v (subst (λ r. Good g.layout r) f.shape good) q.2 x in
+      let same : f.end ≡ r = some_is (sym f.leads ∙ e) in
+      subst (λ r. HasShape r.shape v) same (subst (λ r. HasShape r v) (sym f.shape) shaped)
+
+  pub written_shaped : (t : CType) (p : Exp) (path : Path) (e : Exp) → fits_place (typed_place g t p path) (program_sort g e) ≡ true → (r : Spot) → spot (shape_of g.layout t) (steps g.layout env s path) ≡ Some r →
+      HasShape r.shape (value g.layout env s e)
+  written_shaped t p path e k r leads =
+      let f = fits_inv (typed_place g t p path) (program_sort g e) k in
+      part_shaped t p path f.0 (value g.layout env s e) f.1 (value_sorted e f.0 (program_sort_inv g e f.0 f.2)) r leads
 
   global_written : (x : Name) (path : Path) (o : Sort) (v : Value) (c : Option CType) → g.globals x ≡ c → global_place g c path ≡ Some o → HasSort g.layout o v → IsState g.layout vs (written g.layout env s (Global x path) v)
   global_written x path o v None e k y = absurd cc

@@ -1,2 +1,4 @@
 pub mod Flow
 pub mod Lasting
+pub mod LevelHeap
+pub mod Places

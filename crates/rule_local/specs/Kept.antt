@@ -1,8 +1,7 @@
 -- What the phase keeps of functions: to the same call, with an argument for each parameter, flat commands and the programs that
 -- bind what their locals hold have the same result and state, fail alike and stop alike. The kind of a fault is no longer told.
 use Rattle.std.specs.Prelude.{◌≡◌, ℕ, List, [], ◌∷◌, Option, Some, None}
-use Rattle.correspondence.specs.Bound.{Functions}
-use Rattle.correspondence.specs.Corresponds.{Corresponds}
+pub use Rattle.phase_relations.specs.Related.{Related, BothFail}
 use Rattle.c_values.specs.Name.{Name}
 use Rattle.c_values.specs.Value.{Value}
 use Rattle.expression_lang.specs.Sort.{Kind}
@@ -13,15 +12,6 @@ use Rattle.simpl_lang.specs.Command.{Simpl, Skip, Throw, Set, SetGlobal, Store, 
 use Rattle.simpl_lang.specs.Exec as Simpl
 use Rattle.monad_lang.specs.Run as Mon
 use Rattle.monad_lang.specs.Run.{Answer}
-
--- Functions of two units at one bound: calls that are related have ends that correspond. How answers are related may depend on
--- the call.
-abbrev pub Related : {Call Call' A B F G : Type 0} → (Call → Call' → Type 0) → (Call → A → B → Type 0) → (F → G → Type 0) → Functions Call A F → Functions Call' B G → Type 0
-Related {Call} {Call'} calls answers faults f g = (depth : Option ℕ) (c : Call) (c' : Call') → calls c c' → Corresponds (answers c) faults (f depth c) (g depth c')
-
--- whatever the faults
-abbrev pub BothFail : {F G : Type 0} → F → G → Type 0
-BothFail f g = Unit {0}
 
 -- the result of a function as a list
 abbrev pub as_values : Option Value → List Value
