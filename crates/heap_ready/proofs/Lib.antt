@@ -1,0 +1,3 @@
+pub mod ExpressionsReady
+pub mod GuardsReady
+pub mod CommandsReady

@@ -1,0 +1,2 @@
+//! Generated programs are ready to be lifted to typed heaps.
+#![tactic(auto)]

@@ -1,0 +1,16 @@
+pub mod Alike
+pub mod InRange
+pub mod SoundValues
+pub mod StayingValues
+pub mod Sorts
+pub mod Sound
+pub mod WritesCovered
+pub mod Viewed
+pub mod Standing
+pub mod Itself
+pub mod UnitsKeep
+pub mod ExpTaken
+pub mod ExpForms
+pub mod ExpSorts
+pub mod HeapTaken
+pub mod HeapFormed
