@@ -1,0 +1,83 @@
+-- What is known of a program's parts where it gives scalars.
+use Rattle.std.proofs.Common.{◌≡◌, Bool, true, false, ◌&&◌, List, [], ◌∷◌, map, Option, Some, None, refl, sym, subst, ap, ap₂, ◌∙◌}
+use Rattle.std.proofs.lemmas.Bool.{eqb-true, and_parts}
+use Rattle.expression_lang.specs.Sort.{Scalar, WordSort, NumberSort, TruthSort, Kind, Scope, same_scalar}
+use Rattle.expression_lang.specs.Sorted.{same_scalars, with_scalar, scalar_in, program_sort}
+use Rattle.monad_lang.specs.Program.{Start}
+use Rattle.monad_lang.specs.Run.{start_names}
+use Rattle.monad_lang.specs.Sorted.{are_scalars, where_fits, and_then_scalars, start_scalars}
+use Rattle.rule_word.specs.Table.{AreMatched, start_exps}
+
+pub some_is : {A : Type 0} {a b : A} → ◌≡◌ {A = Option A} (Some a) (Some b) → a ≡ b
+some_is h = cc
+
+pub same_scalar_is : (a b : Scalar) → same_scalar a b ≡ true → a ≡ b
+same_scalar_is (WordSort m) (WordSort n) h = ap (λ k. WordSort k) (eqb-true m n h)
+same_scalar_is (WordSort m) NumberSort h = absurd cc
+same_scalar_is (WordSort m) TruthSort h = absurd cc
+same_scalar_is NumberSort (WordSort n) h = absurd cc
+same_scalar_is NumberSort NumberSort h = refl
+same_scalar_is NumberSort TruthSort h = absurd cc
+same_scalar_is TruthSort (WordSort n) h = absurd cc
+same_scalar_is TruthSort NumberSort h = absurd cc
+same_scalar_is TruthSort TruthSort h = refl
+
+same_scalars_are : (as' bs : List Scalar) → same_scalars as' bs ≡ true → as' ≡ bs
+same_scalars_are [] [] h = refl
+same_scalars_are [] (b ∷ bs) h = absurd cc
+same_scalars_are (a ∷ as') [] h = absurd cc
+same_scalars_are (a ∷ as') (b ∷ bs) h =
+    let r = and_parts (same_scalar a b) (same_scalars as' bs) h in ap₂ (λ x xs. x ∷ xs) (same_scalar_is a b r.0) (same_scalars_are as' bs r.1)
+
+pub are_inv : (cs : List Scalar) (o : Option (List Scalar)) → are_scalars cs o ≡ true → o ≡ Some cs
+are_inv cs (Some ts) h = ap (λ x. Some x) (sym (same_scalars_are cs ts h))
+are_inv cs None h = absurd cc
+
+pub fits_inv : (b : Bool) (o : Option (List Scalar)) (cs : List Scalar) → where_fits b o ≡ Some cs → (b ≡ true) × (o ≡ Some cs)
+fits_inv true o cs h = (refl, h)
+fits_inv false o cs h = absurd cc
+
+pub then_inv : (o : Option (List Scalar)) (f : List Scalar → Option (List Scalar)) (cs : List Scalar) → and_then_scalars o f ≡ Some cs → (ss : List Scalar) × (o ≡ Some ss) × (f ss ≡ Some cs)
+then_inv (Some ss) f cs h = (ss, refl, h)
+then_inv None f cs h = absurd cc
+
+-- an if gives what its branches give
+pub if_inv : (o o' : Option (List Scalar)) (b : Bool) (cs : List Scalar) → and_then_scalars o (λ ss. where_fits (b && are_scalars ss o') (Some ss)) ≡ Some cs → (o ≡ Some cs) × (o' ≡ Some cs)
+if_inv (Some ss) o' b cs h =
+    let r = fits_inv (b && are_scalars ss o') (Some ss) cs h in
+    (r.1, are_inv ss o' (and_parts b (are_scalars ss o') r.0).1 ∙ r.1)
+if_inv None o' b cs h = absurd cc
+
+-- a bind whose first part is known to give these
+pub bind_inv : (o : Option (List Scalar)) (b : List Scalar → Bool) (f : List Scalar → Option (List Scalar)) (ss cs : List Scalar) → o ≡ Some ss → and_then_scalars o (λ ts. where_fits (b ts) (f ts)) ≡ Some cs → f ss ≡ Some cs
+bind_inv o b f ss cs e h = (fits_inv (b ss) (f ss) cs (subst (λ z. and_then_scalars z (λ ts. where_fits (b ts) (f ts)) ≡ Some cs) e h)).1
+
+-- as many starts on both sides as kinds
+scalar_first : (o : Option Scalar) (r : Option (List Scalar)) (cs : List Scalar) → with_scalar o r ≡ Some cs → (c : Scalar) × (ds : List Scalar) × (cs ≡ c ∷ ds) × (r ≡ Some ds)
+scalar_first (Some c) (Some ds) cs h = (c, ds, sym (some_is h), refl)
+scalar_first None r cs h = absurd cc
+scalar_first (Some c) None cs h = absurd cc
+
+abbrev tail_of : {A : Type 0} → List A → List A
+tail_of [] = []
+tail_of (x ∷ xs) = xs
+
+pub starts_matched : (g : Scope) (f : Kind → Scalar) (xs ys : List Start) (ks : List Kind) → start_scalars g xs ≡ Some (map f ks) → start_names ys ≡ start_names xs → AreMatched (start_exps xs) ks (start_exps ys)
+starts_matched g f [] [] [] h e = tt
+starts_matched g f [] [] (k ∷ ks) h e = absurd cc
+starts_matched g f [] (y ∷ ys) ks h e = absurd cc
+starts_matched g f (x ∷ xs) [] ks h e = absurd cc
+starts_matched g f (x ∷ xs) (y ∷ ys) [] h e =
+    let r = scalar_first (scalar_in (program_sort g x.exp)) (start_scalars g xs) [] h in absurd (no_list r.0 r.1 r.2)
+  where
+    no_list : (c : Scalar) (ds : List Scalar) → ◌≡◌ {A = List Scalar} [] (c ∷ ds) → ⊥
+    no_list c ds h = cc
+starts_matched g f (x ∷ xs) (y ∷ ys) (k ∷ ks) h e =
+    let r = scalar_first (scalar_in (program_sort g x.exp)) (start_scalars g xs) (f k ∷ map f ks) h in
+    starts_matched g f xs ys ks (r.3 ∙ ap (λ z. Some z) (sym (ap tail_of r.2))) (ap tail_of e)
+
+-- a loop's body gives what its starts give
+pub loop_inv : (o : Option (List Scalar)) (b : List Scalar → Bool) (r : List Scalar → Option (List Scalar)) (ss cs : List Scalar) → o ≡ Some ss → and_then_scalars o (λ ts. where_fits (b ts && are_scalars ts (r ts)) (Some ts)) ≡ Some cs → r ss ≡ Some ss
+loop_inv o b r ss cs e h =
+    let f = fits_inv (b ss && are_scalars ss (r ss)) (Some ss) cs (subst (λ z. and_then_scalars z (λ ts. where_fits (b ts && are_scalars ts (r ts)) (Some ts)) ≡ Some cs) e h) in
+    are_inv ss (r ss) (and_parts (b ss) (are_scalars ss (r ss)) f.0).1

@@ -1,0 +1,10 @@
+pub mod Rule
+pub mod Scopes
+pub mod Table
+pub mod Kept
+pub mod Exact
+pub mod Units
+pub mod Bases
+pub mod WordsAbstracted
+pub mod ProgramsAbstracted
+pub mod Ready

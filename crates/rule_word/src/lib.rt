@@ -1,0 +1,6 @@
+//! The rules that make numbers of words, and their laws.
+#![tactic(auto)]
+
+mod laws;
+
+pub use laws::{abstracted_units_keep_words, taken_is_exact, words_are_abstracted, words_are_seen};
