@@ -48,6 +48,9 @@ fn writes(alloc: Global, count: u32) -> Result<String, AllocError> {
 fn count(alloc: Global, writes_made: u32, bytes: &[String]) -> Result<u64, Fail> {
     let text = writes(alloc, writes_made)?;
     let u = generated(alloc, text.as_str(), bytes)?;
+    if !become_programs(alloc, &u)? {
+        return Ok(0);
+    }
     match u.functions.first() {
         Some(f) => Ok(commands(&f.body)),
         None => Ok(0),
@@ -89,6 +92,7 @@ fn units_at_the_limits(rt: HostRuntime) -> Result<(), Fail> {
         let text = functions(alloc, count)?;
         let u = generated(alloc, text.as_str(), &[])?;
         assert!(rt; u.functions.len() as u64 == u64::from(count));
+        assert!(rt; become_programs(alloc, &u)?);
         let last = u.functions.last().ok_or("no function")?;
         // three for each statement, and 199 sequences; a catch with a skip around all
         assert!(rt; commands(&last.body) == 801);
@@ -118,6 +122,7 @@ fn deep_types_are_generated(rt: HostRuntime) -> Result<(), Fail> {
     let text = deep_copies(alloc, 80_000)?;
     let u = generated(alloc, text.as_str(), &on_bytes)?;
     assert!(rt; u.functions.len() == 3);
+    assert!(rt; become_programs(alloc, &u)?);
     Ok(())
 }
 
@@ -170,8 +175,5 @@ fn bodies_lose_their_exceptions_and_locals(rt: HostRuntime) -> Result<(), Fail> 
         let u = generated(alloc, text, &[])?;
         assert!(rt; become_programs(alloc, &u)?, "{text}");
     }
-    let long = functions(alloc, 4)?;
-    let u = generated(alloc, long.as_str(), &[])?;
-    assert!(rt; become_programs(alloc, &u)?);
     Ok(())
 }

@@ -290,7 +290,7 @@ fn many_locals(alloc: Global, count: u32) -> Result<bool, Fail> {
     let mut c = Simpl::Skip;
     for k in 0..count {
         let name = format!(in alloc; "v{}", k % 32)?;
-        let other = format!(in alloc; "v{}", k * 5 % 32)?;
+        let other = format!(in alloc; "v{}", k % 32 * 5 % 32)?;
         let set = Box::new(alloc, Simpl::Set(name, Exp::Var(other)))?;
         c = Simpl::Seq(set, Box::new(alloc, c)?);
     }
