@@ -1,4 +1,3 @@
 pub mod Flow
 pub mod Lasting
-pub mod LevelHeap
 pub mod Places

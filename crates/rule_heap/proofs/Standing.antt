@@ -25,7 +25,7 @@ use Rattle.expression_lang.specs.Form.{is_read}
 use Rattle.monad_lang.specs.Run.{Answer, Runs, functions_below}
 use Rattle.monad_lang.specs.Sorted.{signature_of, scalars_given, IsWellFormed}
 use Rattle.monad_lang.specs.Steady.{Viewed, Alike}
-use Rattle.program_facts.specs.LevelHeap.{heap_for}
+use Rattle.level_heaps.specs.LevelHeap.{heap_for}
 use Rattle.program_facts.specs.Lasting.{FunctionLasts, AllLast, AllKeepTags, setting_in}
 use Rattle.program_facts.proofs.KeepsTags.{units_keep_tags}
 use Rattle.program_facts.proofs.RunsLast.{formed_units_last}

@@ -22,7 +22,7 @@ use Rattle.expression_lang.specs.States.{IsEnvironment, IsState, state_with}
 use Rattle.monad_lang.specs.Program.{FinalFn, FinalUnit, final_fn}
 use Rattle.monad_lang.specs.Run.{Answer, Failure, runs, function_runs, functions_below, program_runs}
 use Rattle.monad_lang.specs.Sorted.{signature_of, scalars_given, are_scalars, has_few, IsWellFormed}
-use Rattle.program_facts.specs.LevelHeap.{heap_for}
+use Rattle.level_heaps.specs.LevelHeap.{heap_for}
 use Rattle.program_facts.specs.Lasting.{AreOfSorts, setting_in, setting_for, is_sorted_for, are_sorted_for}
 use Rattle.program_facts.proofs.KeepsTags.{units_keep_tags, calls_keep_tags}
 use Rattle.program_facts.proofs.KeepsBytes.{IsOnBytes, bytes_there, calls_keep_bytes}

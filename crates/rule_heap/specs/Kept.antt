@@ -14,7 +14,7 @@ use Rattle.expression_lang.specs.States.{IsState}
 use Rattle.monad_lang.specs.Program.{FinalUnit}
 use Rattle.monad_lang.specs.Run.{Answer, Runs}
 use Rattle.monad_lang.specs.Sorted.{signature_of}
-use Rattle.program_facts.specs.LevelHeap.{heap_for}
+use Rattle.level_heaps.specs.LevelHeap.{heap_for}
 use Rattle.program_facts.specs.Lasting.{AreOfSorts}
 
 -- a call that can be: of a function of the unit, with arguments of its parameters' sorts, in a state that can be

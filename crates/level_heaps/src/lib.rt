@@ -1,0 +1,1 @@
+//! The heap that a function of a level works on.
