@@ -26,11 +26,11 @@ abbrev pub Unless : Bool → Type 0 → Type 0
 Unless true P = Unit {0}
 Unless false P = P
 
-unless_map : (b : Bool) (P Q : Type 0) → (P → Q) → Unless b P → Unless b Q
+pub unless_map : (b : Bool) (P Q : Type 0) → (P → Q) → Unless b P → Unless b Q
 unless_map true P Q k h = tt
 unless_map false P Q k h = k h
 
-unless_there : (b : Bool) (P : Type 0) → P → Unless b P
+pub unless_there : (b : Bool) (P : Type 0) → P → Unless b P
 unless_there true P h = tt
 unless_there false P h = h
 
@@ -56,7 +56,7 @@ all_under fs c (g ∷ gs) k h =
 pub under_whole : (fs : List Fact) (c : E.Exp) (gs : List Condition) → AllGiven fs (under c gs) → AllGiven (Whole (exp_lifted c) ∷ fs) gs
 under_whole fs c gs h = all_under (Whole (exp_lifted c) ∷ fs) c gs (first_at_once (Whole (exp_lifted c)) fs) (all_more (Whole (exp_lifted c)) fs (under c gs) h)
 
-under_not : (fs : List Fact) (c : E.Exp) (gs : List Condition) → AllGiven fs (under (E.Not c) gs) → AllGiven (NotTrue (exp_lifted c) ∷ fs) gs
+pub under_not : (fs : List Fact) (c : E.Exp) (gs : List Condition) → AllGiven fs (under (E.Not c) gs) → AllGiven (NotTrue (exp_lifted c) ∷ fs) gs
 under_not fs c gs h = all_under (NotTrue (exp_lifted c) ∷ fs) (E.Not c) gs (first_at_once (NotTrue (exp_lifted c)) fs) (all_more (NotTrue (exp_lifted c)) fs (under (E.Not c) gs) h)
 
 -- paths
@@ -127,7 +127,7 @@ number_ready l fs t e h = by_sign (is_signed_type t)
     by_sign true = h
     by_sign false = h
 
-cast_ready : (l : Layout) (fs : List Fact) (to from : ℕ) (s : Bool) (e : E.Exp) → IsReady l fs e → IsReady l fs (cast_to to from s e)
+pub cast_ready : (l : Layout) (fs : List Fact) (to from : ℕ) (s : Bool) (e : E.Exp) → IsReady l fs e → IsReady l fs (cast_to to from s e)
 cast_ready l fs to from s e h = by_widths (to == from) (nat_lt to from) s
   where
     by_widths : (a b c : Bool) → IsReady l fs (cond a e (cond b (E.Cast E.Trunc to e) (cond c (E.Cast E.Sext to e) (E.Cast E.Zext to e))))

@@ -54,21 +54,21 @@ module _ (g : Scope) (level : Level) (lifted : is_lifted level ≡ true) where
   InOrder before cs = AreInOrder l before cs
 
   -- from nothing is from anything
-  after_any : (before cs : List Condition) → InOrder [] cs → InOrder before cs
+  pub after_any : (before cs : List Condition) → InOrder [] cs → InOrder before cs
   after_any before cs h = from_more l [] before (λ fs a. tt) cs h
 
   -- two expressions, one after the other
-  two : (as' bs : List Condition) → InOrder [] as' → InOrder [] bs → InOrder [] (as' ++ bs)
+  pub two : (as' bs : List Condition) → InOrder [] as' → InOrder [] bs → InOrder [] (as' ++ bs)
   two as' bs h k = in_order_after l [] as' bs h (after_any as' bs k)
 
-  truth_there : (a : C.Expr) → is_typed g a ≡ true → (fs : List Fact) → AllGiven fs (guards l level a) → IsReady l fs (reading l a).truth
+  pub truth_there : (a : C.Expr) → is_typed g a ≡ true → (fs : List Fact) → AllGiven fs (guards l level a) → IsReady l fs (reading l a).truth
   truth_there a t fs h = (reading_ready g level lifted a fs t h).truth
 
-  value_there : (a : C.Expr) → is_typed g a ≡ true → (fs : List Fact) → AllGiven fs (guards l level a) → IsReady l fs (reading l a).value
+  pub value_there : (a : C.Expr) → is_typed g a ≡ true → (fs : List Fact) → AllGiven fs (guards l level a) → IsReady l fs (reading l a).value
   value_there a t fs h = (reading_ready g level lifted a fs t h).value
 
   -- conditions under one that is ready from those before
-  below : (before : List Condition) (c : E.Exp) → ((fs : List Fact) → AllGiven fs before → IsReady l fs c) → (gs : List Condition) → InOrder [] gs → InOrder before (under c gs)
+  pub below : (before : List Condition) (c : E.Exp) → ((fs : List Fact) → AllGiven fs before → IsReady l fs c) → (gs : List Condition) → InOrder [] gs → InOrder before (under c gs)
   below before c ready gs h = under_whole_order l c before ready [] before (λ fs a. (a, tt)) gs h
 
   -- the root of an access

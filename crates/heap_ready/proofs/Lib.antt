@@ -1,3 +1,4 @@
 pub mod ExpressionsReady
 pub mod GuardsReady
 pub mod CommandsReady
+pub mod EliminatedReady
