@@ -2,3 +2,4 @@ pub mod ExpressionsReady
 pub mod GuardsReady
 pub mod CommandsReady
 pub mod EliminatedReady
+pub mod LiftedReady
