@@ -3,3 +3,4 @@ pub mod GuardsReady
 pub mod CommandsReady
 pub mod EliminatedReady
 pub mod LiftedReady
+pub mod GeneratedReady
