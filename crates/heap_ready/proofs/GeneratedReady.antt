@@ -65,9 +65,9 @@ module _ (g : Scope) (level : Level) (lifted : is_lifted level ≡ true) where
   do_while_ready k gs e s h i j = (
     (λ fs a. tt),
     looped_ready (after_first k gs) (E.Or (E.Var (first_local k)) e) (Seq (Set (first_local k) (E.TruthLit false)) (body_of_loop s))
-    (subst (λ hs. InOrder hs) (sym (after_is_under k gs)) (under_whole_order l (E.Not (E.Var (first_local k))) [] (λ fs a. tt) [] [] (λ fs a. (tt, tt)) gs h))
-    (λ fs a. (tt, i _ (under_not fs (E.Var (first_local k)) gs (subst (λ hs. AllGiven fs hs) (after_is_under k gs) a))))
-    ((λ fs a. tt), body_ready s j),
+        (subst (λ hs. InOrder hs) (sym (after_is_under k gs)) (under_whole_order l (E.Not (E.Var (first_local k))) [] (λ fs a. tt) [] [] (λ fs a. (tt, tt)) gs h))
+        (λ fs a. (tt, i _ (under_not fs (E.Var (first_local k)) gs (subst (λ hs. AllGiven fs hs) (after_is_under k gs) a))))
+        ((λ fs a. tt), body_ready s j),
   )
 
   -- targets
@@ -115,9 +115,11 @@ module _ (g : Scope) (level : Level) (lifted : is_lifted level ≡ true) where
   use_ready gs n f es None (C.Assigned from d) w h = absurd (false≢true w)
   use_ready gs n f es (Some t) (C.Assigned from d) w h =
       let typed = (and_parts (same_type t from && is_scalar (C.target_type d)) (is_typed_target g d) w).1 in
-      let e = conversion l.target (C.target_type d) from (E.Var (call_local n)) in
-      (h, around (target_guards l level d) (assignment l d e) (target_in_order d typed)
-      (assignment_ready (target_guards l level d) d e typed (λ fs a. a) (λ fs a. conversion_ready fs (C.target_type d) from (call_local n))))
+      let e = conversion l.target (C.target_type d) from (E.Var (call_local n)) in (
+        h,
+        around (target_guards l level d) (assignment l d e) (target_in_order d typed)
+            (assignment_ready (target_guards l level d) d e typed (λ fs a. a) (λ fs a. conversion_ready fs (C.target_type d) from (call_local n))),
+      )
   use_ready gs n f es o (C.Returned from to) w h = (h, ((λ fs a. conversion_ready fs to from (call_local n)), jump_ready returned))
 
   called_ready : (n : ℕ) (f : Name) (es : List C.Expr) (u : C.Use) (o : Option C.TypedFn) → is_call_of g o es u ≡ true → Ready (call_of l level n f es u)

@@ -4,3 +4,6 @@ pub mod CommandsReady
 pub mod EliminatedReady
 pub mod LiftedReady
 pub mod GeneratedReady
+pub mod ReadyBytes
+pub mod CallsKept
+pub mod UnitsReady
