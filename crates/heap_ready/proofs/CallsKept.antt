@@ -1,5 +1,5 @@
 -- Which functions are called: those that the text calls, through generation, without exceptions, and as programs.
-use Rattle.std.proofs.Common.{◌≡◌, ℕ, Bool, true, false, ◌&&◌, List, [], ◌∷◌, ◌++◌, Option, Some, None, refl, sym, ◌∙◌}
+use Rattle.std.proofs.Common.{◌≡◌, ℕ, Bool, true, false, List, [], ◌∷◌, ◌++◌, Option, Some, None, refl, sym, ◌∙◌}
 use Rattle.std.specs.List.{list_all}
 use Rattle.std.proofs.lemmas.Bool.{and_parts, and_from}
 use Rattle.std.proofs.lemmas.List.Folds.{list_all-append}
@@ -18,7 +18,7 @@ use Rattle.rule_heap.specs.Calls.{calls_only}
 use Rattle.c_lang.specs.Typed as C
 use Rattle.c_meaning.specs.Levels.{callees, callees_in, callees_of}
 use Rattle.generation.specs.Guards.{exp, exps, truth, guards, argument_guards}
-use Rattle.generation.specs.Generate.{guarded, assignment, target_guards, call, call_of, in_order, is_empty, cases, command, commands, before, cases_of, default_of, whole_body}
+use Rattle.generation.specs.Generate.{guarded, assignment, target_guards, call, in_order, is_empty, cases, command, commands, before, cases_of, default_of, whole_body}
 
 module _ (test : Name → Bool) where
   -- each function that a command calls passes the test

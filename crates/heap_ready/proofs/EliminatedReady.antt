@@ -4,32 +4,14 @@ use Rattle.std.proofs.Common.{◌≡◌, Bool, true, false, List, [], ◌∷◌,
 use Rattle.c_values.specs.Layout.{Layout}
 use Rattle.expression_lang.specs.Expression.{Exp, And, Not}
 use Rattle.simpl_lang.specs.Command.{Condition, Simpl, Skip, Throw, Set, SetGlobal, Store, Pick, Seq, Cond, Guard, Catch, While, Call}
-use Rattle.ac_expr.specs.Fact.{Fact}
 use Rattle.rule_heap.specs.ExpLifted.{IsReady}
 use Rattle.rule_exn.specs.Quiet.{quiet}
-use Rattle.rule_exn.specs.Table.{is_thrown, cleared, asked_unless_thrown, unless_thrown}
+use Rattle.rule_exn.specs.Table.{is_thrown, asked_unless_thrown, unless_thrown}
 use Rattle.rule_exn.specs.Eliminated.{Eliminated, exceptions_eliminated, in_sequence, caught, repeated}
 use Rattle.generation.specs.Guards.{under}
-use Rattle.heap_ready.proofs.ExpressionsReady.{AllGiven, AreInOrder, split, all_split, under_whole, under_whole_order}
-use Rattle.heap_ready.proofs.CommandsReady.{Under, IsCommandReady}
-
--- what is ready from some conditions is ready from any that give them
-pub command_from_more : (l : Layout) (before now : List Condition) → ((fs : List Fact) → AllGiven fs now → AllGiven fs before) → (a : Simpl) → IsCommandReady l before a → IsCommandReady l now a
-command_from_more l before now k Skip h = tt
-command_from_more l before now k Throw h = tt
-command_from_more l before now k (Set x e) h = λ fs g. h fs (k fs g)
-command_from_more l before now k (SetGlobal x path e) h = λ fs g. h fs (k fs g)
-command_from_more l before now k (Store t p path e) h = λ fs g. h fs (k fs g)
-command_from_more l before now k (Pick x) h = tt
-command_from_more l before now k (Seq a b) h = (command_from_more l before now k a h.0, h.1)
-command_from_more l before now k (Cond e a b) h = ((λ fs g. h.0 fs (k fs g)), h.1, h.2)
-command_from_more l before now k (Guard c a) h = (
-  (λ fs g. h.0 fs (k fs g)),
-  command_from_more l (before ++ (c ∷ [])) (now ++ (c ∷ [])) (λ fs g. let s = split fs now (c ∷ []) g in all_split fs before (c ∷ []) (k fs s.0) s.1) a h.1,
-)
-command_from_more l before now k (Catch a b) h = h
-command_from_more l before now k (While cs e a) h = h
-command_from_more l before now k (Call x f es) h = λ fs g. h fs (k fs g)
+use Rattle.heap_ready.specs.CommandReady.{AllGiven, Under, AreInOrder, IsCommandReady}
+use Rattle.heap_ready.proofs.ExpressionsReady.{under_whole, under_whole_order}
+use Rattle.heap_ready.proofs.CommandsReady.{command_from_more}
 
 unless_is_under : (cs : List Condition) → unless_thrown cs ≡ under (Not is_thrown) cs
 unless_is_under [] = refl

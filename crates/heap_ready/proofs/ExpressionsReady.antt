@@ -13,6 +13,7 @@ use Rattle.ac_expr.proofs.GivenFacts.{IsGiven, IsGivenAtOnce, given_more, first_
 use Rattle.rule_heap.specs.Table.{AreInRange, InMember}
 use Rattle.rule_heap.specs.ExpLifted.{exp_lifted, path_lifted, IsReady, IsPathReady}
 use Rattle.rule_heap.specs.HeapLifted.{is_ptrok}
+use Rattle.heap_ready.specs.CommandReady.{Unless, AllGiven, AreInOrder}
 use Rattle.c_lang.specs.Typed as C
 use Rattle.c_lang.specs.WellTyped.{Scope, is_typed, is_typed_place, are_typed_indices, shape_along, member_shape, leads_to}
 use Rattle.generation.specs.Guards.{when, is_signed_type, Reading, as_value, as_test, reading, content, address, path_of, number, under, bounds, accesses, guards, place_guards, index_guards, cast_to, shift, comparison, equation, moved_by}
@@ -21,11 +22,6 @@ use Rattle.c_values.specs.Word.{Wsshr, Wushr}
 use Rattle.c_lang.specs.WellTyped.{has_type, has_scalar_type, has_integer_type, is_in_memory}
 use Rattle.c_values.specs.Layout.{is_scalar, scalar_width}
 
--- Each condition is given, on the right side. A test that a pointer may point need not be: it is gone where its tag's stands behind it.
-abbrev pub Unless : Bool → Type 0 → Type 0
-Unless true P = Unit {0}
-Unless false P = P
-
 pub unless_map : (b : Bool) (P Q : Type 0) → (P → Q) → Unless b P → Unless b Q
 unless_map true P Q k h = tt
 unless_map false P Q k h = k h
@@ -33,10 +29,6 @@ unless_map false P Q k h = k h
 pub unless_there : (b : Bool) (P : Type 0) → P → Unless b P
 unless_there true P h = tt
 unless_there false P h = h
-
-abbrev pub AllGiven : List Fact → List Condition → Type 0
-AllGiven fs [] = Unit {0}
-AllGiven fs (g ∷ gs) = Unless (is_ptrok g.exp) (IsGiven fs (exp_lifted g.exp)) × AllGiven fs gs
 
 pub split : (fs : List Fact) (gs hs : List Condition) → AllGiven fs (gs ++ hs) → AllGiven fs gs × AllGiven fs hs
 split fs [] hs h = (tt, h)
@@ -292,10 +284,7 @@ module _ (g : Scope) (level : Level) (lifted : is_lifted level ≡ true) where
         let j = split fs (guards l level e) (index_guards l level path) h in
         (number_ready l fs (C.type_of e) (reading l e).value (reading_ready e fs (and_parts (has_integer_type e) (is_typed g e) k.0).1 j.0).value, path_ready path fs k.1 j.1)
 
--- conditions in order: each is ready wherever those before it are given
-abbrev pub AreInOrder : Layout → List Condition → List Condition → Type 0
-AreInOrder l before [] = Unit {0}
-AreInOrder l before (c ∷ cs) = ((fs : List Fact) → AllGiven fs before → IsReady l fs c.exp) × AreInOrder l (before ++ (c ∷ [])) cs
+-- conditions in order
 
 pub all_split : (fs : List Fact) (gs hs : List Condition) → AllGiven fs gs → AllGiven fs hs → AllGiven fs (gs ++ hs)
 all_split fs [] hs h k = k

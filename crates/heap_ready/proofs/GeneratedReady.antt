@@ -2,22 +2,22 @@
 use Rattle.std.proofs.Common.{◌≡◌, ℕ, Bool, true, false, ◌&&◌, List, [], ◌∷◌, ◌++◌, Option, Some, None, ℤ, refl, sym, ap, subst}
 use Rattle.std.proofs.lemmas.Bool.{and_parts, false≢true}
 use Rattle.c_values.specs.Name.{Name}
-use Rattle.c_values.specs.Types.{Target, IntType, CType, Integer, same_type}
+use Rattle.c_values.specs.Types.{IntType, CType, Integer, same_type}
 use Rattle.c_values.specs.Layout.{Layout, is_scalar, scalar_width}
 use Rattle.expression_lang.specs.Expression as E
-use Rattle.expression_lang.specs.GuardKind as K
 use Rattle.expression_lang.specs.Sort.{Level, is_lifted}
-use Rattle.simpl_lang.specs.Command.{Condition, Simpl, Skip, Throw, Set, SetGlobal, Store, Pick, Seq, Cond, Guard, Catch, While, Call}
-use Rattle.ac_expr.specs.Fact.{Fact, Whole, NotTrue}
+use Rattle.simpl_lang.specs.Command.{Condition, Simpl, Set, Seq, Cond, Catch}
+use Rattle.ac_expr.specs.Fact.{Fact}
 use Rattle.rule_heap.specs.ExpLifted.{IsReady}
 use Rattle.rule_heap.specs.HeapLifted.{AreReady}
 use Rattle.c_lang.specs.Typed as C
 use Rattle.c_lang.specs.WellTyped.{Scope, Around, nowhere, in_a_loop, in_a_switch, is_typed, is_typed_at, is_typed_scalar, is_typed_target, is_typed_test, has_type, has_scalar_type, are_arguments, is_use_of, is_call_of, is_type, are_values, are_different, has_one_default, all_labels, is_statement, are_statements, are_groups}
-use Rattle.generation.specs.Guards.{when, reading, exp, exps, truth, number, conversion, is_signed_type, guards, argument_guards, place_guards, accesses, under}
+use Rattle.generation.specs.Guards.{when, exp, exps, truth, conversion, is_signed_type, guards, argument_guards, place_guards, accesses, under}
 use Rattle.generation.specs.Generate.{call_local, switch_local, first_local, returned, broken, continued, jump, stops_at, body_of_loop, looped, guarded, assignment, target_guards, call, call_of, test_guards, test_truth, after_first, do_while, is_one_of, cases, in_order, is_empty, command, commands, before, cases_of, default_of, whole_body}
-use Rattle.heap_ready.proofs.ExpressionsReady.{AllGiven, AreInOrder, split, under_not, under_whole_order, cast_ready, content_ready}
+use Rattle.heap_ready.specs.CommandReady.{AllGiven, Under, AreInOrder, IsCommandReady}
+use Rattle.heap_ready.proofs.ExpressionsReady.{split, under_not, under_whole_order, cast_ready, content_ready}
 use Rattle.heap_ready.proofs.GuardsReady.{two, truth_there, value_there, guards_ready}
-use Rattle.heap_ready.proofs.CommandsReady.{Under, IsCommandReady, guarded_ready}
+use Rattle.heap_ready.proofs.CommandsReady.{guarded_ready}
 
 after_is_under : (k : ℕ) (gs : List Condition) → after_first k gs ≡ under (E.Not (E.Var (first_local k))) gs
 after_is_under k [] = refl

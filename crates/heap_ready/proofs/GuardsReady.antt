@@ -11,7 +11,8 @@ use Rattle.rule_heap.specs.ExpLifted.{IsReady}
 use Rattle.c_lang.specs.Typed as C
 use Rattle.c_lang.specs.WellTyped.{Scope, is_typed, is_typed_place, are_typed_indices, leads_to, shape_along, has_type, has_scalar_type, has_integer_type, is_in_memory}
 use Rattle.generation.specs.Guards.{reading, number, under, bounds, accesses, guards, place_guards, index_guards, fits, divides, computes, shifts}
-use Rattle.heap_ready.proofs.ExpressionsReady.{AllGiven, split, AreInOrder, from_more, in_order_after, under_whole_order, reading_ready, number_ready, both_typed, three_typed}
+use Rattle.heap_ready.specs.CommandReady.{AllGiven, AreInOrder}
+use Rattle.heap_ready.proofs.ExpressionsReady.{split, from_more, in_order_after, under_whole_order, reading_ready, number_ready, both_typed, three_typed}
 
 -- each condition is ready
 abbrev AllReady : Layout → List Fact → List Condition → Type 0

@@ -17,8 +17,8 @@ use Rattle.rule_heap.specs.HeapLifted.{is_pair, is_ptrok, Where, AreReady, AreSt
 use Rattle.rule_local.specs.Rule.{Context}
 use Rattle.rule_local.specs.Table.{vars, vars_with, as_starts, conj, zero_exp, zero_first, zeros}
 use Rattle.rule_local.specs.Lifted.{Lifted, set_lifted, lifted, zeros_there, begun, locals_lifted}
-use Rattle.heap_ready.proofs.ExpressionsReady.{Unless, unless_there, AllGiven, AreInOrder, all_more, all_split}
-use Rattle.heap_ready.proofs.CommandsReady.{IsCommandReady}
+use Rattle.heap_ready.specs.CommandReady.{Unless, AllGiven, AreInOrder, IsCommandReady}
+use Rattle.heap_ready.proofs.ExpressionsReady.{unless_there, all_more, all_split}
 
 -- no pair begins with what is lifted
 

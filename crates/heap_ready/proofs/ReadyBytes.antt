@@ -1,5 +1,5 @@
 -- What is ready for typed heaps is in bytes form: no read and no write of typed heaps is ready.
-use Rattle.std.proofs.Common.{◌≡◌, Bool, true, false, ◌&&◌, ◌||◌, List, [], ◌∷◌, refl, subst}
+use Rattle.std.proofs.Common.{◌≡◌, Bool, true, false, ◌||◌, List, [], ◌∷◌, refl, subst}
 use Rattle.std.proofs.lemmas.Bool.{and_parts, or_parts, or_from, not_from_false}
 use Rattle.c_values.specs.Name.{Name}
 use Rattle.c_values.specs.Types.{same_type}

@@ -5,7 +5,6 @@ use Rattle.std.proofs.lemmas.Bool.{and_parts}
 use Rattle.c_values.specs.Name.{Name, are_distinct}
 use Rattle.c_values.specs.Layout.{Layout}
 use Rattle.expression_lang.specs.Sort.{Level, is_lifted}
-use Rattle.simpl_lang.specs.Command.{SimplFn}
 use Rattle.rule_exn.specs.Eliminated.{exceptions_eliminated}
 use Rattle.rule_local.specs.Units.{outputs_of, context_of}
 use Rattle.rule_local.specs.Lifted.{locals_lifted, function_lifted, functions_lifted}

@@ -1,1 +1,2 @@
+pub mod CommandReady
 pub mod Ready

@@ -1,8 +1,56 @@
-//! That generated programs are ready, as a contract of a function that does nothing.
+//! That generated programs are ready, as contracts of functions that do nothing: three steps, and units.
 
-ghost use Rattle.c_lang.specs.Typed.{TypedUnit};
-ghost use Rattle.c_lang.specs.WellTyped.{IsWellTyped};
+ghost use Rattle.std.specs.Prelude.{◌≡◌, true, List, [], Option};
+ghost use Rattle.c_values.specs.Name.{Name};
+ghost use Rattle.c_values.specs.Types.{CType};
+ghost use Rattle.c_values.specs.Layout.{Layout};
+ghost use Rattle.expression_lang.specs.Sort.{Level, is_lifted};
+ghost use Rattle.expression_lang.specs.Signature.{Binder};
+ghost use Rattle.simpl_lang.specs.Command.{Condition, Simpl};
+ghost use Rattle.ac_expr.specs.Fact.{Fact};
+ghost use Rattle.monad_lang.specs.Program.{Mon};
+ghost use Rattle.monad_lang.specs.Form.{is_bytes};
+ghost use Rattle.rule_exn.specs.Eliminated.{exceptions_eliminated};
+ghost use Rattle.rule_local.specs.Rule.{Context};
+ghost use Rattle.rule_local.specs.Lifted.{lifted, locals_lifted};
+ghost use Rattle.rule_heap.specs.HeapLifted.{IsHeapReady};
+ghost use Rattle.c_lang.specs.Typed.{Statements, TypedUnit};
+ghost use Rattle.c_lang.specs.WellTyped.{Scope, Around, are_statements, IsWellTyped};
+ghost use Rattle.generation.specs.Generate.{commands, whole_body};
+ghost use Rattle.heap_ready.specs.CommandReady.{AllGiven, IsCommandReady};
 ghost use Rattle.heap_ready.specs.Ready.{GeneratesReady};
+
+/// On typed heaps, what well-typed statements are generated to is ready: the conditions of each statement give what its
+/// loads and its store need.
+pub fn generated_commands_are_ready()
+    ensures { (g : Scope) (level : Level) → is_lifted level ≡ true →
+        (around : Around) (ss : Statements) (result : Option CType) →
+        are_statements g around ss ≡ true →
+        IsCommandReady g.layout [] (whole_body result (commands g.layout level ss)) }
+{}
+
+/// A ready command stays ready without exceptions.
+pub fn exceptions_leave_commands_ready()
+    ensures { (l : Layout) (around : List Condition) (a : Simpl) →
+        IsCommandReady l around a → IsCommandReady l around (exceptions_eliminated a).right }
+{}
+
+/// A ready command's locals are lifted to a ready program: a part's under any facts that give the conditions around it, and a
+/// function's from none.
+pub fn ready_commands_are_lifted_ready()
+    ensures part { (l : Layout) (locals : List Binder) (around : List Condition) (a : Simpl)
+        (outputs : List Name) → IsCommandReady l around a →
+        (facts : List Fact) → AllGiven facts around →
+        IsHeapReady l facts (lifted locals a outputs).right }
+    ensures body { (l : Layout) (ctx : Context) (a : Simpl) (outputs : List Name) →
+        IsCommandReady l [] a → IsHeapReady l [] (locals_lifted ctx a outputs).right }
+{}
+
+/// A ready program has no read and no write of typed heaps.
+pub fn ready_programs_are_on_bytes()
+    ensures { (l : Layout) (m : Mon) (facts : List Fact) → IsHeapReady l facts m →
+        is_bytes m ≡ true }
+{}
 
 /// What a well-typed unit is generated to, with its exceptions eliminated and its locals lifted, is ready for typed heaps at
 /// whatever levels, where a function on typed heaps calls such functions alone: each of these is a program on bytes, in which

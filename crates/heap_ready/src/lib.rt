@@ -3,4 +3,8 @@
 
 mod laws;
 
-pub use laws::generated_units_are_ready_for_heaps;
+pub use laws::{
+    exceptions_leave_commands_ready, generated_commands_are_ready,
+    generated_units_are_ready_for_heaps, ready_commands_are_lifted_ready,
+    ready_programs_are_on_bytes,
+};
