@@ -7,3 +7,4 @@ pub mod GeneratedReady
 pub mod ReadyBytes
 pub mod CallsKept
 pub mod UnitsReady
+pub mod DefaultLevels

@@ -16,9 +16,10 @@ ghost use Rattle.rule_local.specs.Lifted.{lifted, locals_lifted};
 ghost use Rattle.rule_heap.specs.HeapLifted.{IsHeapReady};
 ghost use Rattle.c_lang.specs.Typed.{Statements, TypedUnit};
 ghost use Rattle.c_lang.specs.WellTyped.{Scope, Around, are_statements, IsWellTyped};
+ghost use Rattle.c_meaning.specs.Levels.{AreDefaultLevels};
 ghost use Rattle.generation.specs.Generate.{commands, whole_body};
 ghost use Rattle.heap_ready.specs.CommandReady.{AllGiven, IsCommandReady};
-ghost use Rattle.heap_ready.specs.Ready.{GeneratesReady};
+ghost use Rattle.heap_ready.specs.Ready.{CallsLifted, GeneratesReady};
 
 /// On typed heaps, what well-typed statements are generated to is ready: the conditions of each statement give what its
 /// loads and its store need.
@@ -57,4 +58,10 @@ pub fn ready_programs_are_on_bytes()
 /// each load and each store stands where it is known that its root is covered and its indices are in range.
 pub fn generated_units_are_ready_for_heaps()
     ensures { (u : TypedUnit) → IsWellTyped u → GeneratesReady u }
+{}
+
+/// At the levels that functions have by default, a function on typed heaps calls such functions alone.
+pub fn default_levels_call_lifted()
+    ensures { (u : TypedUnit) (bytes words : List Name) (levels : Name → Level) → IsWellTyped u →
+        AreDefaultLevels u bytes words levels → CallsLifted levels u.functions }
 {}
