@@ -22,7 +22,7 @@ use Rattle.c_values.specs.Word.{Wsshr, Wushr}
 use Rattle.c_lang.specs.WellTyped.{has_type, has_scalar_type, has_integer_type, is_in_memory}
 use Rattle.c_values.specs.Layout.{is_scalar, scalar_width}
 
-pub unless_map : (b : Bool) (P Q : Type 0) → (P → Q) → Unless b P → Unless b Q
+unless_map : (b : Bool) (P Q : Type 0) → (P → Q) → Unless b P → Unless b Q
 unless_map true P Q k h = tt
 unless_map false P Q k h = k h
 

@@ -55,7 +55,7 @@ module _ (g : Scope) (level : Level) (lifted : is_lifted level ≡ true) where
   InOrder before cs = AreInOrder l before cs
 
   -- from nothing is from anything
-  pub after_any : (before cs : List Condition) → InOrder [] cs → InOrder before cs
+  after_any : (before cs : List Condition) → InOrder [] cs → InOrder before cs
   after_any before cs h = from_more l [] before (λ fs a. tt) cs h
 
   -- two expressions, one after the other
@@ -69,7 +69,7 @@ module _ (g : Scope) (level : Level) (lifted : is_lifted level ≡ true) where
   value_there a t fs h = (reading_ready g level lifted a fs t h).value
 
   -- conditions under one that is ready from those before
-  pub below : (before : List Condition) (c : E.Exp) → ((fs : List Fact) → AllGiven fs before → IsReady l fs c) → (gs : List Condition) → InOrder [] gs → InOrder before (under c gs)
+  below : (before : List Condition) (c : E.Exp) → ((fs : List Fact) → AllGiven fs before → IsReady l fs c) → (gs : List Condition) → InOrder [] gs → InOrder before (under c gs)
   below before c ready gs h = under_whole_order l c before ready [] before (λ fs a. (a, tt)) gs h
 
   -- the root of an access

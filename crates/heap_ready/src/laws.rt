@@ -36,8 +36,8 @@ pub fn exceptions_leave_commands_ready()
         IsCommandReady l around a → IsCommandReady l around (exceptions_eliminated a).right }
 {}
 
-/// A ready command's locals are lifted to a ready program: a part's under any facts that give the conditions around it, and a
-/// function's from none.
+/// A ready command is lifted to a ready program: a part of a body under any facts that give the conditions around it, and
+/// a body from none.
 pub fn ready_commands_are_lifted_ready()
     ensures part { (l : Layout) (locals : List Binder) (around : List Condition) (a : Simpl)
         (outputs : List Name) → IsCommandReady l around a →
@@ -53,9 +53,9 @@ pub fn ready_programs_are_on_bytes()
         is_bytes m ≡ true }
 {}
 
-/// What a well-typed unit is generated to, with its exceptions eliminated and its locals lifted, is ready for typed heaps at
-/// whatever levels, where a function on typed heaps calls such functions alone: each of these is a program on bytes, in which
-/// each load and each store stands where it is known that its root is covered and its indices are in range.
+/// What a well-typed unit is generated to, with its exceptions eliminated and its locals lifted, is ready for typed heaps
+/// at whatever levels, where a function on typed heaps calls such functions alone: each of these is a program on bytes,
+/// in which each load and each store stands where it is known that its root is covered and its indices are in range.
 pub fn generated_units_are_ready_for_heaps()
     ensures { (u : TypedUnit) → IsWellTyped u → GeneratesReady u }
 {}
