@@ -58,8 +58,8 @@ module _ (ctx : Context) (names : List Binder) (same : Exp → Exp → Bool) (is
   -- a word that is taken at a base is taken at each view
   as_word_taken : (fs : List Fact) (base : Base) (n : ℕ) (e : Exp) (x : Abstracted) → sort_of g e ≡ word_sort n → Taken fs e (view_at_base base n) x → Taken fs e (AsIs (word_sort n)) (as_word base n x)
   as_word_taken fs Words n e x q h = h
-  as_word_taken fs Naturals n e x q h = ((q, refl), (h, tt))
-  as_word_taken fs Integers n e x q h = ((q, refl), (h, tt))
+  as_word_taken fs Naturals n e x q h = ((q, (refl, refl)), (h, tt))
+  as_word_taken fs Integers n e x q h = ((q, (refl, refl)), (h, tt))
 
   as_is_taken : (fs : List Fact) (o p : Option Sort) (e : Exp) (x : Abstracted) → p ≡ o → Taken fs e (AsIs o) x → Taken fs e (AsIs p) x
   as_is_taken fs o p e x h t = subst (λ z. Taken fs e (AsIs z) x) (sym h) t
@@ -209,7 +209,7 @@ module _ (ctx : Context) (names : List Binder) (same : Exp → Exp → Bool) (is
   zext_taken fs m n a x q p h (Unsigned k) w = let r = width_row (width_in g a) n (λ j. expression (point fs) a (Unsigned j) x.right ∷ []) (one x) (width_some a n p) (h, tt) in ((q ∙ sym w, r.0), r.1)
   zext_taken fs m n a x q p h (Signed k) w = let r = width_row (width_in g a) n (λ j. expression (point fs) a (Unsigned j) x.right ∷ []) (one x) (width_some a n p) (h, tt) in ((q ∙ sym w, r.0), r.1)
   zext_taken fs m n a x q p h (AsIs o) w =
-      let r = width_row (width_in g a) n (λ j. expression (point fs) a (Unsigned j) x.right ∷ []) (one x) (width_some a n p) (h, tt) in ((q ∙ sym w, refl), (((q, r.0), r.1), tt))
+      let r = width_row (width_in g a) n (λ j. expression (point fs) a (Unsigned j) x.right ∷ []) (one x) (width_some a n p) (h, tt) in ((q ∙ sym w, (refl, w)), (((q, r.0), r.1), tt))
 
   sext_taken : (fs : List Fact) (m n : ℕ) (a : Exp) (x : Abstracted) → sort_of g (X.Cast X.Sext m a) ≡ word_sort m → sort_of g a ≡ word_sort n → Taken fs a (Signed n) x → (v : View) → sort_seen v ≡ word_sort m → Taken fs (X.Cast X.Sext m a) v (extended_signed v m x)
   sext_taken fs m n a x q p h v w =

@@ -6,6 +6,7 @@ pub mod InRange
 pub mod PlacesAgree
 pub mod ProgramSorts
 pub mod Recasts
+pub mod ProgramsGive
 pub mod SoundPrograms
 pub mod Standing
 pub mod SettingsAlike

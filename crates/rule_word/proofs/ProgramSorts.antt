@@ -1,12 +1,13 @@
 -- What is known of a program's parts where it gives scalars.
-use Rattle.std.proofs.Common.{◌≡◌, Bool, true, false, ◌&&◌, List, [], ◌∷◌, map, Option, Some, None, refl, sym, subst, ap, ap₂, ◌∙◌}
+use Rattle.std.proofs.Common.{◌≡◌, Bool, true, false, cond, ◌&&◌, List, [], ◌∷◌, map, Option, Some, None, refl, sym, subst, ap, ap₂, ◌∙◌}
 use Rattle.std.proofs.lemmas.Bool.{eqb-true, and_parts}
-use Rattle.expression_lang.specs.Sort.{Scalar, WordSort, NumberSort, TruthSort, Kind, Scope, same_scalar}
-use Rattle.expression_lang.specs.Sorted.{same_scalars, with_scalar, scalar_in, program_sort}
-use Rattle.monad_lang.specs.Program.{Start}
-use Rattle.monad_lang.specs.Run.{start_names}
-use Rattle.monad_lang.specs.Sorted.{are_scalars, where_fits, and_then_scalars, start_scalars}
-use Rattle.rule_word.specs.Table.{AreMatched, start_exps}
+use Rattle.expression_lang.specs.Expression.{Exp}
+use Rattle.expression_lang.specs.Form.{has, is_part_of_value}
+use Rattle.expression_lang.specs.Signature.{Signature, kinds_of}
+use Rattle.expression_lang.specs.Sort.{Scalar, WordSort, NumberSort, TruthSort, Sort, Of, PartsSort, Kind, Scope, sort_of, same_scalar, word_sort_of}
+use Rattle.expression_lang.specs.Sorted.{same_scalars, with_scalar, scalar_in, program_sort, call_scalars, result_scalars}
+use Rattle.monad_lang.specs.Sorted.{are_scalars, where_fits, and_then_scalars}
+use Rattle.rule_word.specs.Scopes.{result_as_list}
 
 pub some_is : {A : Type 0} {a b : A} → ◌≡◌ {A = Option A} (Some a) (Some b) → a ≡ b
 some_is h = cc
@@ -52,29 +53,43 @@ if_inv None o' b cs h = absurd cc
 pub bind_inv : (o : Option (List Scalar)) (b : List Scalar → Bool) (f : List Scalar → Option (List Scalar)) (ss cs : List Scalar) → o ≡ Some ss → and_then_scalars o (λ ts. where_fits (b ts) (f ts)) ≡ Some cs → f ss ≡ Some cs
 bind_inv o b f ss cs e h = (fits_inv (b ss) (f ss) cs (subst (λ z. and_then_scalars z (λ ts. where_fits (b ts) (f ts)) ≡ Some cs) e h)).1
 
--- as many starts on both sides as kinds
-scalar_first : (o : Option Scalar) (r : Option (List Scalar)) (cs : List Scalar) → with_scalar o r ≡ Some cs → (c : Scalar) × (ds : List Scalar) × (cs ≡ c ∷ ds) × (r ≡ Some ds)
-scalar_first (Some c) (Some ds) cs h = (c, ds, sym (some_is h), refl)
+-- the first of scalars, and the others
+pub scalar_first : (o : Option Scalar) (r : Option (List Scalar)) (cs : List Scalar) → with_scalar o r ≡ Some cs → (c : Scalar) × (ds : List Scalar) × (cs ≡ c ∷ ds) × (r ≡ Some ds) × (o ≡ Some c)
+scalar_first (Some c) (Some ds) cs h = (c, ds, sym (some_is h), refl, refl)
 scalar_first None r cs h = absurd cc
 scalar_first (Some c) None cs h = absurd cc
 
-abbrev tail_of : {A : Type 0} → List A → List A
-tail_of [] = []
-tail_of (x ∷ xs) = xs
-
-pub starts_matched : (g : Scope) (f : Kind → Scalar) (xs ys : List Start) (ks : List Kind) → start_scalars g xs ≡ Some (map f ks) → start_names ys ≡ start_names xs → AreMatched (start_exps xs) ks (start_exps ys)
-starts_matched g f [] [] [] h e = tt
-starts_matched g f [] [] (k ∷ ks) h e = absurd cc
-starts_matched g f [] (y ∷ ys) ks h e = absurd cc
-starts_matched g f (x ∷ xs) [] ks h e = absurd cc
-starts_matched g f (x ∷ xs) (y ∷ ys) [] h e =
-    let r = scalar_first (scalar_in (program_sort g x.exp)) (start_scalars g xs) [] h in absurd (no_list r.0 r.1 r.2)
+-- expressions of programs
+pub program_sorted : (g : Scope) (e : Exp) (s : Sort) → program_sort g e ≡ Some s → sort_of g e ≡ Some s
+program_sorted g e s h = by_test (has is_part_of_value e) h
   where
-    no_list : (c : Scalar) (ds : List Scalar) → ◌≡◌ {A = List Scalar} [] (c ∷ ds) → ⊥
-    no_list c ds h = cc
-starts_matched g f (x ∷ xs) (y ∷ ys) (k ∷ ks) h e =
-    let r = scalar_first (scalar_in (program_sort g x.exp)) (start_scalars g xs) (f k ∷ map f ks) h in
-    starts_matched g f xs ys ks (r.3 ∙ ap (λ z. Some z) (sym (ap tail_of r.2))) (ap tail_of e)
+    by_test : (b : Bool) → cond b None (sort_of g e) ≡ Some s → sort_of g e ≡ Some s
+    by_test false k = k
+    by_test true k = absurd cc
+
+pub scalar_there : (o : Option Sort) (c : Scalar) → scalar_in o ≡ Some c → o ≡ Some (Of c)
+scalar_there (Some (Of d)) c h = ap (λ x. Some (Of x)) (some_is h)
+scalar_there (Some (PartsSort t)) c h = absurd cc
+scalar_there None c h = absurd cc
+
+-- calls
+pub call_inv : (g : Signature) (o : Option (List Scalar)) (cs : List Scalar) → call_scalars word_sort_of (Some g) o ≡ Some cs → (o ≡ Some (map word_sort_of (kinds_of g.params))) × (result_scalars word_sort_of g.result ≡ cs)
+call_inv g None cs h = absurd cc
+call_inv g (Some ss) cs h = by_test (same_scalars (map word_sort_of (kinds_of g.params)) ss) refl h
+  where
+    by_test : (b : Bool) → same_scalars (map word_sort_of (kinds_of g.params)) ss ≡ b → cond b (Some (result_scalars word_sort_of g.result)) None ≡ Some cs → (Some ss ≡ Some (map word_sort_of (kinds_of g.params))) × (result_scalars word_sort_of g.result ≡ cs)
+    by_test true e k = (are_inv (map word_sort_of (kinds_of g.params)) (Some ss) e, some_is k)
+    by_test false e k = absurd cc
+
+pub result_sorts : (r : Option Kind) → map word_sort_of (result_as_list r) ≡ result_scalars word_sort_of r
+result_sorts None = refl
+result_sorts (Some k) = refl
+
+-- a loop gives what its starts give
+pub loop_parts : (o : Option (List Scalar)) (b : List Scalar → Bool) (r : List Scalar → Option (List Scalar)) (cs : List Scalar) → and_then_scalars o (λ ts. where_fits (b ts && are_scalars ts (r ts)) (Some ts)) ≡ Some cs → o ≡ Some cs
+loop_parts o b r cs h =
+    let s = then_inv o (λ ts. where_fits (b ts && are_scalars ts (r ts)) (Some ts)) cs h in
+    s.1 ∙ (fits_inv (b s.0 && are_scalars s.0 (r s.0)) (Some s.0) cs s.2).1
 
 -- a loop's body gives what its starts give
 pub loop_inv : (o : Option (List Scalar)) (b : List Scalar → Bool) (r : List Scalar → Option (List Scalar)) (ss cs : List Scalar) → o ≡ Some ss → and_then_scalars o (λ ts. where_fits (b ts && are_scalars ts (r ts)) (Some ts)) ≡ Some cs → r ss ≡ Some ss

@@ -26,7 +26,7 @@ use Rattle.rule_word.specs.Kept.{kinds_taken, kinds_given}
 use Rattle.rule_word.specs.WordsAbstracted.{Abstracted, one}
 use Rattle.rule_word.specs.ProgramsAbstracted.{AbstractedProgram, rights, trees_before, restarted, word_kind_of, kind_for, kinds_for, scalars_there, same_kinds, recast_to, exp_at, all_at, program_abstracted, is_word_or_truth, are_words_or_truths, binds_words}
 use Rattle.rule_word.proofs.AbstractedTaken.{taken, indices_before, AllNumbers, all_numbers, path_head_kept}
-use Rattle.rule_word.proofs.ProgramSorts.{same_scalar_is, then_inv, fits_inv, are_inv}
+use Rattle.rule_word.proofs.ProgramSorts.{same_scalar_is, then_inv, fits_inv, are_inv, program_sorted, scalar_there, call_inv, result_sorts}
 use Rattle.rule_word.proofs.RecastsTaken.{recast_taken}
 use Rattle.rule_word.proofs.ScopesAfter.{sort_of_view, setting_after}
 
@@ -52,19 +52,6 @@ kinds_for_sorts table xs [] h = refl
 kinds_for_sorts table [] (c ∷ cs) h = let r = and_parts (is_word_or_truth c) (are_words_or_truths cs) h in ap₂ (λ d ds. d ∷ ds) (word_kind_sort c r.0) (kinds_for_sorts table [] cs r.1)
 kinds_for_sorts table (x ∷ xs) (c ∷ cs) h =
     let r = and_parts (is_word_or_truth c) (are_words_or_truths cs) h in ap₂ (λ d ds. d ∷ ds) (kind_for_sort (table x) c r.0) (kinds_for_sorts table xs cs r.1)
-
--- expressions of programs
-program_sorted : (g : Scope) (e : Exp) (s : Sort) → program_sort g e ≡ Some s → sort_of g e ≡ Some s
-program_sorted g e s h = by_test (has is_part_of_value e) h
-  where
-    by_test : (b : Bool) → cond b None (sort_of g e) ≡ Some s → sort_of g e ≡ Some s
-    by_test false k = k
-    by_test true k = absurd cc
-
-scalar_there : (o : Option Sort) (c : Scalar) → scalar_in o ≡ Some c → o ≡ Some (Of c)
-scalar_there (Some (Of d)) c h = ap (λ x. Some (Of x)) (some_is h)
-scalar_there (Some (PartsSort t)) c h = absurd cc
-scalar_there None c h = absurd cc
 
 scalars_first : (o : Option Scalar) (r : Option (List Scalar)) (c : Scalar) (cs : List Scalar) → with_scalar o r ≡ Some (c ∷ cs) → (o ≡ Some c) × (r ≡ Some cs)
 scalars_first (Some d) (Some ds) c cs h = (ap head_of (some_is h), ap tail_of (some_is h))
@@ -261,11 +248,11 @@ module _ (ctx : Context) (same : Exp → Exp → Bool) (is_same : (a b : Exp) �
   one_given false c ks h = absurd cc
 
   pick_one : (fs : List Fact) (names : List Binder) (j k : Kind) → sort_of_kind j ≡ word_sort_of k → IsTaken fs names (M.Pick j) (k ∷ [])
-  pick_one fs names (WordKind n) (WordKind m) h = let e : n ≡ m = cc in ((refl, ap (λ i. WordKind i ∷ []) (sym e)), tt)
+  pick_one fs names (WordKind n) (WordKind m) h = let e : n ≡ m = cc in ((refl, ap (λ i. WordKind i ∷ []) (sym e), refl), tt)
   pick_one fs names (WordKind n) (NatKind m) h = let e : n ≡ m = cc in ((refl, ap (λ i. NatKind i ∷ []) (sym e)), tt)
   pick_one fs names (WordKind n) (IntKind m) h = let e : n ≡ m = cc in ((refl, ap (λ i. IntKind i ∷ []) (sym e)), tt)
   pick_one fs names (WordKind n) BoolKind h = absurd cc
-  pick_one fs names BoolKind BoolKind h = ((refl, refl), tt)
+  pick_one fs names BoolKind BoolKind h = ((refl, refl, refl), tt)
   pick_one fs names BoolKind (WordKind m) h = absurd cc
   pick_one fs names BoolKind (NatKind m) h = absurd cc
   pick_one fs names BoolKind (IntKind m) h = absurd cc
@@ -282,18 +269,6 @@ module _ (ctx : Context) (same : Exp → Exp → Bool) (is_same : (a b : Exp) �
   pick_taken fs names j ks q = let r = one_given (is_kind j) (sort_of_kind j) ks q in subst (λ z. IsTaken fs names (M.Pick j) z) (sym r.1) (pick_one fs names j r.0 r.2)
 
   -- calls
-  call_inv : (g : Signature) (o : Option (List Scalar)) (cs : List Scalar) → call_scalars word_sort_of (Some g) o ≡ Some cs → (o ≡ Some (map word_sort_of (kinds_of g.params))) × (result_scalars word_sort_of g.result ≡ cs)
-  call_inv g None cs h = absurd cc
-  call_inv g (Some ss) cs h = by_test (same_scalars (map word_sort_of (kinds_of g.params)) ss) refl h
-    where
-      by_test : (b : Bool) → same_scalars (map word_sort_of (kinds_of g.params)) ss ≡ b → cond b (Some (result_scalars word_sort_of g.result)) None ≡ Some cs → (Some ss ≡ Some (map word_sort_of (kinds_of g.params))) × (result_scalars word_sort_of g.result ≡ cs)
-      by_test true e k = (are_inv (map word_sort_of (kinds_of g.params)) (Some ss) e, some_is k)
-      by_test false e k = absurd cc
-
-  result_sorts : (r : Option Kind) → map word_sort_of (result_as_list r) ≡ result_scalars word_sort_of r
-  result_sorts None = refl
-  result_sorts (Some k) = refl
-
   abbrev called : List Fact → List Binder → Name → List Exp → List Kind → Option Signature → AbstractedProgram
   called fs names f es ks s = let xs = Es names fs es (views_for (kinds_taken s)) in
       recast_to (same_kinds (kinds_given s) ks) (kinds_given s) ks (record { right = M.Call f (rights xs); tree = node R.Call (trees_before xs no_trees) })
@@ -365,7 +340,7 @@ module _ (ctx : Context) (same : Exp → Exp → Bool) (is_same : (a b : Exp) �
       let qm : scalars_given (words ctx names) m ≡ Some (map word_sort_of (kinds_for table' xs (scalars_there (scalars_given (words ctx names) m)))) = r.1 ∙ ap (λ z. Some z) (sym (sorts ∙ ap scalars_there r.1)) in
       let after = setting_after word_sort_of ctx xs js names in
       let a = PA fs names m js in (
-        (refl, qm),
+        refl,
         (
           program_taken fs names m js qm d.1,
           (
@@ -404,7 +379,7 @@ module _ (ctx : Context) (same : Exp → Exp → Bool) (is_same : (a b : Exp) �
           ),
         ),
       ) in (
-        (restarted_names names fs starts ks s, refl, qs),
+        (restarted_names names fs starts ks s, refl, subst (λ es. AreMatched (start_exps starts) ks es) (sym (restarted_exps names fs starts ks s)) (matched names fs (start_exps starts) ks s)),
         subst (λ es. AcceptsAll (table ctx) (PA_trees fs names starts guard test m ks) (each (at_point fs names) (start_exps starts) (views_for ks) es ++ inner_claims fs names starts guard test m ks)) (sym (restarted_exps names fs starts ks s))
             (all_before names fs (start_exps starts) ks (inner_claims fs names starts guard test m ks) (inner_trees fs names starts guard test m ks) s rest),
       )

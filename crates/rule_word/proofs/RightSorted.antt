@@ -176,7 +176,7 @@ module _ (ctx : Context) where
     row_sorted R.Const e v a q k s = const_sorted e v a q k
     row_sorted R.Nat (X.ToNat e) (AsIs o) a q k s = of_its_width (width_in g e) (λ n. expression at e (Unsigned n) a ∷ []) (sort_of h a ≡ o) k s (λ n c. c.0.there.right wide ∙ sym (of_word_sorted g e n c.0.there.left) ∙ q)
     row_sorted R.Int (X.ToInt e) (AsIs o) a q k s = of_its_width (width_in g e) (λ n. expression at e (Signed n) a ∷ []) (sort_of h a ≡ o) k s (λ n c. c.0.there.right wide ∙ sym (of_word_sorted g e n c.0.there.left) ∙ q)
-    row_sorted (R.Word k') e (AsIs o) (X.ToWord n a) q k s = word_sorted k' e o n a q k s.0.there
+    row_sorted (R.Word k') e (AsIs o) (X.ToWord n a) q k s = word_sorted k' e o n a q k.0 s.0.there
     row_sorted R.Unat e (Unsigned n) (X.ToNat a) q k s = of_word_sorted h a n (s.0.there.right wide)
     row_sorted R.Sint e (Signed n) (X.ToInt a) q k s = of_word_sorted h a n (s.0.there.right wide)
     row_sorted R.Add (X.WordBinary Wadd a b) v (X.Arith N.Add a' b') q k s = op_sorted N.Add a b a' b' v refl k s.0.there s.1.0.there

@@ -274,7 +274,7 @@ module _ (ctx : Context) (lay : IsLayout ctx.layout) where
     row_sound at R.Const e v a q h s = const at e v a h
     row_sound at R.Nat (X.ToNat e) (AsIs o) a q h s = of_its_width (width_in (scope_at at) e) e at refl _ _ h s (λ n k. (unpacked at e (Unsigned n) a k.0).is)
     row_sound at R.Int (X.ToInt e) (AsIs o) a q h s = of_its_width (width_in (scope_at at) e) e at refl _ _ h s (λ n k. (unpacked at e (Signed n) a k.0).is)
-    row_sound at (R.Word k) e (AsIs o) (X.ToWord n a) q h s = word_of at k e o n a h (unpacked at e (view_for k) a s.0)
+    row_sound at (R.Word k) e (AsIs o) (X.ToWord n a) q h s = word_of at k e o n a h.0 (unpacked at e (view_for k) a s.0)
     row_sound at R.Unat e (Unsigned n) (X.ToNat a) q h s = λ env env' st m. ap (λ u. Number (unsigned (word_in u))) ((unpacked at e (AsIs (word_sort n)) a s.0).is env env' st m)
     row_sound at R.Sint e (Signed n) (X.ToInt a) q h s = λ env env' st m. ap (λ u. Number (signed (word_in u))) ((unpacked at e (AsIs (word_sort n)) a s.0).is env env' st m)
     row_sound at R.Add (X.WordBinary Wadd a b) v (X.Arith N.Add a' b') q h s = binary at Wadd N.Add a b a' b' v h (unpacked at a v a' s.0) (unpacked at b v b' s.1.0) (λ n x y i j r. W.unsigned_sum n x y i r) (λ n x y i j r. W.signed_sum n x y i j r)

@@ -41,7 +41,8 @@ use Rattle.program_facts.proofs.SortedValues.{bound_sorted}
 use Rattle.program_facts.proofs.FactsAfter.{facts_after_hold}
 use Rattle.rule_word.proofs.InRange.{views_fit}
 use Rattle.rule_word.proofs.PlacesAgree.{written_same, place_as_many, first_of, others_of}
-use Rattle.rule_word.proofs.ProgramSorts.{if_inv, bind_inv, loop_inv, starts_matched}
+use Rattle.rule_word.proofs.ProgramSorts.{then_inv, if_inv, bind_inv, loop_inv, loop_parts}
+use Rattle.rule_word.proofs.ProgramsGive.{Gives, GivesThere, claim_gives}
 use Rattle.rule_word.proofs.Recasts.{recast_sorts, recast_values}
 use Rattle.rule_word.proofs.ScopesAfter.{names_after, setting_after, seen_kind, sort_of_view, seen_after}
 use Rattle.rule_word.proofs.SoundExpressions.{Seen, owned, all_own, one_less, scalar_sorted, row_sound as expression_sound}
@@ -187,27 +188,32 @@ module _ (ctx : Context) (lay : IsLayout ctx.layout) (p : Choice) where
           state = last.state;
         }
 
-    bind : (at : Point) (m m' n n' : Mon) (xs : List Name) (js ks : List Kind) → Sorted at m js → Does at m m' js → Does (record { facts = facts_after m' xs at.facts; names = with_kinds xs js at.names }) n n' ks →
+    bind : (at : Point) (m m' n n' : Mon) (xs : List Name) (js ks : List Kind) → Gives ctx at m js → Does at m m' js → Does (record { facts = facts_after m' xs at.facts; names = with_kinds xs js at.names }) n n' ks →
         Does at (M.Bind m xs n) (M.Bind m' xs n') ks
-    bind at m m' n n' xs js ks qm a b = record {
+    bind at m m' n n' xs js ks gm a b = record {
       same = λ depth fs gs k q env env' s i.
           then_corresponds (Reached (Views js) (runs l p m env depth fs s) (runs l p m' env' depth gs s)) (Views ks) BothFail _ _ _ _
-          (reached (Views js) BothFail _ _ (a.same depth fs gs k qm env env' s i))
+          (reached (Views js) BothFail _ _ (a.same depth fs gs k (first_sorted q) env env' s i))
           (λ x y r. subst (λ (t : State). Corresponds (Views ks) BothFail (runs l p n (bound xs x.values env) depth fs x.state) (runs l p n' (bound xs y.values env') depth gs t)) (sym r.related.state)
-          (b.same depth fs gs k (rest_sorted q) (bound xs x.values env) (bound xs y.values env') x.state (after at m m' xs js depth fs gs k qm env env' s i x y r.related r.left r.right)));
+          (b.same depth fs gs k (rest_sorted q) (bound xs x.values env) (bound xs y.values env') x.state (after at m m' xs js depth fs gs k (first_sorted q) env env' s i x y r.related r.left r.right)));
       each = λ depth fs gs k q env env' s i h. (
-        a.each depth fs gs k qm env env' s i h.0,
+        a.each depth fs gs k (first_sorted q) env env' s i h.0,
         λ y right.
-            let c = (a.same depth fs gs k qm env env' s i).done_back y right in
+            let c = (a.same depth fs gs k (first_sorted q) env env' s i).done_back y right in
             subst (λ (t : State). AtEach l p Q n' (bound xs y.values env') depth gs t) (sym c.1.state)
-            (b.each depth fs gs k (rest_sorted q) (bound xs c.0.values env) (bound xs y.values env') c.0.state (after at m m' xs js depth fs gs k qm env env' s i c.0 y c.1 c.2 right) (h.1 c.0 c.2)),
+            (b.each depth fs gs k (rest_sorted q) (bound xs c.0.values env) (bound xs y.values env') c.0.state (after at m m' xs js depth fs gs k (first_sorted q) env env' s i c.0 y c.1 c.2 right) (h.1 c.0 c.2)),
       );
     }
       where
+        first_sorted : Sorted at (M.Bind m xs n) ks → Sorted at m js
+        first_sorted q =
+            let r = then_inv (scalars_given (words ctx at.names) m) (λ ss. where_fits (one_for_each xs ss && are_distinct xs) (scalars_given (setting_with xs ss (words ctx at.names)) n)) (map word_sort_of ks) q in
+            r.1 ∙ ap (λ ss. Some ss) (gm.gives r.0 r.1)
+
         rest_sorted : Sorted at (M.Bind m xs n) ks → scalars_given (words ctx (with_kinds xs js at.names)) n ≡ Some (map word_sort_of ks)
         rest_sorted q =
             sym (ap (λ t. scalars_given t n) (setting_after word_sort_of ctx xs js at.names))
-            ∙ bind_inv (scalars_given (words ctx at.names) m) (λ ss. one_for_each xs ss && are_distinct xs) (λ ss. scalars_given (setting_with xs ss (words ctx at.names)) n) (map word_sort_of js) (map word_sort_of ks) qm q
+            ∙ bind_inv (scalars_given (words ctx at.names) m) (λ ss. one_for_each xs ss && are_distinct xs) (λ ss. scalars_given (setting_with xs ss (words ctx at.names)) n) (map word_sort_of js) (map word_sort_of ks) (first_sorted q) q
 
     module _ (at : Point) (js : List Kind) (xs : List Name) (guard guard' test test' : Exp) (m m' : Mon)
         (cg : Seen ctx lay (record { facts = []; names = with_kinds xs js at.names }) guard truth guard')
@@ -311,13 +317,13 @@ module _ (ctx : Context) (lay : IsLayout ctx.layout) (p : Choice) where
     starts_values env s [] = refl
     starts_values env s (x ∷ xs) = ap (λ vs. value l env s x.exp ∷ vs) (starts_values env s xs)
 
-    looped : (at : Point) (js : List Kind) (starts starts' : List Start) (guard guard' test test' : Exp) (m m' : Mon) → start_names starts' ≡ start_names starts → start_scalars (words ctx at.names).scope starts ≡ Some (map word_sort_of js) →
+    looped : (at : Point) (js : List Kind) (starts starts' : List Start) (guard guard' test test' : Exp) (m m' : Mon) → start_names starts' ≡ start_names starts →
         AllAt at (start_exps starts) js (start_exps starts') →
         Seen ctx lay (record { facts = []; names = with_kinds (start_names starts) js at.names }) guard truth guard' →
         Seen ctx lay (record { facts = Whole guard' ∷ []; names = with_kinds (start_names starts) js at.names }) test truth test' →
         Does (record { facts = Whole test' ∷ Whole guard' ∷ []; names = with_kinds (start_names starts) js at.names }) m m' js →
         Does at (M.Loop starts guard test m) (M.Loop starts' guard' test' m') js
-    looped at js starts starts' guard guard' test test' m m' e qs cs cg ct body = record {
+    looped at js starts starts' guard guard' test test' m m' e cs cg ct body = record {
       same = λ depth fs gs k q env env' s i.
           subst (λ ys. Corresponds (Views js) BothFail (runs l p (M.Loop starts guard test m) env depth fs s)
           (loop (entered l guard' test' (λ a. bound ys a.values env')) (λ gs a. Then (runs l p m' (bound ys a.values env') depth gs a.state) (λ b. done (inl b))) gs (record { values = start_values l env' s starts'; state = s })))
@@ -342,7 +348,8 @@ module _ (ctx : Context) (lay : IsLayout ctx.layout) (p : Choice) where
         body_sorted : Sorted at (M.Loop starts guard test m) js → scalars_given (words ctx (with_kinds (start_names starts) js at.names)) m ≡ Some (map word_sort_of js)
         body_sorted q =
             sym (ap (λ t. scalars_given t m) (setting_after word_sort_of ctx (start_names starts) js at.names))
-            ∙ loop_inv (start_scalars (words ctx at.names).scope starts) _ (λ ss. scalars_given (setting_with (start_names starts) ss (words ctx at.names)) m) (map word_sort_of js) (map word_sort_of js) qs q
+            ∙ loop_inv (start_scalars (words ctx at.names).scope starts) _ (λ ss. scalars_given (setting_with (start_names starts) ss (words ctx at.names)) m) (map word_sort_of js) (map word_sort_of js)
+            (loop_parts (start_scalars (words ctx at.names).scope starts) _ (λ ss. scalars_given (setting_with (start_names starts) ss (words ctx at.names)) m) (map word_sort_of js) q) q
 
     call : (at : Point) (f : Name) (g : Signature) (es es' : List Exp) (ks : List Kind) → signature ctx.functions f ≡ Some g → ks ≡ result_as_list g.result → AllAt at es (kinds_of g.params) es' → Does at (M.Call f es) (M.Call f es') ks
     call at f g es es' ks e r h = record {
@@ -444,9 +451,13 @@ module _ (ctx : Context) (lay : IsLayout ctx.layout) (p : Choice) where
     pub record IsSeenThere (at : Point) (e : Exp) (v : View) (a : Exp) : Type 1 where
       pub seen : Seen ctx lay at e v a
 
+    pub record DoesThere (at : Point) (m m' : Mon) (ks : List Kind) : Type 1 where
+      pub gives : Gives ctx at m ks
+      pub does : Does at m m' ks
+
     abbrev pub Holds : Claim → Type 1
     Holds (expression at e v a) = IsSeenThere at e v a
-    Holds (program at m m' ks) = Does at m m' ks
+    Holds (program at m m' ks) = DoesThere at m m' ks
 
     all_at : (at : Point) (es : List Exp) (ks : List Kind) (as' : List Exp) → AreMatched es ks as' → AllHold Holds (each at es (views_for ks) as') → AllAt at es ks as'
     all_at at [] [] [] n h = tt
@@ -491,7 +502,7 @@ module _ (ctx : Context) (lay : IsLayout ctx.layout) (p : Choice) where
     row_sound : (at : Point) (rule : Rule) (m m' : Mon) (ks : List Kind) → (program_row ctx at rule m m' ks).holds → AllHold Holds (program_row ctx at rule m m' ks).parts → Does at m m' ks
     row_sound at R.Ret (M.Ret es) (M.Ret es') ks h s = ret at es ks es' (all_at at es ks es' h s)
     row_sound at R.Guard (M.Guard e) (M.Guard e') [] h s = guard at e e' s.0.seen
-    row_sound at R.If (M.If e m n) (M.If e' m' n') ks h s = branches at e m n e' m' n' ks s.0.seen s.1.0 s.1.1.0
+    row_sound at R.If (M.If e m n) (M.If e' m' n') ks h s = branches at e m n e' m' n' ks s.0.seen s.1.0.does s.1.1.0.does
     row_sound at R.Global (M.Write (M.Global x path) e) (M.Write p' e') [] h s = write_sound at (M.Global x path) p' e e' h s
     row_sound at R.Write (M.Write (M.Stored t q path) e) (M.Write p' e') [] h s = write_sound at (M.Stored t q path) p' e e' h s
     row_sound at R.Write (M.Write (M.Written t q path) e) (M.Write p' e') [] h s = write_sound at (M.Written t q path) p' e e' h s
@@ -500,21 +511,32 @@ module _ (ctx : Context) (lay : IsLayout ctx.layout) (p : Choice) where
         subst (λ j. Does at (M.Pick (WordKind n)) (M.Pick j) ks) (sym h.0) (subst (λ js. Does at (M.Pick (WordKind n)) (M.Pick (NatKind n)) js) (sym h.1) (picks at (WordKind n) (NatKind n) (nat_picked n)))
     row_sound at R.PickInt (M.Pick (WordKind n)) (M.Pick k') ks h s =
         subst (λ j. Does at (M.Pick (WordKind n)) (M.Pick j) ks) (sym h.0) (subst (λ js. Does at (M.Pick (WordKind n)) (M.Pick (IntKind n)) js) (sym h.1) (picks at (WordKind n) (IntKind n) (int_picked n)))
-    row_sound at (R.Bind js) (M.Bind m xs n) (M.Bind m' xs' n') ks h s = subst (λ ys. Does at (M.Bind m xs n) (M.Bind m' ys n') ks) (sym h.0) (bind at m m' n n' xs js ks h.1 s.0 s.1.0)
+    row_sound at (R.Bind js) (M.Bind m xs n) (M.Bind m' xs' n') ks h s = subst (λ ys. Does at (M.Bind m xs n) (M.Bind m' ys n') ks) (sym h) (bind at m m' n n' xs js ks s.0.gives s.0.does s.1.0.does)
     row_sound at (R.Loop js) (M.Loop starts guard test m) (M.Loop starts' guard' test' m') ks h s =
         let first = each at (start_exps starts) (views_for js) (start_exps starts') in
         let t = others_hold first _ s in
         subst (λ is. Does at (M.Loop starts guard test m) (M.Loop starts' guard' test' m') is) (sym h.1)
-        (looped at js starts starts' guard guard' test test' m m' h.0 h.2
-        (all_at at (start_exps starts) js (start_exps starts') (starts_matched (words ctx at.names).scope word_sort_of starts starts' js h.2 h.0) (first_hold first _ s))
-        t.0.seen t.1.0.seen t.1.1.0)
+        (looped at js starts starts' guard guard' test test' m m' h.0
+        (all_at at (start_exps starts) js (start_exps starts') h.2 (first_hold first _ s))
+        t.0.seen t.1.0.seen t.1.1.0.does)
     row_sound at R.Call (M.Call f es) (M.Call g es') ks h s = subst (λ x. Does at (M.Call f es) (M.Call x es') ks) (sym h.0) (call_sound at (signature ctx.functions f) f es es' ks refl h.1 s)
-    row_sound at (R.Recast js) m (M.Bind m' ys (M.Ret es)) ks h s = recasted at m m' ys js ks es h.0 h.1 s.0
+    row_sound at (R.Recast js) m (M.Bind m' ys (M.Ret es)) ks h s = recasted at m m' ys js ks es h.0 h.1 s.0.does
     row_sound _ _ _ _ _ h s = absurd h
+
+    gives_of : (c : Claim) → Holds c → GivesThere ctx c
+    gives_of (expression at e v a) h = record { sort = h.seen.sort }
+    gives_of (program at m m' ks) h = h.gives
+
+    all_give : (cs : List Claim) → AllHold Holds cs → AllHold (GivesThere ctx) cs
+    all_give [] h = tt
+    all_give (c ∷ cs) h = (gives_of c h.0, all_give cs h.1)
 
     claim_sound : (rule : Rule) (c : Claim) → (table ctx rule c).holds → AllHold Holds (table ctx rule c).parts → Holds c
     claim_sound rule (expression at e v a) h s = record { seen = record { sort = h.0; is = expression_sound ctx lay Holds (λ at e v a h. h.seen) at rule e v a h.0 h.1 s } }
-    claim_sound rule (program at m m' ks) h s = row_sound at rule m m' ks h s
+    claim_sound rule (program at m m' ks) h s = record {
+      gives = claim_gives ctx rule (program at m m' ks) h (all_give (table ctx rule (program at m m' ks)).parts s);
+      does = row_sound at rule m m' ks h s;
+    }
 
     pub taken_does : (at : Point) (t : Tree Rule) (m m' : Mon) (ks : List Kind) → Accepts (table ctx) t (program at m m' ks) → Does at m m' ks
-    taken_does at t m m' ks h = accepted_holds (table ctx) Holds claim_sound t (program at m m' ks) h
+    taken_does at t m m' ks h = (accepted_holds (table ctx) Holds claim_sound t (program at m m' ks) h).does

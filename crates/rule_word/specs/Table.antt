@@ -1,7 +1,7 @@
 -- The table of the rules that make numbers of words (the word abstraction of AutoCorres): words become what stands for them at a
 -- kind, unsigned or signed numbers, where the range that makes this exact is known. One clause for each row: the rule, the left
 -- side, how it is seen, the right side; then what is asked and the claims of the parts. Facts are of the right side.
-use Rattle.std.specs.Prelude.{◌≡◌, ℕ, ◌==◌, Bool, true, false, List, [], ◌∷◌, ◌++◌, map, Option, Some, None, if◌then◌else◌}
+use Rattle.std.specs.Prelude.{◌≡◌, ℕ, ◌==◌, Bool, true, false, List, [], ◌∷◌, ◌++◌, Option, Some, None, if◌then◌else◌}
 use Rattle.c_values.specs.Name.{Name, are_distinct}
 use Rattle.c_values.specs.Word.{unsigned, signed, Wadd, Wsub, Wmul, Wudiv, Wumod, Wsdiv, Wsmod, Wneg, Wult, Wule, Wslt, Wsle}
 use Rattle.c_values.specs.Number as N
@@ -11,14 +11,13 @@ use Rattle.expression_lang.specs.Expression.{Exp}
 use Rattle.ac_expr.specs.Fact.{Whole, NotTrue, Fact}
 use Rattle.ac_expr.specs.Heads.{head, children}
 use Rattle.ac_expr.specs.Known.{IsKnown}
-use Rattle.expression_lang.specs.Sort.{Kind, WordKind, NatKind, IntKind, BoolKind, Scope, sort_of, word_sort, truth_sort, word_sort_of}
+use Rattle.expression_lang.specs.Sort.{Kind, WordKind, NatKind, IntKind, BoolKind, Scope, sort_of, word_sort, truth_sort, word_sort_of, sort_of_kind}
 use Rattle.expression_lang.specs.Signature.{Binder, Signature, kinds_of, signature}
 use Rattle.program_facts.specs.Flow.{facts_after}
 use Rattle.program_facts.specs.Places.{place_children, place_head}
 use Rattle.monad_lang.specs.Program as M
 use Rattle.monad_lang.specs.Program.{Mon}
 use Rattle.monad_lang.specs.Run.{start_names}
-use Rattle.monad_lang.specs.Sorted.{scalars_given, start_scalars}
 use Rattle.rule_trees.specs.RuleTree.{Row, asks, no_row, Table, Tree, Accepts}
 use Rattle.rule_word.specs.Rule.{Rule, Ret, Guard, If, Global, Pick, Write, Bind, Loop, Call, PickNat, PickInt, Recast, Var, Const, Nat, Int, Word, Unat, Sint, Add, Sub, Mul, Neg, Udiv, Umod, Sdiv, Smod, Order, Eq, Zext, Sext, Logic, Cond, Op, Context, Point, View, AsIs, Unsigned, Signed, Claim, expression, program}
 use Rattle.rule_word.specs.Scopes.{names_in, with_kinds, words, sort_seen, view_for, own, width_in, result_as_list}
@@ -100,7 +99,7 @@ expression_row g at Const e v a = asks (constant v e ≡ Some a) []
 expression_row g at Nat (X.ToNat e) (AsIs o) a = of_width (width_in g e) (λ n. expression at e (Unsigned n) a ∷ [])
 expression_row g at Int (X.ToInt e) (AsIs o) a = of_width (width_in g e) (λ n. expression at e (Signed n) a ∷ [])
 expression_row g at (Word k) e (AsIs o) (X.ToWord n a) =
-    asks (number_width k ≡ Some n) (expression at e (view_for k) a ∷ [])
+    asks ((number_width k ≡ Some n) × (o ≡ word_sort n)) (expression at e (view_for k) a ∷ [])
 expression_row g at Unat e (Unsigned n) (X.ToNat a) = asks (Unit {0}) (expression at e (AsIs (word_sort n)) a ∷ [])
 expression_row g at Sint e (Signed n) (X.ToInt a) = asks (Unit {0}) (expression at e (AsIs (word_sort n)) a ∷ [])
 expression_row g at Add (X.WordBinary Wadd a b) v (X.Arith N.Add a' b') =
@@ -198,18 +197,17 @@ program_row ctx at Write (M.Write (M.Stored t p path) e) (M.Write p' e') [] =
     write_row (words ctx at.names).scope at (M.Stored t p path) e p' e'
 program_row ctx at Write (M.Write (M.Written t p path) e) (M.Write p' e') [] =
     write_row (words ctx at.names).scope at (M.Written t p path) e p' e'
-program_row ctx at Pick (M.Pick k) (M.Pick k') ks = asks ((k' ≡ k) × (ks ≡ k ∷ [])) []
+program_row ctx at Pick (M.Pick k) (M.Pick k') ks = asks ((k' ≡ k) × (ks ≡ k ∷ []) × (sort_of_kind k ≡ word_sort_of k)) []
 program_row ctx at PickNat (M.Pick (WordKind n)) (M.Pick k') ks = asks ((k' ≡ NatKind n) × (ks ≡ NatKind n ∷ [])) []
 program_row ctx at PickInt (M.Pick (WordKind n)) (M.Pick k') ks = asks ((k' ≡ IntKind n) × (ks ≡ IntKind n ∷ [])) []
 program_row ctx at (Bind js) (M.Bind m xs n) (M.Bind m' xs' n') ks =
-    asks ((xs' ≡ xs) × (scalars_given (words ctx at.names) m ≡ Some (map word_sort_of js)))
+    asks (xs' ≡ xs)
     (program at m m' js ∷ program (record { facts = facts_after m' xs at.facts; names = with_kinds xs js at.names }) n
     n' ks ∷ [])
 program_row ctx at (Loop js) (M.Loop starts guard test m) (M.Loop starts' guard' test' m') ks =
     let xs = start_names starts in
     let names = with_kinds xs js at.names in
-    asks ((start_names starts' ≡ xs) × (ks ≡ js) ×
-    (start_scalars (words ctx at.names).scope starts ≡ Some (map word_sort_of js)))
+    asks ((start_names starts' ≡ xs) × (ks ≡ js) × AreMatched (start_exps starts) js (start_exps starts'))
     (each at (start_exps starts) (views_for js) (start_exps starts')
     ++ (expression (record { facts = []; names = names }) guard truth guard'
     ∷ expression (record { facts = Whole guard' ∷ []; names = names }) test truth test'

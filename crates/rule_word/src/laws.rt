@@ -5,7 +5,7 @@ ghost use Rattle.c_values.specs.Name.{Name};
 ghost use Rattle.c_values.specs.Layout.{IsLayout};
 ghost use Rattle.expression_lang.specs.Expression.{Exp};
 ghost use Rattle.expression_lang.specs.Signature.{Binder};
-ghost use Rattle.expression_lang.specs.Sort.{Kind, Level, word_sort_of};
+ghost use Rattle.expression_lang.specs.Sort.{Scalar, Kind, Level, word_sort_of};
 ghost use Rattle.monad_lang.specs.Program.{Mon, FinalUnit};
 ghost use Rattle.monad_lang.specs.Sorted.{scalars_given, IsWellFormed};
 ghost use Rattle.rule_trees.specs.RuleTree.{Tree, Accepts};
@@ -31,6 +31,14 @@ pub fn taken_is_exact()
     ensures { (unit : FinalUnit) (at : Point) (t : Tree Rule) (left right : Mon) (kinds : List Kind) →
         Accepts (table (context_of unit)) t (program at left right kinds) →
         StandsFor unit at left right kinds }
+{}
+
+/// A well-sorted program that the rules take to one at kinds gives words of these kinds: the parts say their sorts.
+pub fn kinds_fit()
+    ensures { (ctx : Context) (at : Point) (t : Tree Rule) (left right : Mon) (kinds : List Kind) (given : List Scalar) →
+        Accepts (table ctx) t (program at left right kinds) →
+        scalars_given (words ctx at.names) left ≡ Some given →
+        given ≡ map word_sort_of kinds }
 {}
 
 /// The functions of a well-formed unit of programs on words and of a unit of programs on what stands for them do the same,
