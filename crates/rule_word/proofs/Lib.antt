@@ -20,3 +20,5 @@ pub mod ProgramsForm
 pub mod LevelForm
 pub mod HeadSorts
 pub mod RightSorted
+pub mod ChildrenSorted
+pub mod PartsFit
