@@ -18,7 +18,7 @@ module _ (g : Scope) where
   AreSorted [] = Unit {0}
   AreSorted (e ∷ es) = IsSorted e × AreSorted es
 
-  path_sorted : (path : Path) (s q : Shape) → shape_along g path s ≡ Some q → AreSorted (path_children path)
+  pub path_sorted : (path : Path) (s q : Shape) → shape_along g path s ≡ Some q → AreSorted (path_children path)
   path_sorted X.Here s q h = tt
   path_sorted (X.IntoField k path) Incomplete q h = absurd cc
   path_sorted (X.IntoField k path) (WordShape t n) q h = absurd cc
@@ -37,7 +37,7 @@ module _ (g : Scope) where
       by_index true i h rest = ((Of NumberSort, number_inv (sort_of g e) i), rest h)
       by_index false i h rest = absurd cc
 
-  and_one : (es : List Exp) (e : Exp) → AreSorted es → IsSorted e → AreSorted (es ++ (e ∷ []))
+  pub and_one : (es : List Exp) (e : Exp) → AreSorted es → IsSorted e → AreSorted (es ++ (e ∷ []))
   and_one [] e h k = (k, tt)
   and_one (d ∷ es) e h k = (h.0, and_one es e h.1 k)
 

@@ -22,3 +22,4 @@ pub mod HeadSorts
 pub mod RightSorted
 pub mod ChildrenSorted
 pub mod PartsFit
+pub mod ProgramPartsFit

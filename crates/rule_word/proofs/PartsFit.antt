@@ -12,11 +12,12 @@ use Rattle.expression_lang.specs.Sort.{Scalar, Sort, Of, WordSort, TruthSort, Ki
 use Rattle.expression_lang.proofs.Inversion.{where_inv, words_inv, word_inv, width_inv, truth_inv, same_inv}
 use Rattle.ac_expr.specs.Fact.{Fact}
 use Rattle.ac_expr.specs.Heads.{children}
+use Rattle.monad_lang.specs.Sorted.{scalars_given}
 use Rattle.rule_trees.specs.RuleTree.{Row, Tree, Accepts}
 use Rattle.rule_word.specs.Rule as R
 use Rattle.rule_word.specs.Rule.{Rule, Context, Point, View, AsIs, Unsigned, Signed, Claim, expression, program}
 use Rattle.rule_word.specs.Scopes.{words, sort_seen, view_for, width_in}
-use Rattle.rule_word.specs.Table.{number_width, IsInRange, of_width, each, owns, expression_row}
+use Rattle.rule_word.specs.Table.{number_width, of_width, each, owns, expression_row, table}
 use Rattle.rule_word.proofs.ChildrenSorted.{AreSorted, children_sorted}
 
 some_is : {A : Type 0} {a b : A} → ◌≡◌ {A = Option A} (Some a) (Some b) → a ≡ b
@@ -29,11 +30,20 @@ module _ (ctx : Context) where
 
   abbrev pub ClaimFits : Claim → Type 0
   ClaimFits (expression at e v a) = Fits at e v
-  ClaimFits (program at m m' ks) = Unit {0}
+  ClaimFits (program at m m' ks) = (cs : List Scalar) × (scalars_given (words ctx at.names) m ≡ Some cs)
 
   abbrev pub AllFit : List Claim → Type 0
   AllFit [] = Unit {0}
   AllFit (c ∷ cs) = ClaimFits c × AllFit cs
+
+  -- each, where those before it are taken
+  abbrev pub FitInTurn : List Claim → Type 0
+  FitInTurn [] = Unit {0}
+  FitInTurn (c ∷ cs) = ClaimFits c × ((t : Tree Rule) → Accepts (table ctx) t c → FitInTurn cs)
+
+  pub all_in_turn : (cs : List Claim) → AllFit cs → FitInTurn cs
+  all_in_turn [] h = tt
+  all_in_turn (c ∷ cs) h = (h.0, λ t k. all_in_turn cs h.1)
 
   -- the parts that are to be looked at: the first side of an equality
   abbrev pub looked_at : Rule → List Claim → List Claim
@@ -44,7 +54,7 @@ module _ (ctx : Context) where
     abbrev g : Scope
     g = (words ctx at.names).scope
 
-    owns_fit : (es as' : List Exp) → AreSorted g es → AllFit (each at es (owns g es) as')
+    pub owns_fit : (es as' : List Exp) → AreSorted g es → AllFit (each at es (owns g es) as')
     owns_fit [] as' h = tt
     owns_fit (e ∷ es) [] h = tt
     owns_fit (e ∷ es) (a ∷ as') h = ((h.0.0, h.0.1, h.0.1), owns_fit es as' h.1)

@@ -1,11 +1,14 @@
 -- What is known of a program's parts where it gives scalars.
 use Rattle.std.proofs.Common.{◌≡◌, Bool, true, false, cond, ◌&&◌, List, [], ◌∷◌, map, Option, Some, None, refl, sym, subst, ap, ap₂, ◌∙◌}
 use Rattle.std.proofs.lemmas.Bool.{eqb-true, and_parts}
-use Rattle.expression_lang.specs.Expression.{Exp}
-use Rattle.expression_lang.specs.Form.{has, is_part_of_value}
+use Rattle.c_values.specs.Types.{CType}
+use Rattle.c_values.specs.Layout.{Shape, shape_of}
+use Rattle.expression_lang.specs.Expression.{Exp, Path}
+use Rattle.expression_lang.specs.Form.{has, path_has, is_part_of_value}
 use Rattle.expression_lang.specs.Signature.{Signature, kinds_of}
-use Rattle.expression_lang.specs.Sort.{Scalar, WordSort, NumberSort, TruthSort, Sort, Of, PartsSort, Kind, Scope, sort_of, same_scalar, word_sort_of}
-use Rattle.expression_lang.specs.Sorted.{same_scalars, with_scalar, scalar_in, program_sort, call_scalars, result_scalars}
+use Rattle.expression_lang.specs.Sort.{Scalar, WordSort, NumberSort, TruthSort, Sort, Of, PartsSort, Kind, Scope, sort_of, shape_along, same_scalar, word_sort_of}
+use Rattle.expression_lang.specs.Sorted.{same_scalars, with_scalar, scalar_in, program_sort, part_place, sort_in, fits_place, call_scalars, result_scalars}
+use Rattle.expression_lang.proofs.Inversion.{same_inv}
 use Rattle.monad_lang.specs.Sorted.{are_scalars, where_fits, and_then_scalars}
 use Rattle.rule_word.specs.Scopes.{result_as_list}
 
@@ -71,6 +74,27 @@ pub scalar_there : (o : Option Sort) (c : Scalar) → scalar_in o ≡ Some c →
 scalar_there (Some (Of d)) c h = ap (λ x. Some (Of x)) (some_is h)
 scalar_there (Some (PartsSort t)) c h = absurd cc
 scalar_there None c h = absurd cc
+
+-- places
+pub part_there : (g : Scope) (t : CType) (path : Path) (s : Sort) → part_place g t path ≡ Some s → (q : Shape) × (shape_along g path (shape_of g.layout t) ≡ Some q)
+part_there g t path s h = by_test (path_has is_part_of_value path) h
+  where
+    by_shape : (o : Option Shape) → sort_in o ≡ Some s → (q : Shape) × (o ≡ Some q)
+    by_shape None k = absurd cc
+    by_shape (Some q) k = (q, refl)
+
+    by_test : (b : Bool) → cond b None (sort_in (shape_along g path (shape_of g.layout t))) ≡ Some s → (q : Shape) × (shape_along g path (shape_of g.layout t) ≡ Some q)
+    by_test true k = absurd cc
+    by_test false k = by_shape (shape_along g path (shape_of g.layout t)) k
+
+pub if_there : {A : Type 0} (b : Bool) (o : Option A) (a : A) → cond b o None ≡ Some a → (b ≡ true) × (o ≡ Some a)
+if_there true o a h = (refl, h)
+if_there false o a h = absurd cc
+
+pub fits_there : (o p : Option Sort) → fits_place o p ≡ true → (s : Sort) × (o ≡ Some s) × (p ≡ Some s)
+fits_there (Some s) (Some t) h = same_inv (Some s) (Some t) h
+fits_there None p h = absurd cc
+fits_there (Some s) None h = absurd cc
 
 -- calls
 pub call_inv : (g : Signature) (o : Option (List Scalar)) (cs : List Scalar) → call_scalars word_sort_of (Some g) o ≡ Some cs → (o ≡ Some (map word_sort_of (kinds_of g.params))) × (result_scalars word_sort_of g.result ≡ cs)

@@ -41,7 +41,7 @@ module _ (ctx : Context) where
       of_is h = cc
 
   -- expressions, each of its kind's sort
-  each_gives : (at : Point) (es : List Exp) (ks : List Kind) (es' : List Exp) → AreMatched es ks es' → AllHold GivesThere (each at es (views_for ks) es') →
+  pub each_gives : (at : Point) (es : List Exp) (ks : List Kind) (es' : List Exp) → AreMatched es ks es' → AllHold GivesThere (each at es (views_for ks) es') →
       (cs : List Scalar) → scalars_of (words ctx at.names).scope es ≡ Some cs → cs ≡ map word_sort_of ks
   each_gives at [] [] [] n s cs h = nothing_given cs h
   each_gives at (e ∷ es) (k ∷ ks) (a ∷ as') n s cs h =
@@ -52,7 +52,7 @@ module _ (ctx : Context) where
       (each_gives at es ks as' n s.1 r.1 r.3)
   each_gives at _ _ _ n s cs h = absurd n
 
-  starts_given : (g : Scope) (xs : List Start) → start_scalars g xs ≡ scalars_of g (start_exps xs)
+  pub starts_given : (g : Scope) (xs : List Start) → start_scalars g xs ≡ scalars_of g (start_exps xs)
   starts_given g [] = refl
   starts_given g (x ∷ xs) = ap (λ o. with_scalar (scalar_in (program_sort g x.exp)) o) (starts_given g xs)
 

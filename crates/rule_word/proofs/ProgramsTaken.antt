@@ -26,7 +26,7 @@ use Rattle.rule_word.specs.Kept.{kinds_taken, kinds_given}
 use Rattle.rule_word.specs.WordsAbstracted.{Abstracted, one}
 use Rattle.rule_word.specs.ProgramsAbstracted.{AbstractedProgram, rights, trees_before, restarted, word_kind_of, kind_for, kinds_for, scalars_there, same_kinds, recast_to, exp_at, all_at, program_abstracted, is_word_or_truth, are_words_or_truths, binds_words}
 use Rattle.rule_word.proofs.AbstractedTaken.{taken, indices_before, AllNumbers, all_numbers, path_head_kept}
-use Rattle.rule_word.proofs.ProgramSorts.{same_scalar_is, then_inv, fits_inv, are_inv, program_sorted, scalar_there, call_inv, result_sorts}
+use Rattle.rule_word.proofs.ProgramSorts.{same_scalar_is, then_inv, fits_inv, are_inv, program_sorted, scalar_there, part_there, if_there, fits_there, call_inv, result_sorts}
 use Rattle.rule_word.proofs.RecastsTaken.{recast_taken}
 use Rattle.rule_word.proofs.ScopesAfter.{sort_of_view, setting_after}
 
@@ -150,26 +150,6 @@ module _ (ctx : Context) (same : Exp → Exp → Bool) (is_same : (a b : Exp) �
   restarted_exps names fs (x ∷ xs) [] h = absurd h
 
   -- places
-  part_there : (g : Scope) (t : CType) (path : Path) (s : Sort) → part_place g t path ≡ Some s → (q : Shape) × (shape_along g path (shape_of g.layout t) ≡ Some q)
-  part_there g t path s h = by_test (path_has is_part_of_value path) h
-    where
-      by_shape : (o : Option Shape) → sort_in o ≡ Some s → (q : Shape) × (o ≡ Some q)
-      by_shape None k = absurd cc
-      by_shape (Some q) k = (q, refl)
-
-      by_test : (b : Bool) → cond b None (sort_in (shape_along g path (shape_of g.layout t))) ≡ Some s → (q : Shape) × (shape_along g path (shape_of g.layout t) ≡ Some q)
-      by_test true k = absurd cc
-      by_test false k = by_shape (shape_along g path (shape_of g.layout t)) k
-
-  if_there : {A : Type 0} (b : Bool) (o : Option A) (a : A) → cond b o None ≡ Some a → (b ≡ true) × (o ≡ Some a)
-  if_there true o a h = (refl, h)
-  if_there false o a h = absurd cc
-
-  fits_there : (o p : Option Sort) → fits_place o p ≡ true → (s : Sort) × (o ≡ Some s) × (p ≡ Some s)
-  fits_there (Some s) (Some t) h = same_inv (Some s) (Some t) h
-  fits_there None p h = absurd cc
-  fits_there (Some s) None h = absurd cc
-
   abbrev PA : List Fact → List Binder → Mon → List Kind → AbstractedProgram
   PA fs names m ks = program_abstracted same numbers ctx table' fs names m ks
 
