@@ -18,6 +18,7 @@ pub mod ProgramsTaken
 pub mod AbstractedForm
 pub mod ProgramsForm
 pub mod LevelForm
+pub mod Widths
 pub mod HeadSorts
 pub mod RightSorted
 pub mod ChildrenSorted
