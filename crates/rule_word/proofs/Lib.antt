@@ -21,6 +21,7 @@ pub mod LevelForm
 pub mod Widths
 pub mod HeadSorts
 pub mod RightSorted
+pub mod NoParts
 pub mod ChildrenSorted
 pub mod PartsFit
 pub mod ProgramPartsFit
