@@ -22,6 +22,9 @@ pub mod Widths
 pub mod HeadSorts
 pub mod RightSorted
 pub mod NoParts
+pub mod ProgramWidths
+pub mod PlaceSorts
+pub mod RightPrograms
 pub mod ChildrenSorted
 pub mod PartsFit
 pub mod ProgramPartsFit

@@ -161,11 +161,11 @@ module _ (ctx : Context) where
   pub record StaysPlain (e a : Exp) : Type 1 where
     pub stays : IsPlain e → IsPlain a
 
-  abbrev Holds : Claim → Type 1
-  Holds (expression at e v a) = StaysPlain e a
-  Holds (program at m m' ks) = Unit {1}
+  abbrev pub PlainThere : Claim → Type 1
+  PlainThere (expression at e v a) = StaysPlain e a
+  PlainThere (program at m m' ks) = Unit {1}
 
-  all_plain : (at : Point) (es as' : List Exp) → length as' ≡ length es → AllHold Holds (each at es (owns (words ctx at.names).scope es) as') → ArePlain es → ArePlain as'
+  all_plain : (at : Point) (es as' : List Exp) → length as' ≡ length es → AllHold PlainThere (each at es (owns (words ctx at.names).scope es) as') → ArePlain es → ArePlain as'
   all_plain at [] [] n s h = tt
   all_plain at (e ∷ es) (a ∷ as') n s h = (s.0.stays h.0, all_plain at es as' (one_less (length as') (length es) n) s.1 h.1)
   all_plain at [] (a ∷ as') n s h = absurd cc
@@ -174,7 +174,7 @@ module _ (ctx : Context) where
   both : (at : Point) (a b a' b' : Exp) → StaysPlain a a' → StaysPlain b b' → (has is_part_of_value a || has is_part_of_value b) ≡ false → (has is_part_of_value a' || has is_part_of_value b') ≡ false
   both at a b a' b' s t h = let r = two_plain a b h in or_from _ _ (s.stays r.0) (t.stays r.1.0)
 
-  of_its_width : (o : Option _) (f : _ → List Claim) (P : Type 0) → (of_width o f).holds → AllHold Holds (of_width o f).parts → ((n : _) → AllHold Holds (f n) → P) → P
+  of_its_width : (o : Option _) (f : _ → List Claim) (P : Type 0) → (of_width o f).holds → AllHold PlainThere (of_width o f).parts → ((n : _) → AllHold PlainThere (f n) → P) → P
   of_its_width None f P h s k = absurd h
   of_its_width (Some n) f P h s k = k n s
 
@@ -187,10 +187,7 @@ module _ (ctx : Context) where
   constant_plain v e a h i = absurd cc
 
   module _ (at : Point) where
-    abbrev P : List Claim → Type 1
-    P cs = AllHold Holds cs
-
-    row_plain : (rule : Rule) (e : Exp) (v : View) (a : Exp) → (expression_row (words ctx at.names).scope at rule e v a).holds → AllHold Holds (expression_row (words ctx at.names).scope at rule e v a).parts → IsPlain e → IsPlain a
+    row_plain : (rule : Rule) (e : Exp) (v : View) (a : Exp) → (expression_row (words ctx at.names).scope at rule e v a).holds → AllHold PlainThere (expression_row (words ctx at.names).scope at rule e v a).parts → IsPlain e → IsPlain a
     row_plain R.Var (X.Var x) v (X.Var y) h s i = refl
     row_plain R.Const e v a h s i = constant_plain v e a h i
     row_plain R.Nat (X.ToNat e) (AsIs o) a h s i = of_its_width (width_in (words ctx at.names).scope e) (λ n. expression at e (Unsigned n) a ∷ []) (IsPlain a) h s (λ n k. k.0.stays i)
@@ -223,9 +220,9 @@ module _ (ctx : Context) where
     row_plain R.Op e (AsIs o) a h s i = heads_plain e a h.1 i (all_plain at (children e) (children a) (as_many e a h.1) s (plain_children e i))
     row_plain _ e v a h s i = absurd h
 
-  claim_plain : (rule : Rule) (c : Claim) → (table ctx rule c).holds → AllHold Holds (table ctx rule c).parts → Holds c
+  pub claim_plain : (rule : Rule) (c : Claim) → (table ctx rule c).holds → AllHold PlainThere (table ctx rule c).parts → PlainThere c
   claim_plain rule (expression at e v a) h s = record { stays = row_plain at rule e v a h.1 s }
   claim_plain rule (program at m m' ks) h s = tt
 
   pub right_plain : (at : Point) (t : Tree Rule) (e : Exp) (v : View) (a : Exp) → Accepts (table ctx) t (expression at e v a) → IsPlain e → IsPlain a
-  right_plain at t e v a h i = (accepted_holds (table ctx) Holds claim_plain t (expression at e v a) h).stays i
+  right_plain at t e v a h i = (accepted_holds (table ctx) PlainThere claim_plain t (expression at e v a) h).stays i

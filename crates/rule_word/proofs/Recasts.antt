@@ -25,7 +25,7 @@ tested : (b : Bool) (e a : Exp) → cond b (Some e) None ≡ Some a → (b ≡ t
 tested true e a h = (refl, some_is h)
 tested false e a h = absurd cc
 
-same_widths : (m n : ℕ) (e a : Exp) → cond (m == n) (Some e) None ≡ Some a → (m ≡ n) × (e ≡ a)
+pub same_widths : (m n : ℕ) (e a : Exp) → cond (m == n) (Some e) None ≡ Some a → (m ≡ n) × (e ≡ a)
 same_widths m n e a h = let t = tested (m == n) e a h in (eqb-true m n t.0, t.1)
 
 -- the words are the same
@@ -78,7 +78,7 @@ module _ (l : Layout) (env : Env) (s : State) where
   recast_value (NatKind n) BoolKind e a u h v i = absurd cc
   recast_value (IntKind n) BoolKind e a u h v i = absurd cc
 
-first_inv : (o : Option Exp) (r : Option (List Exp)) (es : List Exp) → recast_first o r ≡ Some es → (e : Exp) × (as' : List Exp) × (o ≡ Some e) × (r ≡ Some as') × (es ≡ e ∷ as')
+pub first_inv : (o : Option Exp) (r : Option (List Exp)) (es : List Exp) → recast_first o r ≡ Some es → (e : Exp) × (as' : List Exp) × (o ≡ Some e) × (r ≡ Some as') × (es ≡ e ∷ as')
 first_inv (Some e) (Some as') es h = (e, as', refl, refl, sym (some_is h))
 first_inv None r es h = absurd cc
 first_inv (Some e) None es h = absurd cc
@@ -106,7 +106,7 @@ stays y (x ∷ xs) (v ∷ vs) env h =
     let d = or_parts (same_name y x) (is_among y xs) h in
     stays y xs vs (with_name x v env) d.1 ∙ cond-false (same_name x y) v (env y) (other_name y x d.0)
 
-not_there : (b : Bool) → not b ≡ true → b ≡ false
+pub not_there : (b : Bool) → not b ≡ true → b ≡ false
 not_there false h = refl
 not_there true h = absurd cc
 

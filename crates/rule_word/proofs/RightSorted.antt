@@ -52,7 +52,7 @@ names_there : {A : Type 0} (f : Kind → A) (bs : List Binder) (x : Name) → na
 names_there f [] x = refl
 names_there f (b ∷ bs) x = by_names f (same_name b.name x) b.kind (names_in f bs x) (names_in (λ k. k) bs x) (names_there f bs x)
 
-given_kind : (k : Kind) → ◌≡◌ {A = Option Sort} (Some (Of (sort_of_kind k))) (sort_given (view_for k))
+pub given_kind : (k : Kind) → ◌≡◌ {A = Option Sort} (Some (Of (sort_of_kind k))) (sort_given (view_for k))
 given_kind (WordKind n) = refl
 given_kind (NatKind n) = refl
 given_kind (IntKind n) = refl
@@ -75,9 +75,9 @@ module _ (ctx : Context) where
   pub record There (at : Point) (e : Exp) (v : View) (a : Exp) : Type 1 where
     pub there : Sorted at e v a
 
-  abbrev Holds : Claim → Type 1
-  Holds (expression at e v a) = There at e v a
-  Holds (program at m m' ks) = Unit {1}
+  abbrev pub SortedThere : Claim → Type 1
+  SortedThere (expression at e v a) = There at e v a
+  SortedThere (program at m m' ks) = Unit {1}
 
   module _ (at : Point) (wide : HasWidths (words ctx at.names).scope) where
     abbrev g : Scope
@@ -161,17 +161,17 @@ module _ (ctx : Context) where
     no_name (X.Var x) i = absurd cc
     no_name e i = tt
 
-    owned : (es as' : List Exp) → length as' ≡ length es → AllHold Holds (each at es (owns g es) as') → sorts_in ctx.layout (global_type ctx.globals) (names_in word_sort_of at.names) (names_in sort_of_kind at.names) h as' ≡ sorts_in ctx.layout (global_type ctx.globals) (names_in word_sort_of at.names) (names_in sort_of_kind at.names) g es
+    owned : (es as' : List Exp) → length as' ≡ length es → AllHold SortedThere (each at es (owns g es) as') → sorts_in ctx.layout (global_type ctx.globals) (names_in word_sort_of at.names) (names_in sort_of_kind at.names) h as' ≡ sorts_in ctx.layout (global_type ctx.globals) (names_in word_sort_of at.names) (names_in sort_of_kind at.names) g es
     owned [] [] n k = refl
     owned (e ∷ es) (a ∷ as') n k = ap₂ (λ o os. o ∷ os) (k.0.there.right wide) (owned es as' (one_less (length as') (length es) n) k.1)
     owned [] (a ∷ as') n k = absurd cc
     owned (e ∷ es) [] n k = absurd cc
 
-    of_its_width : (o : Option ℕ) (f : ℕ → List Claim) (Q : Type 0) → (of_width o f).holds → AllHold Holds (of_width o f).parts → ((n : ℕ) → AllHold Holds (f n) → Q) → Q
+    of_its_width : (o : Option ℕ) (f : ℕ → List Claim) (Q : Type 0) → (of_width o f).holds → AllHold SortedThere (of_width o f).parts → ((n : ℕ) → AllHold SortedThere (f n) → Q) → Q
     of_its_width None f Q i k r = absurd i
     of_its_width (Some n) f Q i k r = r n k
 
-    row_sorted : (rule : Rule) (e : Exp) (v : View) (a : Exp) → sort_of g e ≡ sort_seen v → (expression_row g at rule e v a).holds → AllHold Holds (expression_row g at rule e v a).parts → sort_of h a ≡ sort_given v
+    row_sorted : (rule : Rule) (e : Exp) (v : View) (a : Exp) → sort_of g e ≡ sort_seen v → (expression_row g at rule e v a).holds → AllHold SortedThere (expression_row g at rule e v a).parts → sort_of h a ≡ sort_given v
     row_sorted R.Var (X.Var x) v (X.Var y) q k s = subst (λ z. sort_of h (X.Var z) ≡ sort_given v) (sym k.0) (var_sorted x v (names_in (λ k. k) at.names x) refl k.1)
     row_sorted R.Const e v a q k s = const_sorted e v a q k
     row_sorted R.Nat (X.ToNat e) (AsIs o) a q k s = of_its_width (width_in g e) (λ n. expression at e (Unsigned n) a ∷ []) (sort_of h a ≡ o) k s (λ n c. c.0.there.right wide ∙ sym (of_word_sorted g e n c.0.there.left) ∙ q)
@@ -208,9 +208,9 @@ module _ (ctx : Context) where
         heads_sorted ctx.layout (global_type ctx.globals) (names_in word_sort_of at.names) (names_in sort_of_kind at.names) e a (no_name e k.0) k.1 (owned (children e) (children a) (as_many e a k.1) s) ∙ q
     row_sorted _ e v a q k s = absurd k
 
-  claim_sorted : (rule : Rule) (c : Claim) → (table ctx rule c).holds → AllHold Holds (table ctx rule c).parts → Holds c
+  pub claim_sorted : (rule : Rule) (c : Claim) → (table ctx rule c).holds → AllHold SortedThere (table ctx rule c).parts → SortedThere c
   claim_sorted rule (expression at e v a) k s = record { there = record { left = k.0; right = λ wide. row_sorted at wide rule e v a k.0 k.1 s } }
   claim_sorted rule (program at m m' ks) k s = tt
 
   pub expression_sorted : (at : Point) (t : Tree Rule) (e : Exp) (v : View) (a : Exp) → HasWidths (words ctx at.names).scope → Accepts (table ctx) t (expression at e v a) → sort_of (numbers ctx at.names).scope a ≡ sort_given v
-  expression_sorted at t e v a wide k = (accepted_holds (table ctx) Holds claim_sorted t (expression at e v a) k).there.right wide
+  expression_sorted at t e v a wide k = (accepted_holds (table ctx) SortedThere claim_sorted t (expression at e v a) k).there.right wide
