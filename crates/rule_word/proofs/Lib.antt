@@ -25,6 +25,7 @@ pub mod NoParts
 pub mod ProgramWidths
 pub mod PlaceSorts
 pub mod RightPrograms
+pub mod UnitsFormed
 pub mod ChildrenSorted
 pub mod PartsFit
 pub mod ProgramPartsFit

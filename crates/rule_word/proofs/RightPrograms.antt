@@ -54,7 +54,7 @@ same_refl : (cs : List Scalar) → same_scalars cs cs ≡ true
 same_refl [] = refl
 same_refl (c ∷ cs) = and_from (same_scalar c c) (same_scalars cs cs) (same_scalar_refl c) (same_refl cs)
 
-are_there : (o : Option (List Scalar)) (cs : List Scalar) → o ≡ Some cs → are_scalars cs o ≡ true
+pub are_there : (o : Option (List Scalar)) (cs : List Scalar) → o ≡ Some cs → are_scalars cs o ≡ true
 are_there o cs h = ap (are_scalars cs) h ∙ same_refl cs
 
 same_length : (f g : Kind → Scalar) (ks : List Kind) → length (map f ks) ≡ length (map g ks)

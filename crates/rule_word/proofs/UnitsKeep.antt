@@ -101,7 +101,7 @@ module _ (u v : FinalUnit) (abstracted : IsUnitAbstractedTo u v) where
       ∙ ap₂ (λ l vs. scope_of l (global_type vs) (names_of g.params) (map word_sort_of (kinds_of g.params))) (sym abstracted.layout) (sym abstracted.globals)
       ∙ ap (λ (ns : Name → Option Scalar). let s : Scope = record { layout = v.layout; names = ns; globals = global_type v.globals } in s) (names_after word_sort_of (names_of g.params) (kinds_of g.params) [])
 
-  body_sorted : (f g : FinalFn) → IsAbstractedTo (context_of v) f g → is_fn_sorted u f ≡ true → scalars_given (words (context_of v) (in_scope g)) f.body ≡ Some (map word_sort_of g.results)
+  pub body_sorted : (f g : FinalFn) → IsAbstractedTo (context_of v) f g → is_fn_sorted u f ≡ true → scalars_given (words (context_of v) (in_scope g)) f.body ≡ Some (map word_sort_of g.results)
   body_sorted f g h k =
       sym (ap (λ s. scalars_given (record { scope = s; functions = map signature_of v.functions; sort_for = word_sort_of }) f.body) (scopes_alike f g h))
       ∙ sym (given_alike sort_of_kind word_sort_of (map signature_of u.functions) (map signature_of v.functions) alike f.body (setting_of u f).scope)

@@ -8,3 +8,4 @@ pub mod Bases
 pub mod WordsAbstracted
 pub mod ProgramsAbstracted
 pub mod Ready
+pub mod UnitAbstracted
