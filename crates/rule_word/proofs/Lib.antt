@@ -26,6 +26,7 @@ pub mod ProgramWidths
 pub mod PlaceSorts
 pub mod RightPrograms
 pub mod UnitsFormed
+pub mod UnitTaken
 pub mod ChildrenSorted
 pub mod PartsFit
 pub mod ProgramPartsFit

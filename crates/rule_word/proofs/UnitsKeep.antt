@@ -74,7 +74,7 @@ all_last_alike l vs us ws alike (f ∷ fs) h = (last_alike l vs us ws alike f h.
 -- a body in words
 
 -- of a function of a well-formed unit
-fn_sorted : (u : FinalUnit) (f : FinalFn) → is_fn_sorted u f ≡ true → (scalars_given (setting_of u f) f.body ≡ Some (map sort_of_kind f.results)) × (has_few f.results ≡ true)
+pub fn_sorted : (u : FinalUnit) (f : FinalFn) → is_fn_sorted u f ≡ true → (scalars_given (setting_of u f) f.body ≡ Some (map sort_of_kind f.results)) × (has_few f.results ≡ true)
 fn_sorted u f h =
     let a = and_parts (are_kinds (kinds_of f.params) && are_kinds f.results && are_distinct (names_of f.params) && has_few f.results) (are_scalars (map sort_of_kind f.results) (scalars_given (setting_of u f) f.body)) h in
     let b = and_parts (are_kinds (kinds_of f.params) && are_kinds f.results && are_distinct (names_of f.params)) (has_few f.results) a.0 in

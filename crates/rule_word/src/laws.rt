@@ -16,6 +16,7 @@ ghost use Rattle.rule_word.specs.Kept.{context_of};
 ghost use Rattle.rule_word.specs.Exact.{IsSeenAs, StandsFor};
 ghost use Rattle.rule_word.specs.ProgramsAbstracted.{program_abstracted, binds_words};
 ghost use Rattle.rule_word.specs.Ready.{is_numbers_level, program_ready, is_form_of, is_heap_form_of};
+ghost use Rattle.rule_word.specs.UnitAbstracted.{FunctionKinds, right_context, unit_abstracted, AreFor};
 ghost use Rattle.rule_word.specs.Units.{IsUnitAbstractedTo, UnitsKeepWords};
 
 /// What the rules take an expression to is its value, seen so, wherever the facts of the point hold.
@@ -45,6 +46,28 @@ pub fn kinds_fit()
 /// where the rules take each body of the one to that of the other.
 pub fn abstracted_units_keep_words()
     ensures { (u v : FinalUnit) → IsWellFormed u → IsUnitAbstractedTo u v → UnitsKeepWords u v }
+{}
+
+/// What the rules take a well-formed unit to is well-formed.
+pub fn abstracted_units_are_formed()
+    ensures { (u v : FinalUnit) → IsWellFormed u → IsUnitAbstractedTo u v → IsWellFormed v }
+{}
+
+/// A well-formed unit whose bound names are words or truth values is abstracted at kinds of its words: the rules take each of its
+/// bodies to that of the unit that it is abstracted to, which is well-formed and does the same.
+pub fn units_are_abstracted()
+    ensures taken { (same : Exp → Exp → Bool) (u : FinalUnit) (kinds : List FunctionKinds) →
+        ((a b : Exp) → same a b ≡ true → a ≡ b) →
+        IsWellFormed u → AreFor (right_context u kinds) u.functions kinds →
+        IsUnitAbstractedTo u (unit_abstracted same u kinds) }
+    ensures formed { (same : Exp → Exp → Bool) (u : FinalUnit) (kinds : List FunctionKinds) →
+        ((a b : Exp) → same a b ≡ true → a ≡ b) →
+        IsWellFormed u → AreFor (right_context u kinds) u.functions kinds →
+        IsWellFormed (unit_abstracted same u kinds) }
+    ensures kept { (same : Exp → Exp → Bool) (u : FinalUnit) (kinds : List FunctionKinds) →
+        ((a b : Exp) → same a b ≡ true → a ≡ b) →
+        IsWellFormed u → AreFor (right_context u kinds) u.functions kinds →
+        UnitsKeepWords u (unit_abstracted same u kinds) }
 {}
 
 /// Words can be abstracted in every well-sorted program whose bound names are words or truth values: the rules take it to what
