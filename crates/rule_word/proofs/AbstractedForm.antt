@@ -10,13 +10,13 @@ use Rattle.expression_lang.specs.Expression.{Exp, Path}
 use Rattle.expression_lang.specs.Form.{has, path_has, is_word_arithmetic, is_arithmetic, is_negation}
 use Rattle.expression_lang.specs.Sort.{Kind, WordKind, NatKind, IntKind, BoolKind, Scope, sort_of}
 use Rattle.expression_lang.specs.Signature.{Binder}
-use Rattle.ac_expr.specs.Fact.{Fact, Whole, NotTrue}
+use Rattle.ac_expr.specs.Fact.{Whole, NotTrue}
 use Rattle.rule_trees.specs.RuleTree.{Trees, no_trees, tree}
 use Rattle.rule_word.specs.Rule as R
 use Rattle.rule_word.specs.Rule.{View, AsIs, Unsigned, Signed}
 use Rattle.rule_word.specs.Scopes.{names_in, own, width_in, view_for}
 use Rattle.rule_word.specs.Table.{truth}
-use Rattle.rule_word.specs.Bases.{Base, Words, Naturals, Integers, first_base, where_numbers, signed_base_in, signed_or_words, first_known, integer_range}
+use Rattle.rule_word.specs.Bases.{Surroundings, under, Base, Words, Naturals, Integers, first_base, where_numbers, signed_base_in, signed_or_words, oldest_range, integer_range}
 use Rattle.rule_word.specs.WordsAbstracted.{Abstracted, made, one, two, as_word, seen_from, by_head, or_zero, Operands, words_of, binary_base, binary_at, negation_base, unary_at, order, view_of_test, equality_kind, constant_at, var_at, Indices, operands, compared, cast_at, equal, abstracted, indices, base_of}
 use Rattle.rule_word.specs.Ready.{is_exact, is_no_word, ready, path_ready}
 
@@ -32,9 +32,9 @@ no_naturals : (b : Bool) → where_numbers b Integers ≡ Naturals → ⊥
 no_naturals true h = cc
 no_naturals false h = cc
 
-no_signed_naturals : (same : Exp → Exp → Bool) (fs : List Fact) (n : ℕ) (r : Exp) (b : Bool) → signed_base_in same b fs n r ≡ Naturals → ⊥
+no_signed_naturals : (same : Exp → Exp → Bool) (fs : Surroundings) (n : ℕ) (r : Exp) (b : Bool) → signed_base_in same b fs n r ≡ Naturals → ⊥
 no_signed_naturals same fs n r false h = cc
-no_signed_naturals same fs n r true h = by_found (first_known same (integer_range n r) (integer_range n r) fs) h
+no_signed_naturals same fs n r true h = by_found (oldest_range same fs.conditions (integer_range n r) (integer_range n r) fs.facts) h
   where
     by_found : (o : Option Base) → signed_or_words o ≡ Naturals → ⊥
     by_found None h = cc
@@ -151,7 +151,7 @@ module _ (test : Exp → Bool) (elsewhere : (e : Exp) → looks_at_heap e ≡ fa
     integers : (o : N.NumberOp) → Clean (X.Arith o os.integers.0.right os.integers.1.right)
     integers o = arith_clean o os.integers.0.right os.integers.1.right c.integers_a c.integers_b
 
-    binary_clean : (same : Exp → Exp → Bool) (fs : List Fact) (n : ℕ) (op : WordOp) (base : Base) → binary_base same numbers fs n op os ≡ base → is_exact numbers (is_arithmetic op) base ≡ true → Clean (binary_at op base os).right
+    binary_clean : (same : Exp → Exp → Bool) (fs : Surroundings) (n : ℕ) (op : WordOp) (base : Base) → binary_base same numbers fs n op os ≡ base → is_exact numbers (is_arithmetic op) base ≡ true → Clean (binary_at op base os).right
     binary_clean same fs n Wadd Words e h = at_words Wadd refl h
     binary_clean same fs n Wadd Naturals e h = naturals N.Add
     binary_clean same fs n Wadd Integers e h = integers N.Add
@@ -220,7 +220,7 @@ module _ (test : Exp → Bool) (elsewhere : (e : Exp) → looks_at_heap e ≡ fa
   cast_clean false X.Sext m v f w n x = head_clean v (X.Cast X.Sext m (f w).right) (one (f w)) (over_one (X.Cast X.Sext m (f w).right) (f w).right (x w) (λ k. k) refl refl)
   cast_clean false X.Trunc m v f w n x = head_clean v (X.Cast X.Trunc m (f w).right) (one (f w)) (over_one (X.Cast X.Trunc m (f w).right) (f w).right (x w) (λ k. k) refl refl)
 
-  two_clean : (e a b : Exp) → Clean a → Clean b → has is_word_arithmetic e ≡ has is_word_arithmetic a || has is_word_arithmetic b → has test e ≡ test e || has test a || has test b → looks_at_heap e ≡ false → Clean e
+  pub two_clean : (e a b : Exp) → Clean a → Clean b → has is_word_arithmetic e ≡ has is_word_arithmetic a || has is_word_arithmetic b → has test e ≡ test e || has test a || has test b → looks_at_heap e ≡ false → Clean e
   two_clean e a b c d h = over_two e a b c d (λ i k n. h ∙ neither (has is_word_arithmetic a) (has is_word_arithmetic b) i k)
 
   equal_clean : (f h : View → Abstracted) (v w : View) (o : Option Kind) → ((u : View) → Clean (f u).right) → ((u : View) → Clean (h u).right) → Clean (equal f h v w o).right
@@ -228,20 +228,20 @@ module _ (test : Exp → Bool) (elsewhere : (e : Exp) → looks_at_heap e ≡ fa
   equal_clean f h v w None x y = two_clean (X.Eq (f v).right (h w).right) (f v).right (h w).right (x v) (y w) refl refl refl
 
   module _ (same : Exp → Exp → Bool) (g : Scope) (names : List Binder) where
-    abbrev A : List Fact → Exp → View → Abstracted
+    abbrev A : Surroundings → Exp → View → Abstracted
     A fs e v = abstracted same numbers g names fs e v
 
-    abbrev I : List Fact → Path → Trees R.Rule → Indices
+    abbrev I : Surroundings → Path → Trees R.Rule → Indices
     I fs path ts = indices same numbers g names fs path ts
 
-    abbrev Ready : List Fact → Exp → Bool
+    abbrev Ready : Surroundings → Exp → Bool
     Ready fs e = ready same numbers g names fs e
 
-    abbrev PathReady : List Fact → Path → Bool
+    abbrev PathReady : Surroundings → Path → Bool
     PathReady fs path = path_ready same numbers g names fs path
 
     mutual
-      pub clean : (fs : List Fact) (e : Exp) → ready same numbers g names fs e ≡ true → has test e ≡ false → (v : View) → Clean (abstracted same numbers g names fs e v).right
+      pub clean : (fs : Surroundings) (e : Exp) → ready same numbers g names fs e ≡ true → has test e ≡ false → (v : View) → Clean (abstracted same numbers g names fs e v).right
       clean fs (X.Var x) r h v = var_clean (names_in (λ k. k) names x) x v
       clean fs (X.WordLit x) r h v = literal_clean v x
       clean fs (X.NumberLit n) r h v = number_clean v n
@@ -330,36 +330,36 @@ module _ (test : Exp → Bool) (elsewhere : (e : Exp) → looks_at_heap e ≡ fa
           (two_clean (X.Padd t (A fs a (own g a)).right (A fs b (own g b)).right) (A fs a (own g a)).right (A fs b (own g b)).right (clean fs a x.0 q.1 (own g a)) (clean fs b x.1 p.1 (own g b)) refl refl refl)
       clean fs (X.And a b) r h v =
           let t = A fs a truth in
-          let x = and_parts (Ready fs a) (Ready (Whole t.right ∷ fs) b) r in
+          let x = and_parts (Ready fs a) (Ready (under (Whole t.right) fs) b) r in
           let p = or_parts (test (X.And a b) || has test a) (has test b) h in
           let q = or_parts (test (X.And a b)) (has test a) p.0 in
-          two_clean (X.And t.right (A (Whole t.right ∷ fs) b truth).right) t.right (A (Whole t.right ∷ fs) b truth).right (clean fs a x.0 q.1 truth) (clean (Whole t.right ∷ fs) b x.1 p.1 truth) refl refl refl
+          two_clean (X.And t.right (A (under (Whole t.right) fs) b truth).right) t.right (A (under (Whole t.right) fs) b truth).right (clean fs a x.0 q.1 truth) (clean (under (Whole t.right) fs) b x.1 p.1 truth) refl refl refl
       clean fs (X.Or a b) r h v =
           let t = A fs a truth in
-          let x = and_parts (Ready fs a) (Ready (NotTrue t.right ∷ fs) b) r in
+          let x = and_parts (Ready fs a) (Ready (under (NotTrue t.right) fs) b) r in
           let p = or_parts (test (X.Or a b) || has test a) (has test b) h in
           let q = or_parts (test (X.Or a b)) (has test a) p.0 in
-          two_clean (X.Or t.right (A (NotTrue t.right ∷ fs) b truth).right) t.right (A (NotTrue t.right ∷ fs) b truth).right (clean fs a x.0 q.1 truth) (clean (NotTrue t.right ∷ fs) b x.1 p.1 truth) refl refl refl
+          two_clean (X.Or t.right (A (under (NotTrue t.right) fs) b truth).right) t.right (A (under (NotTrue t.right) fs) b truth).right (clean fs a x.0 q.1 truth) (clean (under (NotTrue t.right) fs) b x.1 p.1 truth) refl refl refl
       clean fs (X.Imp a b) r h v =
           let t = A fs a truth in
-          let x = and_parts (Ready fs a) (Ready (Whole t.right ∷ fs) b) r in
+          let x = and_parts (Ready fs a) (Ready (under (Whole t.right) fs) b) r in
           let p = or_parts (test (X.Imp a b) || has test a) (has test b) h in
           let q = or_parts (test (X.Imp a b)) (has test a) p.0 in
-          two_clean (X.Imp t.right (A (Whole t.right ∷ fs) b truth).right) t.right (A (Whole t.right ∷ fs) b truth).right (clean fs a x.0 q.1 truth) (clean (Whole t.right ∷ fs) b x.1 p.1 truth) refl refl refl
+          two_clean (X.Imp t.right (A (under (Whole t.right) fs) b truth).right) t.right (A (under (Whole t.right) fs) b truth).right (clean fs a x.0 q.1 truth) (clean (under (Whole t.right) fs) b x.1 p.1 truth) refl refl refl
       clean fs (X.Not a) r h v =
           let q = or_parts (test (X.Not a)) (has test a) h in over_one (X.Not (A fs a truth).right) (A fs a truth).right (clean fs a r q.1 truth) (λ k. k) refl refl
       clean fs (X.If c a b) r h v =
           let t = A fs c truth in
-          let x = A (Whole t.right ∷ fs) a v in
-          let y = A (NotTrue t.right ∷ fs) b v in
-          let i = and_parts (Ready fs c && Ready (Whole t.right ∷ fs) a) (Ready (NotTrue t.right ∷ fs) b) r in
-          let j = and_parts (Ready fs c) (Ready (Whole t.right ∷ fs) a) i.0 in
+          let x = A (under (Whole t.right) fs) a v in
+          let y = A (under (NotTrue t.right) fs) b v in
+          let i = and_parts (Ready fs c && Ready (under (Whole t.right) fs) a) (Ready (under (NotTrue t.right) fs) b) r in
+          let j = and_parts (Ready fs c) (Ready (under (Whole t.right) fs) a) i.0 in
           let p = or_parts (test (X.If c a b) || has test c || has test a) (has test b) h in
           let q = or_parts (test (X.If c a b) || has test c) (has test a) p.0 in
           let s = or_parts (test (X.If c a b)) (has test c) q.0 in
           let k = clean fs c j.0 s.1 truth in
-          let m = clean (Whole t.right ∷ fs) a j.1 q.1 v in
-          let n = clean (NotTrue t.right ∷ fs) b i.1 p.1 v in
+          let m = clean (under (Whole t.right) fs) a j.1 q.1 v in
+          let n = clean (under (NotTrue t.right) fs) b i.1 p.1 v in
           record {
             arithmetic = λ l. neither (has is_word_arithmetic t.right || has is_word_arithmetic x.right) (has is_word_arithmetic y.right) (neither (has is_word_arithmetic t.right) (has is_word_arithmetic x.right) (k.arithmetic l) (m.arithmetic l)) (n.arithmetic l);
             heap = neither (test (X.If t.right x.right y.right) || has test t.right || has test x.right) (has test y.right)
@@ -420,7 +420,7 @@ module _ (test : Exp → Bool) (elsewhere : (e : Exp) → looks_at_heap e ≡ fa
                 (neither (test (X.Upd x.right i.path y.right) || has test x.right) (path_has test i.path) (neither (test (X.Upd x.right i.path y.right)) (has test x.right) (elsewhere (X.Upd x.right i.path y.right) refl) c.heap) d.heap) e.heap;
           })
 
-      pub clean_path : (fs : List Fact) (path : Path) → path_ready same numbers g names fs path ≡ true → path_has test path ≡ false → (ts : Trees R.Rule) → CleanPath (indices same numbers g names fs path ts).path
+      pub clean_path : (fs : Surroundings) (path : Path) → path_ready same numbers g names fs path ≡ true → path_has test path ≡ false → (ts : Trees R.Rule) → CleanPath (indices same numbers g names fs path ts).path
       clean_path fs X.Here r h ts = record { arithmetic = λ n. refl; heap = refl }
       clean_path fs (X.IntoField k path) r h ts = let c = clean_path fs path r h ts in record { arithmetic = c.arithmetic; heap = c.heap }
       clean_path fs (X.IntoElement e path) r h ts =

@@ -12,14 +12,14 @@ use Rattle.expression_lang.specs.Expression.{Exp, Path}
 use Rattle.expression_lang.specs.Sort.{Kind, WordKind, NatKind, IntKind, BoolKind, Sort, Of, PartsSort, WordSort, NumberSort, TruthSort, Scope, sort_of, shape_along, shape_in, word_sort, number_sort, truth_sort, word_width, is_number, is_truth, is_word_of, are_same, word_sort_of, where_holds, of_word, of_shape, parts_shape, sort_at, scalar_sort, is_width, cast_fits, is_unary, is_one_step}
 use Rattle.expression_lang.specs.Signature.{Binder}
 use Rattle.expression_lang.proofs.Inversion.{where_inv, words_inv, word_inv, width_inv, number_inv, truth_inv, word_of_inv, same_inv, shape_inv, type_inv, parts_inv}
-use Rattle.ac_expr.specs.Fact.{Fact, Whole, NotTrue}
+use Rattle.ac_expr.specs.Fact.{Whole, NotTrue}
 use Rattle.ac_expr.specs.Heads.{head, children, path_children, path_head, hole}
 use Rattle.rule_trees.specs.RuleTree.{Trees, no_trees, tree, Accepts, AcceptsAll}
 use Rattle.rule_word.specs.Rule as R
 use Rattle.rule_word.specs.Rule.{Rule, Context, Point, View, AsIs, Unsigned, Signed, Claim, expression}
 use Rattle.rule_word.specs.Scopes.{names_in, words, sort_seen, view_for, own, width_in}
 use Rattle.rule_word.specs.Table.{truth, each, owns, is_operator, table, of_width}
-use Rattle.rule_word.specs.Bases.{Base, Words, Naturals, Integers, view_at_base, kind_at_base, integer_range, signed_base_in, where_numbers, first_base, first_known, signed_or_words}
+use Rattle.rule_word.specs.Bases.{Surroundings, under, known_there, Base, Words, Naturals, Integers, view_at_base, kind_at_base, integer_range, signed_base_in, where_numbers, first_base, oldest_range, signed_or_words}
 use Rattle.rule_word.specs.WordsAbstracted.{Abstracted, made, one, two, as_word, seen_from, by_head, or_zero, Operands, words_of, binary_base, binary_at, negation_base, unary_at, view_of_test, equality_kind, constant_at, var_at, Indices, extended, extended_signed, operands, compared, cast_at, equal, abstracted, indices, base_of}
 use Rattle.rule_word.proofs.BasesKnown.{base_known, signed_known}
 
@@ -46,25 +46,25 @@ module _ (ctx : Context) (names : List Binder) (same : Exp → Exp → Bool) (is
   abbrev g : Scope
   g = (words ctx names).scope
 
-  abbrev point : List Fact → Point
-  point fs = record { facts = fs; names = names }
+  abbrev point : Surroundings → Point
+  point fs = record { facts = known_there fs; names = names }
 
-  abbrev Taken : List Fact → Exp → View → Abstracted → Type 0
+  abbrev Taken : Surroundings → Exp → View → Abstracted → Type 0
   Taken fs e v x = Accepts (table ctx) x.tree (expression (point fs) e v x.right)
 
-  abbrev A : List Fact → Exp → View → Abstracted
+  abbrev A : Surroundings → Exp → View → Abstracted
   A fs e v = abstracted same numbers (words ctx names).scope names fs e v
 
   -- a word that is taken at a base is taken at each view
-  as_word_taken : (fs : List Fact) (base : Base) (n : ℕ) (e : Exp) (x : Abstracted) → sort_of g e ≡ word_sort n → Taken fs e (view_at_base base n) x → Taken fs e (AsIs (word_sort n)) (as_word base n x)
+  as_word_taken : (fs : Surroundings) (base : Base) (n : ℕ) (e : Exp) (x : Abstracted) → sort_of g e ≡ word_sort n → Taken fs e (view_at_base base n) x → Taken fs e (AsIs (word_sort n)) (as_word base n x)
   as_word_taken fs Words n e x q h = h
   as_word_taken fs Naturals n e x q h = ((q, (refl, refl)), (h, tt))
   as_word_taken fs Integers n e x q h = ((q, (refl, refl)), (h, tt))
 
-  as_is_taken : (fs : List Fact) (o p : Option Sort) (e : Exp) (x : Abstracted) → p ≡ o → Taken fs e (AsIs o) x → Taken fs e (AsIs p) x
+  as_is_taken : (fs : Surroundings) (o p : Option Sort) (e : Exp) (x : Abstracted) → p ≡ o → Taken fs e (AsIs o) x → Taken fs e (AsIs p) x
   as_is_taken fs o p e x h t = subst (λ z. Taken fs e (AsIs z) x) (sym h) t
 
-  seen_taken : (fs : List Fact) (base : Base) (n : ℕ) (e : Exp) (x : Abstracted) → sort_of g e ≡ word_sort n → Taken fs e (view_at_base base n) x → (v : View) → sort_seen v ≡ word_sort n → Taken fs e v (seen_from base n v x)
+  seen_taken : (fs : Surroundings) (base : Base) (n : ℕ) (e : Exp) (x : Abstracted) → sort_of g e ≡ word_sort n → Taken fs e (view_at_base base n) x → (v : View) → sort_seen v ≡ word_sort n → Taken fs e v (seen_from base n v x)
   seen_taken fs Naturals n e x q h (Unsigned m) k = subst (λ i. Taken fs e (Unsigned i) x) (sym (same_width m n k)) h
   seen_taken fs Integers n e x q h (Signed m) k = subst (λ i. Taken fs e (Signed i) x) (sym (same_width m n k)) h
   seen_taken fs Words n e x q h (AsIs o) k = as_is_taken fs (word_sort n) o e x k h
@@ -76,13 +76,13 @@ module _ (ctx : Context) (names : List Binder) (same : Exp → Exp → Bool) (is
   seen_taken fs Naturals n e x q h (Signed m) k = ((q ∙ sym k, tt), (as_is_taken fs (word_sort n) (word_sort m) e (as_word Naturals n x) k (as_word_taken fs Naturals n e x q h), tt))
 
   -- a head that no other rule is for
-  abbrev HeadTaken : List Fact → Exp → Exp → Trees Rule → Type 0
+  abbrev HeadTaken : Surroundings → Exp → Exp → Trees Rule → Type 0
   HeadTaken fs e a ts = AcceptsAll (table ctx) ts (each (point fs) (children e) (owns g (children e)) (children a))
 
-  op_taken : (fs : List Fact) (e a : Exp) (ts : Trees Rule) (o : Option Sort) → sort_of g e ≡ o → is_operator e ≡ true → head a ≡ head e → HeadTaken fs e a ts → Taken fs e (AsIs o) (made R.Op a ts)
+  op_taken : (fs : Surroundings) (e a : Exp) (ts : Trees Rule) (o : Option Sort) → sort_of g e ≡ o → is_operator e ≡ true → head a ≡ head e → HeadTaken fs e a ts → Taken fs e (AsIs o) (made R.Op a ts)
   op_taken fs e a ts o q i h k = ((q, (i, h)), k)
 
-  by_head_taken : (fs : List Fact) (e a : Exp) (ts : Trees Rule) (s : Sort) → sort_of g e ≡ Some s → is_operator e ≡ true → head a ≡ head e → HeadTaken fs e a ts → (v : View) → sort_seen v ≡ Some s → Taken fs e v (by_head v a ts)
+  by_head_taken : (fs : Surroundings) (e a : Exp) (ts : Trees Rule) (s : Sort) → sort_of g e ≡ Some s → is_operator e ≡ true → head a ≡ head e → HeadTaken fs e a ts → (v : View) → sort_seen v ≡ Some s → Taken fs e v (by_head v a ts)
   by_head_taken fs e a ts s q i h k (AsIs o) w = op_taken fs e a ts o (q ∙ sym w) i h k
   by_head_taken fs e a ts s q i h k (Unsigned m) w = ((q ∙ sym w, tt), (op_taken fs e a ts (word_sort m) (q ∙ sym w) i h k, tt))
   by_head_taken fs e a ts s q i h k (Signed m) w = ((q ∙ sym w, tt), (op_taken fs e a ts (word_sort m) (q ∙ sym w) i h k, tt))
@@ -106,7 +106,7 @@ module _ (ctx : Context) (names : List Binder) (same : Exp → Exp → Bool) (is
   width_of_both : (a : Exp) (n : ℕ) → word_width (sort_of g a) ≡ Some n → n ≡ or_zero (width_in g a)
   width_of_both a n h = ap or_zero (sym h)
 
-  var_taken : (fs : List Fact) (x : Name) (o : Option Kind) → names_in (λ k. k) names x ≡ o → (s : Sort) → sort_of g (X.Var x) ≡ Some s → (v : View) → sort_seen v ≡ Some s → Taken fs (X.Var x) v (var_at o x v)
+  var_taken : (fs : Surroundings) (x : Name) (o : Option Kind) → names_in (λ k. k) names x ≡ o → (s : Sort) → sort_of g (X.Var x) ≡ Some s → (v : View) → sort_seen v ≡ Some s → Taken fs (X.Var x) v (var_at o x v)
   var_taken fs x o e s q v w = by_kind o (names_there word_sort_of names x ∙ ap (there word_sort_of) e) (names_there view_for names x ∙ ap (there view_for) e)
     where
       kind_sorted : (k : Kind) → names_in word_sort_of names x ≡ Some (word_sort_of k) → sort_of g (X.Var x) ≡ Some (Of (word_sort_of k))
@@ -122,7 +122,7 @@ module _ (ctx : Context) (names : List Binder) (same : Exp → Exp → Bool) (is
       by_kind (Some (IntKind n)) a b = seen_taken fs Integers n (X.Var x) (made R.Var (X.Var x) no_trees) (kind_sorted (IntKind n) a) ((kind_sorted (IntKind n) a, (refl, b)), tt) v (w ∙ sym q ∙ kind_sorted (IntKind n) a)
       by_kind (Some BoolKind) a b = not_word (λ u. Taken fs (X.Var x) u (var_at (Some BoolKind) x u)) v (Of TruthSort) (w ∙ sym q ∙ kind_sorted BoolKind a) refl ((kind_sorted BoolKind a, (refl, b)), tt)
 
-  literal_taken : (fs : List Fact) (w : _) (s : Sort) → sort_of g (X.WordLit w) ≡ Some s → (v : View) → sort_seen v ≡ Some s → Taken fs (X.WordLit w) v (constant_at v (X.WordLit w))
+  literal_taken : (fs : Surroundings) (w : _) (s : Sort) → sort_of g (X.WordLit w) ≡ Some s → (v : View) → sort_seen v ≡ Some s → Taken fs (X.WordLit w) v (constant_at v (X.WordLit w))
   literal_taken fs w s q (AsIs o) h = ((q ∙ sym h, refl), tt)
   literal_taken fs w s q (Unsigned n) h = ((q ∙ sym h, refl), tt)
   literal_taken fs w s q (Signed n) h = ((q ∙ sym h, refl), tt)
@@ -135,24 +135,24 @@ module _ (ctx : Context) (names : List Binder) (same : Exp → Exp → Bool) (is
   no_naturals true h = cc
   no_naturals false h = cc
 
-  no_signed_naturals : (fs : List Fact) (n : ℕ) (r : Exp) (b : Bool) → signed_base_in same b fs n r ≡ Naturals → ⊥
+  no_signed_naturals : (fs : Surroundings) (n : ℕ) (r : Exp) (b : Bool) → signed_base_in same b fs n r ≡ Naturals → ⊥
   no_signed_naturals fs n r false h = cc
-  no_signed_naturals fs n r true h = by_found (first_known same (integer_range n r) (integer_range n r) fs) h
+  no_signed_naturals fs n r true h = by_found (oldest_range same fs.conditions (integer_range n r) (integer_range n r) fs.facts) h
     where
       by_found : (o : Option Base) → signed_or_words o ≡ Naturals → ⊥
       by_found None h = cc
       by_found (Some c) h = cc
 
   -- both operands are taken, at each base
-  record BothTaken (fs : List Fact) (n : ℕ) (a b : Exp) (os : Operands) : Type 0 where
-    words_a : Accepts (table ctx) os.words.0.tree (expression (record { facts = fs; names = names }) a (own (words ctx names).scope a) os.words.0.right)
-    words_b : Accepts (table ctx) os.words.1.tree (expression (record { facts = fs; names = names }) b (own (words ctx names).scope b) os.words.1.right)
-    naturals_a : Accepts (table ctx) os.naturals.0.tree (expression (record { facts = fs; names = names }) a (Unsigned n) os.naturals.0.right)
-    naturals_b : Accepts (table ctx) os.naturals.1.tree (expression (record { facts = fs; names = names }) b (Unsigned n) os.naturals.1.right)
-    integers_a : Accepts (table ctx) os.integers.0.tree (expression (record { facts = fs; names = names }) a (Signed n) os.integers.0.right)
-    integers_b : Accepts (table ctx) os.integers.1.tree (expression (record { facts = fs; names = names }) b (Signed n) os.integers.1.right)
+  record BothTaken (fs : Surroundings) (n : ℕ) (a b : Exp) (os : Operands) : Type 0 where
+    words_a : Accepts (table ctx) os.words.0.tree (expression (record { facts = known_there fs; names = names }) a (own (words ctx names).scope a) os.words.0.right)
+    words_b : Accepts (table ctx) os.words.1.tree (expression (record { facts = known_there fs; names = names }) b (own (words ctx names).scope b) os.words.1.right)
+    naturals_a : Accepts (table ctx) os.naturals.0.tree (expression (record { facts = known_there fs; names = names }) a (Unsigned n) os.naturals.0.right)
+    naturals_b : Accepts (table ctx) os.naturals.1.tree (expression (record { facts = known_there fs; names = names }) b (Unsigned n) os.naturals.1.right)
+    integers_a : Accepts (table ctx) os.integers.0.tree (expression (record { facts = known_there fs; names = names }) a (Signed n) os.integers.0.right)
+    integers_b : Accepts (table ctx) os.integers.1.tree (expression (record { facts = known_there fs; names = names }) b (Signed n) os.integers.1.right)
 
-  module _ (fs : List Fact) (n : ℕ) (a b : Exp) (os : Operands) (t : BothTaken fs n a b os) where
+  module _ (fs : Surroundings) (n : ℕ) (a b : Exp) (os : Operands) (t : BothTaken fs n a b os) where
     words_taken : (op : WordOp) → sort_of g (X.WordBinary op a b) ≡ word_sort n → Taken fs (X.WordBinary op a b) (AsIs (word_sort n)) (words_of op os)
     words_taken op q = op_taken fs (X.WordBinary op a b) (X.WordBinary op os.words.0.right os.words.1.right) (two os.words.0 os.words.1) (word_sort n) q refl refl (t.words_a, (t.words_b, tt))
 
@@ -188,7 +188,7 @@ module _ (ctx : Context) (names : List Binder) (same : Exp → Exp → Bool) (is
     binary_taken Wor Integers q h = absurd cc
     binary_taken Wxor Integers q h = absurd cc
 
-  unary_taken : (fs : List Fact) (n : ℕ) (a : Exp) (op : UnaryOp) (word natural integer : Abstracted) (base : Base) → sort_of g (X.WordUnary op a) ≡ word_sort n →
+  unary_taken : (fs : Surroundings) (n : ℕ) (a : Exp) (op : UnaryOp) (word natural integer : Abstracted) (base : Base) → sort_of g (X.WordUnary op a) ≡ word_sort n →
       Taken fs a (own g a) word → Taken fs a (Unsigned n) natural → Taken fs a (Signed n) integer → negation_base same numbers fs n op natural integer ≡ base → Taken fs (X.WordUnary op a) (view_at_base base n) (unary_at op base word natural integer)
   unary_taken fs n a Wneg word natural integer Words q w x y h = op_taken fs (X.WordUnary Wneg a) (X.WordUnary Wneg word.right) (one word) (word_sort n) q refl refl (w, tt)
   unary_taken fs n a Wneg word natural integer Naturals q w x y h = ((q, base_known same is_same numbers fs n (X.Negate natural.right) (X.Negate integer.right) Naturals h), (x, tt))
@@ -205,19 +205,19 @@ module _ (ctx : Context) (names : List Binder) (same : Exp → Exp → Bool) (is
   width_some a n h = ap word_width h
 
   -- an extended word
-  zext_taken : (fs : List Fact) (m n : ℕ) (a : Exp) (x : Abstracted) → sort_of g (X.Cast X.Zext m a) ≡ word_sort m → sort_of g a ≡ word_sort n → Taken fs a (Unsigned n) x → (v : View) → sort_seen v ≡ word_sort m → Taken fs (X.Cast X.Zext m a) v (extended v m x)
+  zext_taken : (fs : Surroundings) (m n : ℕ) (a : Exp) (x : Abstracted) → sort_of g (X.Cast X.Zext m a) ≡ word_sort m → sort_of g a ≡ word_sort n → Taken fs a (Unsigned n) x → (v : View) → sort_seen v ≡ word_sort m → Taken fs (X.Cast X.Zext m a) v (extended v m x)
   zext_taken fs m n a x q p h (Unsigned k) w = let r = width_row (width_in g a) n (λ j. expression (point fs) a (Unsigned j) x.right ∷ []) (one x) (width_some a n p) (h, tt) in ((q ∙ sym w, r.0), r.1)
   zext_taken fs m n a x q p h (Signed k) w = let r = width_row (width_in g a) n (λ j. expression (point fs) a (Unsigned j) x.right ∷ []) (one x) (width_some a n p) (h, tt) in ((q ∙ sym w, r.0), r.1)
   zext_taken fs m n a x q p h (AsIs o) w =
       let r = width_row (width_in g a) n (λ j. expression (point fs) a (Unsigned j) x.right ∷ []) (one x) (width_some a n p) (h, tt) in ((q ∙ sym w, (refl, w)), (((q, r.0), r.1), tt))
 
-  sext_taken : (fs : List Fact) (m n : ℕ) (a : Exp) (x : Abstracted) → sort_of g (X.Cast X.Sext m a) ≡ word_sort m → sort_of g a ≡ word_sort n → Taken fs a (Signed n) x → (v : View) → sort_seen v ≡ word_sort m → Taken fs (X.Cast X.Sext m a) v (extended_signed v m x)
+  sext_taken : (fs : Surroundings) (m n : ℕ) (a : Exp) (x : Abstracted) → sort_of g (X.Cast X.Sext m a) ≡ word_sort m → sort_of g a ≡ word_sort n → Taken fs a (Signed n) x → (v : View) → sort_seen v ≡ word_sort m → Taken fs (X.Cast X.Sext m a) v (extended_signed v m x)
   sext_taken fs m n a x q p h v w =
       let r = width_row (width_in g a) n (λ j. expression (point fs) a (Signed j) x.right ∷ []) (one x) (width_some a n p) (h, tt) in
       seen_taken fs Integers m (X.Cast X.Sext m a) (made R.Sext x.right (one x)) q ((q, r.0), r.1) v w
 
   -- tests
-  compared_taken : (fs : List Fact) (test : WordTest) (a b : Exp) (f h : View → Abstracted) (n : ℕ) → sort_of g (X.WordCompare test a b) ≡ truth_sort → sort_of g a ≡ word_sort n → sort_of g b ≡ word_sort n →
+  compared_taken : (fs : Surroundings) (test : WordTest) (a b : Exp) (f h : View → Abstracted) (n : ℕ) → sort_of g (X.WordCompare test a b) ≡ truth_sort → sort_of g a ≡ word_sort n → sort_of g b ≡ word_sort n →
       Taken fs a (own g a) (f (own g a)) → Taken fs b (own g b) (h (own g b)) → Taken fs a (view_of_test test n) (f (view_of_test test n)) → Taken fs b (view_of_test test n) (h (view_of_test test n)) → (c : Bool) →
       Taken fs (X.WordCompare test a b) truth (compared c test f h (own g a) (own g b) n)
   compared_taken fs test a b f h n q p r w x y z false = op_taken fs (X.WordCompare test a b) (X.WordCompare test (f (own g a)).right (h (own g b)).right) (two (f (own g a)) (h (own g b))) truth_sort q refl refl (w, (x, tt))
@@ -230,7 +230,7 @@ module _ (ctx : Context) (names : List Binder) (same : Exp → Exp → Bool) (is
   compared_taken fs Wsle a b f h n q p r w x y z true =
       let k = width_row (width_in g a) n (λ j. expression (point fs) a (Signed j) (f (Signed n)).right ∷ expression (point fs) b (Signed j) (h (Signed n)).right ∷ []) (two (f (Signed n)) (h (Signed n))) (width_some a n p) (y, (z, tt)) in ((q, k.0), k.1)
 
-  cast_taken : (fs : List Fact) (op : X.CastOp) (m n : ℕ) (a : Exp) (f : View → Abstracted) → sort_of g (X.Cast op m a) ≡ word_sort m → sort_of g a ≡ word_sort n → Taken fs a (own g a) (f (own g a)) → Taken fs a (Unsigned n) (f (Unsigned n)) → Taken fs a (Signed n) (f (Signed n)) →
+  cast_taken : (fs : Surroundings) (op : X.CastOp) (m n : ℕ) (a : Exp) (f : View → Abstracted) → sort_of g (X.Cast op m a) ≡ word_sort m → sort_of g a ≡ word_sort n → Taken fs a (own g a) (f (own g a)) → Taken fs a (Unsigned n) (f (Unsigned n)) → Taken fs a (Signed n) (f (Signed n)) →
       (v : View) → sort_seen v ≡ word_sort m → (c : Bool) → Taken fs (X.Cast op m a) v (cast_at c op m v f (own g a) n)
   cast_taken fs X.Zext m n a f q p w x y v h true = zext_taken fs m n a (f (Unsigned n)) q p x v h
   cast_taken fs X.Sext m n a f q p w x y v h true = sext_taken fs m n a (f (Signed n)) q p y v h
@@ -244,7 +244,7 @@ module _ (ctx : Context) (names : List Binder) (same : Exp → Exp → Bool) (is
   base_sort Naturals n = refl
   base_sort Integers n = refl
 
-  equal_taken : (fs : List Fact) (a b : Exp) (f h : View → Abstracted) (base : Base) (s : Sort) → sort_of g (X.Eq a b) ≡ truth_sort → sort_of g a ≡ Some s → sort_of g b ≡ Some s →
+  equal_taken : (fs : Surroundings) (a b : Exp) (f h : View → Abstracted) (base : Base) (s : Sort) → sort_of g (X.Eq a b) ≡ truth_sort → sort_of g a ≡ Some s → sort_of g b ≡ Some s →
       ((v : View) → sort_seen v ≡ Some s → Taken fs a v (f v)) → ((v : View) → sort_seen v ≡ Some s → Taken fs b v (h v)) → Taken fs (X.Eq a b) truth (equal f h (own g a) (own g b) (equality_kind (Some s) base))
   equal_taken fs a b f h base (Of (WordSort n)) q p r x y = ((q, tt), (x (view_for (kind_at_base base n)) (base_sort base n), (y (view_for (kind_at_base base n)) (base_sort base n), tt)))
   equal_taken fs a b f h base (Of TruthSort) q p r x y = ((q, tt), (x truth refl, (y truth refl, tt)))
@@ -282,16 +282,16 @@ module _ (ctx : Context) (names : List Binder) (same : Exp → Exp → Bool) (is
       by_index true i h rest = (number_inv (sort_of g e) i, rest h)
       by_index false i h rest = absurd cc
 
-  pub path_head_kept : (fs : List Fact) (path : Path) (ts : Trees Rule) → path_head (indices same numbers g names fs path ts).path ≡ path_head path
+  pub path_head_kept : (fs : Surroundings) (path : Path) (ts : Trees Rule) → path_head (indices same numbers g names fs path ts).path ≡ path_head path
   path_head_kept fs X.Here ts = refl
   path_head_kept fs (X.IntoField k path) ts = ap (λ p. X.IntoField k p) (path_head_kept fs path ts)
   path_head_kept fs (X.IntoElement e path) ts = ap (λ p. X.IntoElement hole p) (path_head_kept fs path ts)
 
-  abbrev I : List Fact → Path → Trees Rule → Indices
+  abbrev I : Surroundings → Path → Trees Rule → Indices
   I fs path ts = indices same numbers (words ctx names).scope names fs path ts
 
   mutual
-    pub taken : (fs : List Fact) (e : Exp) (s : Sort) → sort_of g e ≡ Some s → (v : View) → sort_seen v ≡ Some s → Taken fs e v (A fs e v)
+    pub taken : (fs : Surroundings) (e : Exp) (s : Sort) → sort_of g e ≡ Some s → (v : View) → sort_seen v ≡ Some s → Taken fs e v (A fs e v)
     taken fs (X.Var x) s q v w = var_taken fs x (names_in (λ k. k) names x) refl s q v w
     taken fs (X.WordLit x) s q v w = literal_taken fs x s q v w
     taken fs (X.NumberLit n) s q v w = not_word (λ u. Taken fs (X.NumberLit n) u (constant_at u (X.NumberLit n))) v (Of NumberSort) (w ∙ sym q) refl ((refl, refl), tt)
@@ -401,17 +401,17 @@ module _ (ctx : Context) (names : List Binder) (same : Exp → Exp → Bool) (is
         let r = where_inv (is_truth (sort_of g a) && is_truth (sort_of g b)) truth_sort s q in
         let d = and_parts (is_truth (sort_of g a)) (is_truth (sort_of g b)) r.0 in
         not_word (λ u. Taken fs (X.And a b) u (A fs (X.And a b) u)) v (Of TruthSort) (w ∙ sym r.1) refl
-        ((q ∙ sym r.1, tt), (taken fs a (Of TruthSort) (truth_inv (sort_of g a) d.0) truth refl, (taken (Whole (A fs a truth).right ∷ fs) b (Of TruthSort) (truth_inv (sort_of g b) d.1) truth refl, tt)))
+        ((q ∙ sym r.1, tt), (taken fs a (Of TruthSort) (truth_inv (sort_of g a) d.0) truth refl, (taken (under (Whole (A fs a truth).right) fs) b (Of TruthSort) (truth_inv (sort_of g b) d.1) truth refl, tt)))
     taken fs (X.Or a b) s q v w =
         let r = where_inv (is_truth (sort_of g a) && is_truth (sort_of g b)) truth_sort s q in
         let d = and_parts (is_truth (sort_of g a)) (is_truth (sort_of g b)) r.0 in
         not_word (λ u. Taken fs (X.Or a b) u (A fs (X.Or a b) u)) v (Of TruthSort) (w ∙ sym r.1) refl
-        ((q ∙ sym r.1, tt), (taken fs a (Of TruthSort) (truth_inv (sort_of g a) d.0) truth refl, (taken (NotTrue (A fs a truth).right ∷ fs) b (Of TruthSort) (truth_inv (sort_of g b) d.1) truth refl, tt)))
+        ((q ∙ sym r.1, tt), (taken fs a (Of TruthSort) (truth_inv (sort_of g a) d.0) truth refl, (taken (under (NotTrue (A fs a truth).right) fs) b (Of TruthSort) (truth_inv (sort_of g b) d.1) truth refl, tt)))
     taken fs (X.Imp a b) s q v w =
         let r = where_inv (is_truth (sort_of g a) && is_truth (sort_of g b)) truth_sort s q in
         let d = and_parts (is_truth (sort_of g a)) (is_truth (sort_of g b)) r.0 in
         not_word (λ u. Taken fs (X.Imp a b) u (A fs (X.Imp a b) u)) v (Of TruthSort) (w ∙ sym r.1) refl
-        ((q ∙ sym r.1, tt), (taken fs a (Of TruthSort) (truth_inv (sort_of g a) d.0) truth refl, (taken (Whole (A fs a truth).right ∷ fs) b (Of TruthSort) (truth_inv (sort_of g b) d.1) truth refl, tt)))
+        ((q ∙ sym r.1, tt), (taken fs a (Of TruthSort) (truth_inv (sort_of g a) d.0) truth refl, (taken (under (Whole (A fs a truth).right) fs) b (Of TruthSort) (truth_inv (sort_of g b) d.1) truth refl, tt)))
     taken fs (X.Not a) s q v w =
         let r = where_inv (is_truth (sort_of g a)) truth_sort s q in
         not_word (λ u. Taken fs (X.Not a) u (A fs (X.Not a) u)) v (Of TruthSort) (w ∙ sym r.1) refl
@@ -423,7 +423,7 @@ module _ (ctx : Context) (names : List Binder) (same : Exp → Exp → Bool) (is
           (q ∙ sym w, tt),
           (
             taken fs c (Of TruthSort) (truth_inv (sort_of g c) d.0) truth refl,
-            (taken (Whole (A fs c truth).right ∷ fs) a s r.1 v w, (taken (NotTrue (A fs c truth).right ∷ fs) b s (i.2 ∙ sym i.1 ∙ r.1) v w, tt)),
+            (taken (under (Whole (A fs c truth).right) fs) a s r.1 v w, (taken (under (NotTrue (A fs c truth).right) fs) b s (i.2 ∙ sym i.1 ∙ r.1) v w, tt)),
           ),
         )
     taken fs (X.Padd t p k) s q v w =
@@ -482,13 +482,13 @@ module _ (ctx : Context) (names : List Binder) (same : Exp → Exp → Bool) (is
         by_head_taken fs (X.Upd e path x) (X.Upd (A fs e (own g e)).right (I fs path (one y)).path y.right) (tree (A fs e (own g e)).tree (I fs path (one y)).trees) s q refl (ap (λ z. X.Upd hole z hole) (path_head_kept fs path (one y)))
         (taken fs e (PartsSort b.0) b.1 (own g e) b.1, indices_before fs path (all_numbers path a.0 c.0 c.1) (x ∷ []) (y.right ∷ []) (one y) (taken fs x r.0 r.2 (own g x) r.2, tt)) v w
 
-    pub indices_before : (fs : List Fact) (path : Path) → AllNumbers path → (es as' : List Exp) (ts : Trees Rule) → AcceptsAll (table ctx) ts (each (point fs) es (owns g es) as') →
+    pub indices_before : (fs : Surroundings) (path : Path) → AllNumbers path → (es as' : List Exp) (ts : Trees Rule) → AcceptsAll (table ctx) ts (each (point fs) es (owns g es) as') →
         AcceptsAll (table ctx) (I fs path ts).trees (each (point fs) (path_children path ++ es) (owns g (path_children path ++ es)) (path_children (I fs path ts).path ++ as'))
     indices_before fs X.Here h es as' ts k = k
     indices_before fs (X.IntoField n path) h es as' ts k = indices_before fs path h es as' ts k
     indices_before fs (X.IntoElement e path) h es as' ts k = (taken fs e (Of NumberSort) h.0 (own g e) h.0, indices_before fs path h.1 es as' ts k)
 
-    pub indices_taken : (fs : List Fact) (path : Path) → AllNumbers path → AcceptsAll (table ctx) (I fs path no_trees).trees (each (point fs) (path_children path) (owns g (path_children path)) (path_children (I fs path no_trees).path))
+    pub indices_taken : (fs : Surroundings) (path : Path) → AllNumbers path → AcceptsAll (table ctx) (I fs path no_trees).trees (each (point fs) (path_children path) (owns g (path_children path)) (path_children (I fs path no_trees).path))
     indices_taken fs X.Here h = tt
     indices_taken fs (X.IntoField k path) h = indices_taken fs path h
     indices_taken fs (X.IntoElement e path) h = (taken fs e (Of NumberSort) h.0 (own g e) h.0, indices_taken fs path h.1)

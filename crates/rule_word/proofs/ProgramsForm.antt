@@ -22,9 +22,10 @@ use Rattle.rule_word.specs.Scopes.{with_kinds, words, own}
 use Rattle.rule_word.specs.Table.{truth, views_for, recast, recast_first, recasts, start_exps}
 use Rattle.rule_word.specs.Kept.{kinds_taken, kinds_given}
 use Rattle.rule_word.specs.WordsAbstracted.{Abstracted, one, indices}
-use Rattle.rule_word.specs.ProgramsAbstracted.{AbstractedProgram, rights, trees_before, restarted, kinds_for, scalars_there, same_kinds, recast_by, result_names, in_words, recast_or, recast_to, pick_at, exp_at, all_at, place_at, program_abstracted}
-use Rattle.rule_word.specs.Ready.{exp_ready, all_ready, starts_ready, place_ready, path_ready, program_ready}
-use Rattle.rule_word.proofs.AbstractedForm.{Clean, CleanPath, clean, clean_path, looks_at_heap, neither}
+use Rattle.rule_word.specs.Bases.{among}
+use Rattle.rule_word.specs.ProgramsAbstracted.{AbstractedProgram, rights, trees_before, restarted, kinds_for, scalars_there, same_kinds, recast_by, result_names, in_words, recast_or, recast_to, pick_at, exp_at, guard_at, all_at, place_at, program_abstracted}
+use Rattle.rule_word.specs.Ready.{exp_ready, guard_ready, all_ready, starts_ready, place_ready, path_ready, program_ready}
+use Rattle.rule_word.proofs.AbstractedForm.{Clean, CleanPath, two_clean, clean, clean_path, looks_at_heap, neither}
 
 same_or : (b : Bool) (e a : Exp) → cond b (Some e) None ≡ Some a → e ≡ a
 same_or true e a h = cc
@@ -131,23 +132,36 @@ module _ (test : Exp → Bool) (elsewhere : (e : Exp) → looks_at_heap e ≡ fa
 
   module _ (same : Exp → Exp → Bool) (ctx : Context) (table : Name → Option Kind) where
     abbrev E : List Binder → List Fact → Exp → View → Abstracted
-    E names fs e v = exp_at same numbers ctx table names fs e v
+    E names fs e v = exp_at same numbers ctx names fs e v
 
     exp_clean : (names : List Binder) (fs : List Fact) (e : Exp) → exp_ready same numbers ctx table fs names e ≡ true → has test e ≡ false → (v : View) → C (E names fs e v).right
-    exp_clean names fs e r h v = clean test elsewhere loads reads numbers same (words ctx names).scope names fs e r h v
+    exp_clean names fs e r h v = clean test elsewhere loads reads numbers same (words ctx names).scope names (among fs) e r h v
 
-    all_clean : (names : List Binder) (fs : List Fact) (es : List Exp) (vs : _) → all_ready same numbers ctx table fs names es ≡ true → some_has test es ≡ false → CleanList (rights (all_at same numbers ctx table names fs es vs))
+    abbrev GA : List Binder → List Fact → Exp → Abstracted
+    GA names fs e = guard_at same numbers ctx names fs e
+
+    guard_clean : (names : List Binder) (fs : List Fact) (e : Exp) → guard_ready same numbers ctx table fs names e ≡ true → has test e ≡ false → C (GA names fs e).right
+    guard_clean names fs (X.And a b) r h =
+        let p = or_parts (test (X.And a b) || has test a) (has test b) h in
+        let q = or_parts (test (X.And a b)) (has test a) p.0 in
+        let t = E names fs a truth in
+        let x = and_parts (exp_ready same numbers ctx table fs names a) (guard_ready same numbers ctx table (Whole t.right ∷ fs) names b) r in
+        let u = GA names (Whole t.right ∷ fs) b in
+        two_clean test elsewhere loads reads numbers (X.And t.right u.right) t.right u.right (exp_clean names fs a x.0 q.1 truth) (guard_clean names (Whole t.right ∷ fs) b x.1 p.1) refl refl refl
+    guard_clean names fs e r h = exp_clean names fs e r h truth
+
+    all_clean : (names : List Binder) (fs : List Fact) (es : List Exp) (vs : _) → all_ready same numbers ctx table fs names es ≡ true → some_has test es ≡ false → CleanList (rights (all_at same numbers ctx names fs es vs))
     all_clean names fs [] vs r h = none_clean
     all_clean names fs (e ∷ es) [] r h = none_clean
     all_clean names fs (e ∷ es) (v ∷ vs) r h =
         let x = and_parts (exp_ready same numbers ctx table fs names e) (all_ready same numbers ctx table fs names es) r in
-        let q = or_parts (has test e) (some_has test es) h in more_clean (E names fs e v).right (rights (all_at same numbers ctx table names fs es vs)) (exp_clean names fs e x.0 q.0 v) (all_clean names fs es vs x.1 q.1)
+        let q = or_parts (has test e) (some_has test es) h in more_clean (E names fs e v).right (rights (all_at same numbers ctx names fs es vs)) (exp_clean names fs e x.0 q.0 v) (all_clean names fs es vs x.1 q.1)
 
     record CleanStarts (xs : List Start) : Type 0 where
       arithmetic : numbers ≡ true → start_has is_word_arithmetic xs ≡ false
       heap : start_has test xs ≡ false
 
-    starts_clean : (names : List Binder) (fs : List Fact) (xs : List Start) (vs : _) → starts_ready same numbers ctx table fs names xs ≡ true → start_has test xs ≡ false → CleanStarts (restarted xs (rights (all_at same numbers ctx table names fs (start_exps xs) vs)))
+    starts_clean : (names : List Binder) (fs : List Fact) (xs : List Start) (vs : _) → starts_ready same numbers ctx table fs names xs ≡ true → start_has test xs ≡ false → CleanStarts (restarted xs (rights (all_at same numbers ctx names fs (start_exps xs) vs)))
     starts_clean names fs [] vs r h = record { arithmetic = λ n. refl; heap = refl }
     starts_clean names fs (x ∷ xs) [] r h = record { arithmetic = λ n. refl; heap = refl }
     starts_clean names fs (x ∷ xs) (v ∷ vs) r h =
@@ -155,7 +169,7 @@ module _ (test : Exp → Bool) (elsewhere : (e : Exp) → looks_at_heap e ≡ fa
         let q = or_parts (has test x.exp) (start_has test xs) h in
         let c = exp_clean names fs x.exp y.0 q.0 v in
         let d = starts_clean names fs xs vs y.1 q.1 in
-        let zs = restarted xs (rights (all_at same numbers ctx table names fs (start_exps xs) vs)) in record {
+        let zs = restarted xs (rights (all_at same numbers ctx names fs (start_exps xs) vs)) in record {
           arithmetic = λ n. neither (has is_word_arithmetic (E names fs x.exp v).right) (start_has is_word_arithmetic zs) (c.arithmetic n) (d.arithmetic n);
           heap = neither (has test (E names fs x.exp v).right) (start_has test zs) c.heap d.heap;
         }
@@ -163,9 +177,9 @@ module _ (test : Exp → Bool) (elsewhere : (e : Exp) → looks_at_heap e ≡ fa
     abbrev PA : List Fact → List Binder → Mon → List Kind → AbstractedProgram
     PA fs names m ks = program_abstracted same numbers ctx table fs names m ks
 
-    path_clean : (names : List Binder) (fs : List Fact) (path : Path) → path_ready same numbers (words ctx names).scope names fs path ≡ true → path_has test path ≡ false → (ts : Trees Rule) →
-        CleanPath test elsewhere loads reads numbers (indices same numbers (words ctx names).scope names fs path ts).path
-    path_clean names fs path r h ts = clean_path test elsewhere loads reads numbers same (words ctx names).scope names fs path r h ts
+    path_clean : (names : List Binder) (fs : List Fact) (path : Path) → path_ready same numbers (words ctx names).scope names (among fs) path ≡ true → path_has test path ≡ false → (ts : Trees Rule) →
+        CleanPath test elsewhere loads reads numbers (indices same numbers (words ctx names).scope names (among fs) path ts).path
+    path_clean names fs path r h ts = clean_path test elsewhere loads reads numbers same (words ctx names).scope names (among fs) path r h ts
 
     -- a root and a path
     record CleanPlace (q : Place) : Type 0 where
@@ -173,27 +187,27 @@ module _ (test : Exp → Bool) (elsewhere : (e : Exp) → looks_at_heap e ≡ fa
       heap : place_has test q ≡ false
       place : place_test q ≡ false
 
-    place_clean : (names : List Binder) (fs : List Fact) (q : Place) → place_ready same numbers ctx table fs names q ≡ true → place_has test q ≡ false → place_test q ≡ false → (ts : Trees Rule) → CleanPlace (place_at same numbers ctx table names fs q ts).place
+    place_clean : (names : List Binder) (fs : List Fact) (q : Place) → place_ready same numbers ctx table fs names q ≡ true → place_has test q ≡ false → place_test q ≡ false → (ts : Trees Rule) → CleanPlace (place_at same numbers ctx names fs q ts).place
     place_clean names fs (M.Stored t p path) r h k ts =
-        let x = and_parts (exp_ready same numbers ctx table fs names p) (path_ready same numbers (words ctx names).scope names fs path) r in
+        let x = and_parts (exp_ready same numbers ctx table fs names p) (path_ready same numbers (words ctx names).scope names (among fs) path) r in
         let y = or_parts (has test p) (path_has test path) h in
         let c = exp_clean names fs p x.0 y.0 (own (words ctx names).scope p) in
         let d = path_clean names fs path x.1 y.1 ts in record {
-          arithmetic = λ n. neither (has is_word_arithmetic (E names fs p (own (words ctx names).scope p)).right) (path_has is_word_arithmetic (indices same numbers (words ctx names).scope names fs path ts).path) (c.arithmetic n) (d.arithmetic n);
-          heap = neither (has test (E names fs p (own (words ctx names).scope p)).right) (path_has test (indices same numbers (words ctx names).scope names fs path ts).path) c.heap d.heap;
-          place = stores t t p (E names fs p (own (words ctx names).scope p)).right path (indices same numbers (words ctx names).scope names fs path ts).path k;
+          arithmetic = λ n. neither (has is_word_arithmetic (E names fs p (own (words ctx names).scope p)).right) (path_has is_word_arithmetic (indices same numbers (words ctx names).scope names (among fs) path ts).path) (c.arithmetic n) (d.arithmetic n);
+          heap = neither (has test (E names fs p (own (words ctx names).scope p)).right) (path_has test (indices same numbers (words ctx names).scope names (among fs) path ts).path) c.heap d.heap;
+          place = stores t t p (E names fs p (own (words ctx names).scope p)).right path (indices same numbers (words ctx names).scope names (among fs) path ts).path k;
         }
     place_clean names fs (M.Written t p path) r h k ts =
-        let x = and_parts (exp_ready same numbers ctx table fs names p) (path_ready same numbers (words ctx names).scope names fs path) r in
+        let x = and_parts (exp_ready same numbers ctx table fs names p) (path_ready same numbers (words ctx names).scope names (among fs) path) r in
         let y = or_parts (has test p) (path_has test path) h in
         let c = exp_clean names fs p x.0 y.0 (own (words ctx names).scope p) in
         let d = path_clean names fs path x.1 y.1 ts in record {
-          arithmetic = λ n. neither (has is_word_arithmetic (E names fs p (own (words ctx names).scope p)).right) (path_has is_word_arithmetic (indices same numbers (words ctx names).scope names fs path ts).path) (c.arithmetic n) (d.arithmetic n);
-          heap = neither (has test (E names fs p (own (words ctx names).scope p)).right) (path_has test (indices same numbers (words ctx names).scope names fs path ts).path) c.heap d.heap;
-          place = writes t t p (E names fs p (own (words ctx names).scope p)).right path (indices same numbers (words ctx names).scope names fs path ts).path k;
+          arithmetic = λ n. neither (has is_word_arithmetic (E names fs p (own (words ctx names).scope p)).right) (path_has is_word_arithmetic (indices same numbers (words ctx names).scope names (among fs) path ts).path) (c.arithmetic n) (d.arithmetic n);
+          heap = neither (has test (E names fs p (own (words ctx names).scope p)).right) (path_has test (indices same numbers (words ctx names).scope names (among fs) path ts).path) c.heap d.heap;
+          place = writes t t p (E names fs p (own (words ctx names).scope p)).right path (indices same numbers (words ctx names).scope names (among fs) path ts).path k;
         }
     place_clean names fs (M.Global y path) r h k ts =
-        let d = path_clean names fs path r h ts in record { arithmetic = d.arithmetic; heap = d.heap; place = globals y y path (indices same numbers (words ctx names).scope names fs path ts).path k }
+        let d = path_clean names fs path r h ts in record { arithmetic = d.arithmetic; heap = d.heap; place = globals y y path (indices same numbers (words ctx names).scope names (among fs) path ts).path k }
 
     pub program_clean : (fs : List Fact) (names : List Binder) (m : Mon) (ks : List Kind) → program_ready same numbers ctx table fs names m ks ≡ true → program_has test place_test m ≡ false →
         CleanProgram (program_abstracted same numbers ctx table fs names m ks).right
@@ -202,7 +216,7 @@ module _ (test : Exp → Bool) (elsewhere : (e : Exp) → looks_at_heap e ≡ fa
     program_clean fs names (M.Pick k) ks r h = pick_clean k ks
     program_clean fs names (M.Call f es) ks r h =
         let s = signature ctx.functions f in
-        let xs = all_at same numbers ctx table names fs es (views_for (kinds_taken s)) in
+        let xs = all_at same numbers ctx names fs es (views_for (kinds_taken s)) in
         let c = all_clean names fs es (views_for (kinds_taken s)) r h in
         to_clean (same_kinds (kinds_given s) ks) (kinds_given s) ks (record { right = M.Call f (rights xs); tree = node R.Call (trees_before xs no_trees) }) (record { arithmetic = c.arithmetic; heap = c.heap })
     program_clean fs names (M.Write q e) ks r h =
@@ -212,7 +226,7 @@ module _ (test : Exp → Bool) (elsewhere : (e : Exp) → looks_at_heap e ≡ fa
         let y = E names fs e (own (words ctx names).scope e) in
         let c = exp_clean names fs e x.1 i.1 (own (words ctx names).scope e) in
         let d = place_clean names fs q x.0 j.1 j.0 (one y) in
-        let q' = (place_at same numbers ctx table names fs q (one y)).place in record {
+        let q' = (place_at same numbers ctx names fs q (one y)).place in record {
           arithmetic = λ n. neither (place_has is_word_arithmetic q') (has is_word_arithmetic y.right) (d.arithmetic n) (c.arithmetic n);
           heap = neither (place_test q' || place_has test q') (has test y.right) (neither (place_test q') (place_has test q') d.place d.heap) c.heap;
         }
@@ -245,20 +259,20 @@ module _ (test : Exp → Bool) (elsewhere : (e : Exp) → looks_at_heap e ≡ fa
         }
     program_clean fs names (M.Loop starts guard test' m) ks r h =
         let inner = with_kinds (start_names starts) ks names in
-        let c = E inner [] guard truth in
+        let c = GA inner [] guard in
         let t = E inner (Whole c.right ∷ []) test' truth in
         let fs' = Whole t.right ∷ Whole c.right ∷ [] in
-        let i = and_parts (starts_ready same numbers ctx table fs names starts && exp_ready same numbers ctx table [] inner guard && exp_ready same numbers ctx table (Whole c.right ∷ []) inner test') (program_ready same numbers ctx table fs' inner m ks) r in
-        let j = and_parts (starts_ready same numbers ctx table fs names starts && exp_ready same numbers ctx table [] inner guard) (exp_ready same numbers ctx table (Whole c.right ∷ []) inner test') i.0 in
-        let k = and_parts (starts_ready same numbers ctx table fs names starts) (exp_ready same numbers ctx table [] inner guard) j.0 in
+        let i = and_parts (starts_ready same numbers ctx table fs names starts && guard_ready same numbers ctx table [] inner guard && exp_ready same numbers ctx table (Whole c.right ∷ []) inner test') (program_ready same numbers ctx table fs' inner m ks) r in
+        let j = and_parts (starts_ready same numbers ctx table fs names starts && guard_ready same numbers ctx table [] inner guard) (exp_ready same numbers ctx table (Whole c.right ∷ []) inner test') i.0 in
+        let k = and_parts (starts_ready same numbers ctx table fs names starts) (guard_ready same numbers ctx table [] inner guard) j.0 in
         let o = or_parts (start_has test starts || has test guard || has test test') (program_has test place_test m) h in
         let q = or_parts (start_has test starts || has test guard) (has test test') o.0 in
         let s = or_parts (start_has test starts) (has test guard) q.0 in
         let d = starts_clean names fs starts (views_for ks) k.0 s.0 in
-        let e = exp_clean inner [] guard k.1 s.1 truth in
+        let e = guard_clean inner [] guard k.1 s.1 in
         let f = exp_clean inner (Whole c.right ∷ []) test' j.1 q.1 truth in
         let a = program_clean fs' inner m ks i.1 o.1 in
-        let zs = restarted starts (rights (all_at same numbers ctx table names fs (start_exps starts) (views_for ks))) in
+        let zs = restarted starts (rights (all_at same numbers ctx names fs (start_exps starts) (views_for ks))) in
         let m' = (PA fs' inner m ks).right in record {
           arithmetic = λ l. neither (start_has is_word_arithmetic zs || has is_word_arithmetic c.right || has is_word_arithmetic t.right) (program_has is_word_arithmetic no_place m')
               (neither (start_has is_word_arithmetic zs || has is_word_arithmetic c.right) (has is_word_arithmetic t.right) (neither (start_has is_word_arithmetic zs) (has is_word_arithmetic c.right) (d.arithmetic l) (e.arithmetic l)) (f.arithmetic l)) (a.arithmetic l);

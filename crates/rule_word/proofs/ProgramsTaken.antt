@@ -4,12 +4,13 @@ use Rattle.std.proofs.lemmas.Bool.{and_parts}
 use Rattle.c_values.specs.Name.{Name, are_distinct}
 use Rattle.c_values.specs.Types.{CType, address_width}
 use Rattle.c_values.specs.Layout.{Shape, shape_of, is_object, global_type}
+use Rattle.expression_lang.specs.Expression as X
 use Rattle.expression_lang.specs.Expression.{Exp, Path}
 use Rattle.expression_lang.specs.Form.{has, path_has, is_part_of_value}
 use Rattle.expression_lang.specs.Sort.{Scalar, WordSort, NumberSort, TruthSort, Sort, Of, PartsSort, Kind, WordKind, NatKind, IntKind, BoolKind, Scope, sort_of, shape_along, is_truth, is_word_of, same_scalar, word_sort_of, sort_of_kind, is_kind, truth_sort}
 use Rattle.expression_lang.specs.Sorted.{program_sort, scalar_in, with_scalar, scalars_of, same_scalars, typed_place, global_place, part_place, sort_in, fits_place, call_scalars, result_scalars}
 use Rattle.expression_lang.specs.Signature.{Binder, Signature, kinds_of, signature}
-use Rattle.expression_lang.proofs.Inversion.{truth_inv, word_of_inv, same_inv}
+use Rattle.expression_lang.proofs.Inversion.{where_inv, truth_inv, word_of_inv, same_inv}
 use Rattle.ac_expr.specs.Fact.{Fact, Whole, NotTrue}
 use Rattle.ac_expr.specs.Heads.{hole}
 use Rattle.monad_lang.specs.Program as M
@@ -23,8 +24,9 @@ use Rattle.rule_word.specs.Rule.{Rule, Context, Point, View, AsIs, Claim, expres
 use Rattle.rule_word.specs.Scopes.{with_kinds, words, own, view_for, result_as_list, sort_seen}
 use Rattle.rule_word.specs.Table.{truth, each, views_for, AreMatched, start_exps, table, call_row}
 use Rattle.rule_word.specs.Kept.{kinds_taken, kinds_given}
+use Rattle.rule_word.specs.Bases.{among}
 use Rattle.rule_word.specs.WordsAbstracted.{Abstracted, one}
-use Rattle.rule_word.specs.ProgramsAbstracted.{AbstractedProgram, rights, trees_before, restarted, word_kind_of, kind_for, kinds_for, scalars_there, same_kinds, recast_to, exp_at, all_at, program_abstracted, is_word_or_truth, are_words_or_truths, binds_words}
+use Rattle.rule_word.specs.ProgramsAbstracted.{AbstractedProgram, rights, trees_before, restarted, word_kind_of, kind_for, kinds_for, scalars_there, same_kinds, recast_to, exp_at, guard_at, all_at, program_abstracted, is_word_or_truth, are_words_or_truths, binds_words}
 use Rattle.rule_word.proofs.AbstractedTaken.{taken, indices_before, AllNumbers, all_numbers, path_head_kept}
 use Rattle.rule_word.proofs.ProgramSorts.{same_scalar_is, then_inv, fits_inv, are_inv, program_sorted, scalar_there, part_there, if_there, fits_there, call_inv, result_sorts}
 use Rattle.rule_word.proofs.RecastsTaken.{recast_taken}
@@ -101,13 +103,13 @@ module _ (ctx : Context) (same : Exp → Exp → Bool) (is_same : (a b : Exp) �
   at_point fs names = record { facts = fs; names = names }
 
   abbrev E : List Binder → List Fact → Exp → View → Abstracted
-  E names fs e v = exp_at same numbers ctx table' names fs e v
+  E names fs e v = exp_at same numbers ctx names fs e v
 
   abbrev Es : List Binder → List Fact → List Exp → List View → List Abstracted
-  Es names fs es vs = all_at same numbers ctx table' names fs es vs
+  Es names fs es vs = all_at same numbers ctx names fs es vs
 
   exp_taken : (names : List Binder) (fs : List Fact) (e : Exp) (s : Sort) → sort_of (g_in names) e ≡ Some s → (v : View) → sort_seen v ≡ Some s → Accepts (table ctx) (E names fs e v).tree (expression (at_point fs names) e v (E names fs e v).right)
-  exp_taken names fs e s q v w = taken ctx names same is_same numbers fs e s q v w
+  exp_taken names fs e s q v w = taken ctx names same is_same numbers (among fs) e s q v w
 
   matched : (names : List Binder) (fs : List Fact) (es : List Exp) (ks : List Kind) → AllSorted (g_in names) es ks → AreMatched es ks (rights (Es names fs es (views_for ks)))
   matched names fs [] [] h = tt
@@ -135,6 +137,20 @@ module _ (ctx : Context) (same : Exp → Exp → Bool) (is_same : (a b : Exp) �
 
   test_taken : (names : List Binder) (fs : List Fact) (e : Exp) → is_truth (program_sort (g_in names) e) ≡ true → Accepts (table ctx) (E names fs e truth).tree (expression (at_point fs names) e truth (E names fs e truth).right)
   test_taken names fs e h = exp_taken names fs e (Of TruthSort) (truth_there names e h) truth refl
+
+  -- a loop's guard
+  abbrev GA : List Binder → List Fact → Exp → Abstracted
+  GA names fs e = guard_at same numbers ctx names fs e
+
+  whole_taken : (names : List Binder) (fs : List Fact) (e : Exp) → sort_of (g_in names) e ≡ truth_sort → Accepts (table ctx) (E names fs e truth).tree (expression (at_point fs names) e truth (E names fs e truth).right)
+  whole_taken names fs e q = exp_taken names fs e (Of TruthSort) q truth refl
+
+  guard_at_taken : (names : List Binder) (fs : List Fact) (e : Exp) → sort_of (g_in names) e ≡ truth_sort → Accepts (table ctx) (GA names fs e).tree (expression (at_point fs names) e truth (GA names fs e).right)
+  guard_at_taken names fs (X.And a b) q =
+      let g = g_in names in
+      let r = and_parts (is_truth (sort_of g a)) (is_truth (sort_of g b)) (where_inv (is_truth (sort_of g a) && is_truth (sort_of g b)) truth_sort (Of TruthSort) q).0 in
+      ((q, tt), (whole_taken names fs a (truth_inv (sort_of g a) r.0), (guard_at_taken names (Whole (E names fs a truth).right ∷ fs) b (truth_inv (sort_of g b) r.1), tt)))
+  guard_at_taken names fs e q = whole_taken names fs e q
 
   -- names of starts
   restarted_names : (names : List Binder) (fs : List Fact) (xs : List Start) (ks : List Kind) → AllSorted (g_in names) (start_exps xs) ks → start_names (restarted xs (rights (Es names fs (start_exps xs) (views_for ks)))) ≡ start_names xs
@@ -190,25 +206,25 @@ module _ (ctx : Context) (same : Exp → Exp → Bool) (is_same : (a b : Exp) �
   write_taken fs names (M.Stored t p path) e s h q =
       let r = root_sorted names t p path s h in
       let y = E names fs e (own (g_in names) e) in (
-        ap (λ z. M.Stored t hole z) (path_head_kept ctx names same is_same numbers fs path (one y)),
+        ap (λ z. M.Stored t hole z) (path_head_kept ctx names same is_same numbers (among fs) path (one y)),
         (
           exp_taken names fs p (Of (WordSort (address_width ctx.layout.target))) r.0 (own (g_in names) p) r.0,
-          indices_before ctx names same is_same numbers fs path r.1 (e ∷ []) (y.right ∷ []) (one y) (exp_taken names fs e s q (own (g_in names) e) q, tt),
+          indices_before ctx names same is_same numbers (among fs) path r.1 (e ∷ []) (y.right ∷ []) (one y) (exp_taken names fs e s q (own (g_in names) e) q, tt),
         ),
       )
   write_taken fs names (M.Written t p path) e s h q =
       let r = root_sorted names t p path s h in
       let y = E names fs e (own (g_in names) e) in (
-        ap (λ z. M.Written t hole z) (path_head_kept ctx names same is_same numbers fs path (one y)),
+        ap (λ z. M.Written t hole z) (path_head_kept ctx names same is_same numbers (among fs) path (one y)),
         (
           exp_taken names fs p (Of (WordSort (address_width ctx.layout.target))) r.0 (own (g_in names) p) r.0,
-          indices_before ctx names same is_same numbers fs path r.1 (e ∷ []) (y.right ∷ []) (one y) (exp_taken names fs e s q (own (g_in names) e) q, tt),
+          indices_before ctx names same is_same numbers (among fs) path r.1 (e ∷ []) (y.right ∷ []) (one y) (exp_taken names fs e s q (own (g_in names) e) q, tt),
         ),
       )
   write_taken fs names (M.Global x path) e s h q =
       let y = E names fs e (own (g_in names) e) in (
-        ap (λ z. M.Global x z) (path_head_kept ctx names same is_same numbers fs path (one y)),
-        indices_before ctx names same is_same numbers fs path (global_sorted names (global_type ctx.globals x) path s h) (e ∷ []) (y.right ∷ []) (one y) (exp_taken names fs e s q (own (g_in names) e) q, tt),
+        ap (λ z. M.Global x z) (path_head_kept ctx names same is_same numbers (among fs) path (one y)),
+        indices_before ctx names same is_same numbers (among fs) path (global_sorted names (global_type ctx.globals x) path s h) (e ∷ []) (y.right ∷ []) (one y) (exp_taken names fs e s q (own (g_in names) e) q, tt),
       )
 
   place_written : (fs : List Fact) (names : List Binder) (place : Place) (e : Exp) (ks : List Kind) → IsSorted names (M.Write place e) ks → IsTaken fs names (M.Write place e) ks
@@ -270,14 +286,14 @@ module _ (ctx : Context) (same : Exp → Exp → Bool) (is_same : (a b : Exp) �
   abbrev inner_trees : List Fact → List Binder → List Start → Exp → Exp → Mon → List Kind → Trees Rule
   inner_trees fs names starts guard test m ks =
       let inner = with_kinds (start_names starts) ks names in
-      let c = E inner [] guard truth in
+      let c = GA inner [] guard in
       let t = E inner (Whole c.right ∷ []) test truth in
       let a = PA (Whole t.right ∷ Whole c.right ∷ []) inner m ks in tree c.tree (tree t.tree (tree a.tree no_trees))
 
   abbrev inner_claims : List Fact → List Binder → List Start → Exp → Exp → Mon → List Kind → List Claim
   inner_claims fs names starts guard test m ks =
       let inner = with_kinds (start_names starts) ks names in
-      let c = E inner [] guard truth in
+      let c = GA inner [] guard in
       let t = E inner (Whole c.right ∷ []) test truth in
       let a = PA (Whole t.right ∷ Whole c.right ∷ []) inner m ks in
       expression (record { facts = []; names = inner }) guard truth c.right
@@ -346,10 +362,10 @@ module _ (ctx : Context) (same : Exp → Exp → Bool) (is_same : (a b : Exp) �
       let qs = r.1 ∙ f.1 in
       let s = starts_sorted t.scope starts ks qs in
       let names' = with_kinds xs ks names in
-      let c = E names' [] guard truth in
+      let c = GA names' [] guard in
       let u = E names' (Whole c.right ∷ []) test truth in
       let rest : AcceptsAll (table ctx) (inner_trees fs names starts guard test m ks) (inner_claims fs names starts guard test m ks) = (
-        test_taken names' [] guard (sym (ap (λ z. is_truth (program_sort z.scope guard)) here) ∙ h.1),
+        guard_at_taken names' [] guard (truth_there names' guard (sym (ap (λ z. is_truth (program_sort z.scope guard)) here) ∙ h.1)),
         (
           test_taken names' (Whole c.right ∷ []) test (sym (ap (λ z. is_truth (program_sort z.scope test)) here) ∙ e.1),
           (

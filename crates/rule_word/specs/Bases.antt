@@ -1,10 +1,11 @@
--- What a sum of words stands for: unsigned or signed numbers, by the fewest facts, from the oldest on, by which one of its two ranges is
--- known, so that facts that come later don't change it. Expressions are compared by a test that is handed in.
-use Rattle.std.specs.Prelude.{ℕ, Bool, true, false, ◌||◌, List, [], ◌∷◌, Option, Some, None, if◌then◌else◌}
+-- What a sum of words stands for: unsigned or signed numbers, by the oldest fact that gives one of its two ranges, where what the fact
+-- is under is given by older facts or by the conditions under which the sum stands. So facts that come between the place where the range
+-- is guarded and the place where the sum stands don't change it. Expressions are compared by a test that is handed in.
+use Rattle.std.specs.Prelude.{ℕ, Bool, true, false, ◌||◌, List, [], ◌∷◌, ◌++◌, Option, Some, None, if◌then◌else◌}
 use Rattle.c_values.specs.Number.{least, greatest}
 use Rattle.expression_lang.specs.Expression.{Exp, NumberLit, Le, Between, And, Imp}
 use Rattle.expression_lang.specs.Sort.{Kind, WordKind, NatKind, IntKind, BoolKind, word_sort}
-use Rattle.ac_expr.specs.Fact.{Fact, stands_for}
+use Rattle.ac_expr.specs.Fact.{Fact, Whole, stands_for}
 use Rattle.rule_word.specs.Rule.{View, AsIs, Unsigned, Signed}
 
 pub data Base : Type 0 where
@@ -49,46 +50,62 @@ abbrev pub or_else : Option Base → Option Base → Option Base
 or_else (Some b) o = Some b
 or_else None o = o
 
--- the first range that a fact gives, from left to right
+-- What is known where an expression stands: the facts of the program's point, and the conditions of the whole expression under
+-- which it stands there. These are the same wherever the expression stands, while facts grow.
+pub record Surroundings : Type 0 where
+  pub conditions : List Fact
+  pub facts : List Fact
+
+abbrev pub known_there : Surroundings → List Fact
+known_there k = k.conditions ++ k.facts
+
+abbrev pub under : Fact → Surroundings → Surroundings
+under f k = record { conditions = f ∷ k.conditions; facts = k.facts }
+
+abbrev pub among : List Fact → Surroundings
+among fs = record { conditions = []; facts = fs }
+
+-- the range that a fact gives, where what it is under is given by what is known before it
 abbrev pub range_given : (Exp → Exp → Bool) → List Fact → Exp → Exp → Exp → Option Base
-range_given same fs natural integer (And a b) =
-    or_else (range_given same fs natural integer a) (range_given same fs natural integer b)
-range_given same fs natural integer (Imp c d) =
-    if some_gives same fs c then range_given same fs natural integer d else None
-range_given same fs natural integer fact =
+range_given same before natural integer (And a b) =
+    or_else (range_given same before natural integer a) (range_given same before natural integer b)
+range_given same before natural integer (Imp c d) =
+    if some_gives same before c then range_given same before natural integer d else None
+range_given same before natural integer fact =
     if same fact natural then Some Naturals else if same fact integer then Some Integers else None
 
--- that of the oldest fact that gives one
-abbrev pub oldest_range : (Exp → Exp → Bool) → List Fact → Exp → Exp → List Fact → Option Base
-oldest_range same fs natural integer [] = None
-oldest_range same fs natural integer (f ∷ older) =
-    or_else (oldest_range same fs natural integer older) (range_given same fs natural integer (stands_for f))
+-- the first from left to right: what stands on the left is known before what stands on the right
+abbrev pub first_range : (Exp → Exp → Bool) → List Fact → Exp → Exp → Exp → Option Base
+first_range same before natural integer (And a b) =
+    or_else (first_range same before natural integer a) (first_range same (Whole a ∷ before) natural integer b)
+first_range same before natural integer fact = range_given same before natural integer fact
 
--- that of the fewest facts, from the oldest on, by which one is known: facts that come later don't change it
-abbrev pub first_known : (Exp → Exp → Bool) → Exp → Exp → List Fact → Option Base
-first_known same natural integer [] = None
-first_known same natural integer (f ∷ older) =
-    or_else (first_known same natural integer older) (oldest_range same (f ∷ older) natural integer (f ∷ older))
+-- that of the oldest fact that gives one, by the conditions and older facts: facts that come later don't change it
+abbrev pub oldest_range : (Exp → Exp → Bool) → List Fact → Exp → Exp → List Fact → Option Base
+oldest_range same conditions natural integer [] = None
+oldest_range same conditions natural integer (f ∷ older) =
+    or_else (oldest_range same conditions natural integer older)
+    (first_range same (conditions ++ older) natural integer (stands_for f))
 
 abbrev pub or_words : Option Base → Base
 or_words None = Words
 or_words (Some b) = b
 
 -- what an operation stands for, which is one number or another; words where its range isn't known, and where all names are words
-abbrev pub base_in : (Exp → Exp → Bool) → Bool → List Fact → ℕ → Exp → Exp → Base
-base_in same false fs n natural integer = Words
-base_in same true fs n natural integer =
-    or_words (first_known same (natural_range n natural) (integer_range n integer) fs)
+abbrev pub base_in : (Exp → Exp → Bool) → Bool → Surroundings → ℕ → Exp → Exp → Base
+base_in same false k n natural integer = Words
+base_in same true k n natural integer =
+    or_words (oldest_range same k.conditions (natural_range n natural) (integer_range n integer) k.facts)
 
 abbrev pub signed_or_words : Option Base → Base
 signed_or_words None = Words
 signed_or_words (Some b) = Integers
 
 -- one that has a signed range alone
-abbrev pub signed_base_in : (Exp → Exp → Bool) → Bool → List Fact → ℕ → Exp → Base
-signed_base_in same false fs n integer = Words
-signed_base_in same true fs n integer =
-    signed_or_words (first_known same (integer_range n integer) (integer_range n integer) fs)
+abbrev pub signed_base_in : (Exp → Exp → Bool) → Bool → Surroundings → ℕ → Exp → Base
+signed_base_in same false k n integer = Words
+signed_base_in same true k n integer =
+    signed_or_words (oldest_range same k.conditions (integer_range n integer) (integer_range n integer) k.facts)
 
 abbrev pub where_numbers : Bool → Base → Base
 where_numbers true b = b

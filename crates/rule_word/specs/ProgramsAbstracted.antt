@@ -2,6 +2,7 @@
 -- call whose result isn't of the kind that is wanted is recast, through words where there is no direct way.
 use Rattle.std.specs.Prelude.{◌==◌, Bool, true, false, ◌&&◌, List, [], ◌∷◌, Option, Some, None, if◌then◌else◌}
 use Rattle.c_values.specs.Name.{Name}
+use Rattle.expression_lang.specs.Expression as X
 use Rattle.expression_lang.specs.Expression.{Exp}
 use Rattle.expression_lang.specs.Sort.{Scalar, WordSort, NumberSort, TruthSort, Kind, WordKind, NatKind, IntKind, BoolKind, same_scalar, word_sort_of}
 use Rattle.expression_lang.specs.Signature.{Binder, signature}
@@ -17,7 +18,8 @@ use Rattle.rule_word.specs.Rule.{Rule, Context, View}
 use Rattle.rule_word.specs.Scopes.{with_kinds, words, own}
 use Rattle.rule_word.specs.Table.{truth, views_for, recasts, start_exps}
 use Rattle.rule_word.specs.Kept.{kinds_taken, kinds_given}
-use Rattle.rule_word.specs.WordsAbstracted.{Abstracted, one, abstracted, indices}
+use Rattle.rule_word.specs.Bases.{among}
+use Rattle.rule_word.specs.WordsAbstracted.{Abstracted, made, one, two, abstracted, indices}
 
 pub record AbstractedProgram : Type 0 where
   pub right : Mon
@@ -108,9 +110,16 @@ place_rule (M.Stored t p path) = R.Write
 place_rule (M.Written t p path) = R.Write
 place_rule (M.Global x path) = R.Global
 
-module _ (same : Exp → Exp → Bool) (numbers : Bool) (ctx : Context) (table : Name → Option Kind) where
+module _ (same : Exp → Exp → Bool) (numbers : Bool) (ctx : Context) where
   abbrev pub exp_at : List Binder → List Fact → Exp → View → Abstracted
-  exp_at names fs e v = abstracted same numbers (words ctx names).scope names fs e v
+  exp_at names fs e v = abstracted same numbers (words ctx names).scope names (among fs) e v
+
+  -- A loop's guard is conditions one after the other: each is known where the next stands, as after a guard of a program.
+  abbrev pub guard_at : List Binder → List Fact → Exp → Abstracted
+  guard_at names fs (X.And a b) =
+      let x = exp_at names fs a truth in
+      let y = guard_at names (Whole x.right ∷ fs) b in made R.Logic (X.And x.right y.right) (two x y)
+  guard_at names fs e = exp_at names fs e truth
 
   abbrev pub all_at : List Binder → List Fact → List Exp → List View → List Abstracted
   all_at names fs (e ∷ es) (v ∷ vs) = exp_at names fs e v ∷ all_at names fs es vs
@@ -119,20 +128,21 @@ module _ (same : Exp → Exp → Bool) (numbers : Bool) (ctx : Context) (table :
   abbrev pub place_at : List Binder → List Fact → Place → Trees Rule → PlaceAt
   place_at names fs (M.Stored t p path) ts =
       let x = exp_at names fs p (own (words ctx names).scope p) in
-      let i = indices same numbers (words ctx names).scope names fs path ts in record
+      let i = indices same numbers (words ctx names).scope names (among fs) path ts in record
       { place = M.Stored t x.right i.path; trees = tree x.tree i.trees }
   place_at names fs (M.Written t p path) ts =
       let x = exp_at names fs p (own (words ctx names).scope p) in
-      let i = indices same numbers (words ctx names).scope names fs path ts in record
+      let i = indices same numbers (words ctx names).scope names (among fs) path ts in record
       { place = M.Written t x.right i.path; trees = tree x.tree i.trees }
   place_at names fs (M.Global x path) ts =
-      let i = indices same numbers (words ctx names).scope names fs path ts in record
+      let i = indices same numbers (words ctx names).scope names (among fs) path ts in record
       { place = M.Global x i.path; trees = i.trees }
 
+module _ (same : Exp → Exp → Bool) (numbers : Bool) (ctx : Context) (table : Name → Option Kind) where
   -- the program, where these facts are known, the names in scope have these kinds, and these kinds are wanted
   abbrev pub program_abstracted : List Fact → List Binder → Mon → List Kind → AbstractedProgram
   program_abstracted fs names (M.Ret es) ks =
-      let xs = all_at names fs es (views_for ks) in record
+      let xs = all_at same numbers ctx names fs es (views_for ks) in record
       { right = M.Ret (rights xs); tree = node R.Ret (trees_before xs no_trees) }
   program_abstracted fs names (M.Bind m xs n) ks =
       let js = kinds_for table xs (scalars_there (scalars_given (words ctx names) m)) in
@@ -140,21 +150,21 @@ module _ (same : Exp → Exp → Bool) (numbers : Bool) (ctx : Context) (table :
       let b = program_abstracted (facts_after a.right xs fs) (with_kinds xs js names) n ks in record
       { right = M.Bind a.right xs b.right; tree = node (R.Bind js) (tree a.tree (tree b.tree no_trees)) }
   program_abstracted fs names (M.Guard e) ks =
-      let x = exp_at names fs e truth in record { right = M.Guard x.right; tree = node R.Guard (one x) }
+      let x = exp_at same numbers ctx names fs e truth in record { right = M.Guard x.right; tree = node R.Guard (one x) }
   program_abstracted fs names (M.If e m n) ks =
-      let x = exp_at names fs e truth in
+      let x = exp_at same numbers ctx names fs e truth in
       let a = program_abstracted (Whole x.right ∷ fs) names m ks in
       let b = program_abstracted (NotTrue x.right ∷ fs) names n ks in record
       { right = M.If x.right a.right b.right; tree = node R.If (tree x.tree (tree a.tree (tree b.tree no_trees))) }
   program_abstracted fs names (M.Write place e) ks =
-      let y = exp_at names fs e (own (words ctx names).scope e) in
-      let p = place_at names fs place (one y) in record
+      let y = exp_at same numbers ctx names fs e (own (words ctx names).scope e) in
+      let p = place_at same numbers ctx names fs place (one y) in record
       { right = M.Write p.place y.right; tree = node (place_rule place) p.trees }
   program_abstracted fs names (M.Loop starts guard test m) ks =
-      let xs = all_at names fs (start_exps starts) (views_for ks) in
+      let xs = all_at same numbers ctx names fs (start_exps starts) (views_for ks) in
       let inner = with_kinds (start_names starts) ks names in
-      let c = exp_at inner [] guard truth in
-      let t = exp_at inner (Whole c.right ∷ []) test truth in
+      let c = guard_at same numbers ctx inner [] guard in
+      let t = exp_at same numbers ctx inner (Whole c.right ∷ []) test truth in
       let a = program_abstracted (Whole t.right ∷ Whole c.right ∷ []) inner m ks in
       record {
         right = M.Loop (restarted starts (rights xs)) c.right t.right a.right;
@@ -163,7 +173,7 @@ module _ (same : Exp → Exp → Bool) (numbers : Bool) (ctx : Context) (table :
       }
   program_abstracted fs names (M.Call f es) ks =
       let s = signature ctx.functions f in
-      let xs = all_at names fs es (views_for (kinds_taken s)) in
+      let xs = all_at same numbers ctx names fs es (views_for (kinds_taken s)) in
       recast_to (same_kinds (kinds_given s) ks) (kinds_given s) ks
       (record { right = M.Call f (rights xs); tree = node R.Call (trees_before xs no_trees) })
   program_abstracted fs names (M.Pick k) ks = pick_at k ks

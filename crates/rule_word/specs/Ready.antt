@@ -17,9 +17,9 @@ use Rattle.program_facts.specs.Flow.{facts_after}
 use Rattle.rule_word.specs.Rule.{Context, Unsigned, Signed}
 use Rattle.rule_word.specs.Scopes.{with_kinds, words, own, width_in}
 use Rattle.rule_word.specs.Table.{truth}
-use Rattle.rule_word.specs.Bases.{Base, Words}
+use Rattle.rule_word.specs.Bases.{Surroundings, under, among, Base, Words}
 use Rattle.rule_word.specs.WordsAbstracted.{or_zero, operands, binary_base, negation_base, abstracted}
-use Rattle.rule_word.specs.ProgramsAbstracted.{kinds_for, scalars_there, binds_words, program_abstracted}
+use Rattle.rule_word.specs.ProgramsAbstracted.{kinds_for, scalars_there, binds_words, exp_at, guard_at, program_abstracted}
 
 abbrev pub is_numbers_level : Level → Bool
 is_numbers_level Numbers = true
@@ -35,7 +35,7 @@ is_exact numbers has_numbers b = not numbers || not has_numbers || is_no_word b
 
 module _ (same : Exp → Exp → Bool) (numbers : Bool) (g : Scope) (names : List Binder) where
   abbrev mutual
-    pub ready : List Fact → Exp → Bool
+    pub ready : Surroundings → Exp → Bool
     ready fs (X.Var x) = true
     ready fs (X.WordLit w) = true
     ready fs (X.NumberLit n) = true
@@ -62,13 +62,13 @@ module _ (same : Exp → Exp → Bool) (numbers : Bool) (g : Scope) (names : Lis
     ready fs (X.Le a b) = ready fs a && ready fs b
     ready fs (X.Between low a high) = ready fs a
     ready fs (X.Eq a b) = ready fs a && ready fs b
-    ready fs (X.And a b) = ready fs a && ready (Whole (abstracted same numbers g names fs a truth).right ∷ fs) b
-    ready fs (X.Or a b) = ready fs a && ready (NotTrue (abstracted same numbers g names fs a truth).right ∷ fs) b
-    ready fs (X.Imp a b) = ready fs a && ready (Whole (abstracted same numbers g names fs a truth).right ∷ fs) b
+    ready fs (X.And a b) = ready fs a && ready (under (Whole (abstracted same numbers g names fs a truth).right) fs) b
+    ready fs (X.Or a b) = ready fs a && ready (under (NotTrue (abstracted same numbers g names fs a truth).right) fs) b
+    ready fs (X.Imp a b) = ready fs a && ready (under (Whole (abstracted same numbers g names fs a truth).right) fs) b
     ready fs (X.Not a) = ready fs a
     ready fs (X.If c a b) =
-        let t = abstracted same numbers g names fs c truth in ready fs c && ready (Whole t.right ∷ fs) a && ready
-        (NotTrue t.right ∷ fs) b
+        let t = abstracted same numbers g names fs c truth in ready fs c && ready (under (Whole t.right) fs) a && ready
+        (under (NotTrue t.right) fs) b
     ready fs (X.Padd t p n) = ready fs p && ready fs n
     ready fs (X.At t p path) = ready fs p && path_ready fs path
     ready fs (X.Load t p path) = ready fs p && path_ready fs path
@@ -79,14 +79,20 @@ module _ (same : Exp → Exp → Bool) (numbers : Bool) (g : Scope) (names : Lis
     ready fs (X.Sel e path) = ready fs e && path_ready fs path
     ready fs (X.Upd e path v) = ready fs e && path_ready fs path && ready fs v
 
-    pub path_ready : List Fact → Path → Bool
+    pub path_ready : Surroundings → Path → Bool
     path_ready fs X.Here = true
     path_ready fs (X.IntoField k path) = path_ready fs path
     path_ready fs (X.IntoElement e path) = ready fs e && path_ready fs path
 
 module _ (same : Exp → Exp → Bool) (numbers : Bool) (ctx : Context) (table : Name → Option Kind) where
   abbrev pub exp_ready : List Fact → List Binder → Exp → Bool
-  exp_ready fs names e = ready same numbers (words ctx names).scope names fs e
+  exp_ready fs names e = ready same numbers (words ctx names).scope names (among fs) e
+
+  -- a loop's guard
+  abbrev pub guard_ready : List Fact → List Binder → Exp → Bool
+  guard_ready fs names (X.And a b) =
+      exp_ready fs names a && guard_ready (Whole (exp_at same numbers ctx names fs a truth).right ∷ fs) names b
+  guard_ready fs names e = exp_ready fs names e
 
   abbrev pub all_ready : List Fact → List Binder → List Exp → Bool
   all_ready fs names [] = true
@@ -98,10 +104,10 @@ module _ (same : Exp → Exp → Bool) (numbers : Bool) (ctx : Context) (table :
 
   abbrev pub place_ready : List Fact → List Binder → Place → Bool
   place_ready fs names (M.Stored t p path) =
-      exp_ready fs names p && path_ready same numbers (words ctx names).scope names fs path
+      exp_ready fs names p && path_ready same numbers (words ctx names).scope names (among fs) path
   place_ready fs names (M.Written t p path) =
-      exp_ready fs names p && path_ready same numbers (words ctx names).scope names fs path
-  place_ready fs names (M.Global x path) = path_ready same numbers (words ctx names).scope names fs path
+      exp_ready fs names p && path_ready same numbers (words ctx names).scope names (among fs) path
+  place_ready fs names (M.Global x path) = path_ready same numbers (words ctx names).scope names (among fs) path
 
   abbrev pub program_ready : List Fact → List Binder → Mon → List Kind → Bool
   program_ready fs names (M.Ret es) ks = all_ready fs names es
@@ -111,15 +117,15 @@ module _ (same : Exp → Exp → Bool) (numbers : Bool) (ctx : Context) (table :
       program_ready fs names m js && program_ready (facts_after a.right xs fs) (with_kinds xs js names) n ks
   program_ready fs names (M.Guard e) ks = exp_ready fs names e
   program_ready fs names (M.If e m n) ks =
-      let x = abstracted same numbers (words ctx names).scope names fs e truth in
+      let x = exp_at same numbers ctx names fs e truth in
       exp_ready fs names e && program_ready (Whole x.right ∷ fs) names m ks && program_ready (NotTrue x.right ∷ fs)
       names n ks
   program_ready fs names (M.Write place e) ks = place_ready fs names place && exp_ready fs names e
   program_ready fs names (M.Loop starts guard test m) ks =
       let inner = with_kinds (start_names starts) ks names in
-      let c = abstracted same numbers (words ctx inner).scope inner [] guard truth in
-      let t = abstracted same numbers (words ctx inner).scope inner (Whole c.right ∷ []) test truth in
-      starts_ready fs names starts && exp_ready [] inner guard && exp_ready (Whole c.right ∷ []) inner test &&
+      let c = guard_at same numbers ctx inner [] guard in
+      let t = exp_at same numbers ctx inner (Whole c.right ∷ []) test truth in
+      starts_ready fs names starts && guard_ready [] inner guard && exp_ready (Whole c.right ∷ []) inner test &&
       program_ready (Whole t.right ∷ Whole c.right ∷ []) inner m ks
   program_ready fs names (M.Call f es) ks = all_ready fs names es
   program_ready fs names (M.Pick k) ks = true

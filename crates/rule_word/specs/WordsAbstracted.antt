@@ -8,13 +8,13 @@ use Rattle.expression_lang.specs.Expression as X
 use Rattle.expression_lang.specs.Expression.{Exp, Path}
 use Rattle.expression_lang.specs.Sort.{Kind, WordKind, NatKind, IntKind, BoolKind, Sort, Of, WordSort, TruthSort, Scope, sort_of}
 use Rattle.expression_lang.specs.Signature.{Binder}
-use Rattle.ac_expr.specs.Fact.{Fact, Whole, NotTrue}
+use Rattle.ac_expr.specs.Fact.{Whole, NotTrue}
 use Rattle.rule_trees.specs.RuleTree.{Tree, Trees, node, no_trees, tree}
 use Rattle.rule_word.specs.Rule as R
 use Rattle.rule_word.specs.Rule.{Rule, View, AsIs, Unsigned, Signed}
 use Rattle.rule_word.specs.Scopes.{names_in, view_for, own, width_in}
 use Rattle.rule_word.specs.Table.{truth}
-use Rattle.rule_word.specs.Bases.{Base, Words, Naturals, Integers, base_of_kind, kind_at_base, base_in, signed_base_in, where_numbers, first_base}
+use Rattle.rule_word.specs.Bases.{Surroundings, under, Base, Words, Naturals, Integers, base_of_kind, kind_at_base, base_in, signed_base_in, where_numbers, first_base}
 
 pub record Abstracted : Type 0 where
   pub right : Exp
@@ -71,7 +71,7 @@ abbrev pub words_of : WordOp → Operands → Abstracted
 words_of op os = by_op (X.WordBinary op os.words.0.right os.words.1.right) os.words
 
 -- the base of an operation, and what it is there
-abbrev pub binary_base : (Exp → Exp → Bool) → Bool → List Fact → ℕ → WordOp → Operands → Base
+abbrev pub binary_base : (Exp → Exp → Bool) → Bool → Surroundings → ℕ → WordOp → Operands → Base
 binary_base same numbers fs n Wadd os =
     base_in same numbers fs n (X.Arith N.Add os.naturals.0.right os.naturals.1.right)
     (X.Arith N.Add os.integers.0.right os.integers.1.right)
@@ -98,7 +98,7 @@ binary_at Wsdiv b os = at_base b (words_of Wsdiv os) (words_of Wsdiv os) (by_rul
 binary_at Wsmod b os = at_base b (words_of Wsmod os) (words_of Wsmod os) (by_rule R.Smod N.Mod os.integers)
 binary_at op b os = words_of op os
 
-abbrev pub negation_base : (Exp → Exp → Bool) → Bool → List Fact → ℕ → UnaryOp → Abstracted → Abstracted → Base
+abbrev pub negation_base : (Exp → Exp → Bool) → Bool → Surroundings → ℕ → UnaryOp → Abstracted → Abstracted → Base
 negation_base same numbers fs n Wneg natural integer =
     base_in same numbers fs n (X.Negate natural.right) (X.Negate integer.right)
 negation_base same numbers fs n Wnot natural integer = Words
@@ -192,7 +192,7 @@ equal f g v w None =
 -- Of a level, at which words are numbers or stay words; in a scope of words, with the kinds that the names have on the right.
 module _ (same : Exp → Exp → Bool) (numbers : Bool) (g : Scope) (names : List Binder) where
   abbrev mutual
-    pub abstracted : List Fact → Exp → View → Abstracted
+    pub abstracted : Surroundings → Exp → View → Abstracted
     abstracted fs (X.Var x) v = var_at (names_in (λ k. k) names x) x v
     abstracted fs (X.WordLit w) v = constant_at v (X.WordLit w)
     abstracted fs (X.NumberLit n) v = constant_at v (X.NumberLit n)
@@ -236,18 +236,18 @@ module _ (same : Exp → Exp → Bool) (numbers : Bool) (g : Scope) (names : Lis
         (equality_kind (sort_of g a) (first_base (base_of fs a) (base_of fs b)))
     abstracted fs (X.And a b) v =
         let x = abstracted fs a truth in
-        let y = abstracted (Whole x.right ∷ fs) b truth in made R.Logic (X.And x.right y.right) (two x y)
+        let y = abstracted (under (Whole x.right) fs) b truth in made R.Logic (X.And x.right y.right) (two x y)
     abstracted fs (X.Or a b) v =
         let x = abstracted fs a truth in
-        let y = abstracted (NotTrue x.right ∷ fs) b truth in made R.Logic (X.Or x.right y.right) (two x y)
+        let y = abstracted (under (NotTrue x.right) fs) b truth in made R.Logic (X.Or x.right y.right) (two x y)
     abstracted fs (X.Imp a b) v =
         let x = abstracted fs a truth in
-        let y = abstracted (Whole x.right ∷ fs) b truth in made R.Logic (X.Imp x.right y.right) (two x y)
+        let y = abstracted (under (Whole x.right) fs) b truth in made R.Logic (X.Imp x.right y.right) (two x y)
     abstracted fs (X.Not a) v = let x = abstracted fs a truth in made R.Logic (X.Not x.right) (one x)
     abstracted fs (X.If c a b) v =
         let t = abstracted fs c truth in
-        let x = abstracted (Whole t.right ∷ fs) a v in
-        let y = abstracted (NotTrue t.right ∷ fs) b v in made R.Cond (X.If t.right x.right y.right)
+        let x = abstracted (under (Whole t.right) fs) a v in
+        let y = abstracted (under (NotTrue t.right) fs) b v in made R.Cond (X.If t.right x.right y.right)
         (tree t.tree (two x y))
     abstracted fs (X.Padd t p n) v =
         let x = abstracted fs p (own g p) in
@@ -272,7 +272,7 @@ module _ (same : Exp → Exp → Bool) (numbers : Bool) (g : Scope) (names : Lis
         let y = abstracted fs w (own g w) in
         let i = indices fs path (one y) in by_head v (X.Upd x.right i.path y.right) (tree x.tree i.trees)
 
-    pub indices : List Fact → Path → Trees Rule → Indices
+    pub indices : Surroundings → Path → Trees Rule → Indices
     indices fs X.Here ts = record { path = X.Here; trees = ts }
     indices fs (X.IntoField k path) ts =
         let i = indices fs path ts in record { path = X.IntoField k i.path; trees = i.trees }
@@ -280,7 +280,7 @@ module _ (same : Exp → Exp → Bool) (numbers : Bool) (g : Scope) (names : Lis
         let x = abstracted fs e (own g e) in
         let i = indices fs path ts in record { path = X.IntoElement x.right i.path; trees = tree x.tree i.trees }
 
-    pub base_of : List Fact → Exp → Base
+    pub base_of : Surroundings → Exp → Base
     base_of fs (X.Var x) = var_base (names_in (λ k. k) names x)
     base_of fs (X.WordBinary op a b) =
         let n = or_zero (width_in g a) in binary_base same numbers fs n op
