@@ -16,6 +16,7 @@ pub mod AbstractedTaken
 pub mod RecastsTaken
 pub mod ProgramsTaken
 pub mod AbstractedForm
+pub mod AbstractedStays
 pub mod ProgramsForm
 pub mod LevelForm
 pub mod Widths
