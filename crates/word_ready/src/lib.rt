@@ -1,0 +1,2 @@
+//! Generated programs are ready to become programs on numbers.
+#![tactic(auto)]
