@@ -31,11 +31,11 @@ under_both : (f : Fact) (k k' : Surroundings) → IsLater k k' → IsLater (unde
 under_both f k k' l = record { conditions = ap (λ es. stands_for f ∷ es) l.conditions; more = l.more; facts = l.facts }
 
 -- what conditions give is what they stand for
-abbrev some_give : (Exp → Exp → Bool) → List Exp → Exp → Bool
+abbrev pub some_give : (Exp → Exp → Bool) → List Exp → Exp → Bool
 some_give same [] e = false
 some_give same (x ∷ xs) e = gives_at_once same x e || some_give same xs e
 
-given_by : (same : Exp → Exp → Bool) (cs fs : List Fact) (e : Exp) → some_gives same (cs ++ fs) e ≡ some_give same (map stands_for cs ++ map stands_for fs) e
+pub given_by : (same : Exp → Exp → Bool) (cs fs : List Fact) (e : Exp) → some_gives same (cs ++ fs) e ≡ some_give same (map stands_for cs ++ map stands_for fs) e
 given_by same [] [] e = refl
 given_by same [] (f ∷ fs) e = ap (λ b. gives_at_once same (stands_for f) e || b) (given_by same [] fs e)
 given_by same (c ∷ cs) fs e = ap (λ b. gives_at_once same (stands_for c) e || b) (given_by same cs fs e)
@@ -50,7 +50,7 @@ module _ (same : Exp → Exp → Bool) (natural integer : Exp) where
   first_alike bs cs h (X.And a b) = ap₂ or_else (first_alike bs cs h a) (first_alike (Whole a ∷ bs) (Whole a ∷ cs) (λ e. ap (λ t. gives_at_once same a e || t) (h e)) b)
   first_alike bs cs h fact = range_alike bs cs h fact
 
-  oldest_alike : (bs cs fs : List Fact) → map stands_for bs ≡ map stands_for cs → oldest_range same bs natural integer fs ≡ oldest_range same cs natural integer fs
+  pub oldest_alike : (bs cs fs : List Fact) → map stands_for bs ≡ map stands_for cs → oldest_range same bs natural integer fs ≡ oldest_range same cs natural integer fs
   oldest_alike bs cs [] h = refl
   oldest_alike bs cs (f ∷ fs) h =
       ap₂ or_else (oldest_alike bs cs fs h)
