@@ -1,1 +1,2 @@
 pub mod GuardsStand
+pub mod SumsBased
