@@ -123,8 +123,7 @@ module _ (ctx : Context) where
   program_parts (R.Bind js) at (M.Bind m xs n) (M.Bind m' xs' n') ks f h k =
       let t = words ctx at.names in
       let r = then_inv (scalars_given t m) (λ ss. where_fits (one_for_each xs ss && are_distinct xs) (scalars_given (setting_with xs ss t) n)) f.0 f.1 in
-      let i = fits_inv (one_for_each xs r.0 && are_distinct xs) (scalars_given (setting_with xs r.0 t) n) f.0 r.2 in
-      (
+      let i = fits_inv (one_for_each xs r.0 && are_distinct xs) (scalars_given (setting_with xs r.0 t) n) f.0 r.2 in (
         (r.0, r.1),
         λ d y.
             let e = accepted_gives ctx at d m m' js r.0 y r.1 in

@@ -244,8 +244,8 @@ module _ (ctx : Context) (lay : IsLayout ctx.layout) (calls : WideCalls word_sor
       let plain : ArePlain (place_children p) = subst ArePlain (same_children p) (plain_children (looking_at p) i) in
       let i' = heads_plain (looking_at p) (looking_at p') (heads_looking p p' h) i (subst ArePlain (sym (same_children p')) (all_plain at (place_children p) (place_children p') n k plain)) in
       let same = ap (sorts_in ctx.layout (global_type ctx.globals) (names_in word_sort_of at.names) (names_in sort_of_kind at.names) (H at)) (same_children p')
-          ∙ same_sorts at (place_children p) (place_children p') w n k
-          ∙ ap (sorts_in ctx.layout (global_type ctx.globals) (names_in word_sort_of at.names) (names_in sort_of_kind at.names) (G at)) (sym (same_children p)) in
+      ∙ same_sorts at (place_children p) (place_children p') w n k
+      ∙ ap (sorts_in ctx.layout (global_type ctx.globals) (names_in word_sort_of at.names) (names_in sort_of_kind at.names) (G at)) (sym (same_children p)) in
       place_looked_at (H at) p' i'
       ∙ heads_sorted ctx.layout (global_type ctx.globals) (names_in word_sort_of at.names) (names_in sort_of_kind at.names) (looking_at p) (looking_at p') (no_name p) (heads_looking p p' h) same
       ∙ sym (place_looked_at (G at) p i) ∙ q

@@ -93,8 +93,8 @@ module _ (u v : FinalUnit) (lay : IsLayout v.layout) (abstracted : IsUnitAbstrac
       let a = fn_parts u f k in
       let params_wide : AllWide (map word_sort_of (kinds_of g.params)) = subst AllWide h.words (kinds_wide (kinds_of f.params) a.params) in
       let wide : WideNames (names_in word_sort_of (in_scope g)) =
-          subst WideNames (names_after word_sort_of (names_of g.params) (kinds_of g.params) [])
-          (wide_after (names_of g.params) (map word_sort_of (kinds_of g.params)) (λ x. None) params_wide (λ x n q. absurd cc)) in
+      subst WideNames (names_after word_sort_of (names_of g.params) (kinds_of g.params) [])
+      (wide_after (names_of g.params) (map word_sort_of (kinds_of g.params)) (λ x. None) params_wide (λ x n q. absurd cc)) in
       let right = program_sorted_right (context_of v) lay calls (record { facts = []; names = in_scope g }) h.tree f.body g.body g.results wide h.takes (body_sorted u v abstracted f g h k) in
       and_from _ _
       (and_from _ _

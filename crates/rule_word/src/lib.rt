@@ -3,4 +3,7 @@
 
 mod laws;
 
-pub use laws::{abstracted_units_are_formed, abstracted_units_keep_words, kinds_fit, taken_is_exact, units_are_abstracted, words_are_abstracted, words_are_seen};
+pub use laws::{
+    abstracted_units_are_formed, abstracted_units_keep_words, kinds_fit, taken_is_exact,
+    units_are_abstracted, words_are_abstracted, words_are_seen,
+};

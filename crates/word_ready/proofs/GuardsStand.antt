@@ -95,12 +95,11 @@ module _ (same : Exp → Exp → Bool) (finds : (e : Exp) → same e e ≡ true)
         let given = all_given before (among older) cs (λ x i. first_ones conditions older x i) in
         let b = either_range (become (under_each (among older) cs) e) h in
         let here : first_range same before natural integer guard ≡ Some b.0 = by_first before (among older) cs low r high ∙ imps_give before (among older) cs e given ∙ b.1 in
-        let c = one_found (oldest_range same conditions natural integer older) (first_range same before natural integer guard) b.0 here in
-        (
+        let c = one_found (oldest_range same conditions natural integer older) (first_range same before natural integer guard) b.0 here in (
           c.0,
           ap (λ fs. oldest_range same k.conditions natural integer fs) facts
-          ∙ oldest_alike same natural integer k.conditions conditions (newer ++ (Whole guard ∷ older)) alike
-          ∙ range_stays same conditions natural integer newer (Whole guard ∷ older) c.0 c.1,
+              ∙ oldest_alike same natural integer k.conditions conditions (newer ++ (Whole guard ∷ older)) alike
+              ∙ range_stays same conditions natural integer newer (Whole guard ∷ older) c.0 c.1,
         )
       where
         first_ones : (cs fs : List Fact) (x : Exp) → some_gives same cs x ≡ true → some_gives same (cs ++ fs) x ≡ true
