@@ -1,2 +1,3 @@
 pub mod GuardsStand
 pub mod SumsBased
+pub mod WorkedSums

@@ -1,7 +1,7 @@
--- A sum, a difference or a product is of numbers wherever its guard stands in front of it, under the conditions that the guard names, and
--- its operands were ready there.
+-- A sum, a difference, a product, a negation or a signed quotient is of numbers wherever its guard stands in front of it, under the
+-- conditions that the guard names, where its operands were ready at the guard.
 use Rattle.std.proofs.Common.{◌≡◌, ℕ, Bool, true, false, cond, ◌&&◌, ◌||◌, not, List, [], ◌∷◌, ◌++◌, map, Option, Some, None, ◌⊎◌, inl, inr, refl, sym, subst, ap, ap₂, ◌∙◌}
-use Rattle.c_values.specs.Word.{WordOp, Wadd, Wsub, Wmul}
+use Rattle.c_values.specs.Word.{WordOp, Wsdiv, UnaryOp, Wneg}
 use Rattle.c_values.specs.Number as N
 use Rattle.c_values.specs.Number.{least, greatest}
 use Rattle.expression_lang.specs.Expression as X
@@ -11,8 +11,8 @@ use Rattle.expression_lang.specs.Signature.{Binder}
 use Rattle.ac_expr.specs.Fact.{Fact, Whole, stands_for}
 use Rattle.rule_word.specs.Rule.{View, Unsigned, Signed}
 use Rattle.rule_word.specs.Scopes.{own, width_in}
-use Rattle.rule_word.specs.Bases.{Surroundings, under, among, Base, Words, Naturals, Integers, natural_range, integer_range, or_else, some_gives, range_given, first_range, oldest_range, or_words, base_in}
-use Rattle.rule_word.specs.WordsAbstracted.{Abstracted, Operands, operands, or_zero, binary_base, abstracted}
+use Rattle.rule_word.specs.Bases.{Surroundings, under, among, Base, Words, Naturals, Integers, natural_range, integer_range, or_else, some_gives, range_given, first_range, oldest_range, or_words, base_in, signed_or_words}
+use Rattle.rule_word.specs.WordsAbstracted.{Abstracted, Operands, operands, or_zero, binary_base, negation_base, abstracted}
 use Rattle.rule_word.specs.Ready.{is_no_word, ready}
 use Rattle.rule_word.proofs.AbstractedStays.{IsLater, stays}
 use Rattle.word_ready.proofs.GuardsStand.{under_all, become, under_each, range_there}
@@ -117,3 +117,48 @@ module _ (same : Exp → Exp → Bool) (finds : (e : Exp) → same e e ≡ true)
           (inl (subst (λ e. same e (natural_range m (X.Arith o (A k a (Unsigned m)).right (A k b (Unsigned m)).right)) ≡ true)
           (ap₂ (λ x y. X.Between (least false m) (X.Arith o x.right y.right) (greatest false m)) same_a (same_b ∙ ap (λ w. A (at_guard older cs) b (Unsigned (or_zero w))) (sym width)))
           (finds _))))
+
+  -- a signed division, by the range of its quotient
+  pub quotient_based : (a b : Exp) (older newer : List Fact) (cs : List Exp) (k : Surroundings) → map stands_for k.conditions ≡ map stands_for (at_guard older cs).conditions →
+      k.facts ≡ newer ++ (Whole (become same finds g names (among older) (under_all cs (range_of true (or_zero (width_in g a)) N.Div a b))) ∷ older) →
+      width_in g b ≡ width_in g a → ready same true g names (at_guard older cs) a ≡ true → ready same true g names (at_guard older cs) b ≡ true →
+      is_no_word (binary_base same true k (or_zero (width_in g a)) Wsdiv (os_in k a b)) ≡ true
+  quotient_based a b older newer cs k alike facts width ra rb =
+      let m = or_zero (width_in g a) in
+      let l = behind older newer cs (range_of true m N.Div a b) k alike facts in
+      let same_a = stays same true g names (at_guard older cs) k l a ra (Signed m) in
+      let same_b = stays same true g names (at_guard older cs) k l b rb (Signed m) in
+      let range = integer_range m (X.Arith N.Div (A k a (Signed m)).right (A k b (Signed m)).right) in
+      let r = range_there same finds g names range range older newer cs (least true m) (X.Arith N.Div (X.ToInt a) (X.ToInt b)) (greatest true m) k alike facts
+      (inr (subst (λ e. same e (integer_range m (X.Arith N.Div (A k a (Signed m)).right (A k b (Signed m)).right)) ≡ true)
+      (ap₂ (λ x y. X.Between (least true m) (X.Arith N.Div x.right y.right) (greatest true m)) same_a (same_b ∙ ap (λ w. A (at_guard older cs) b (Signed (or_zero w))) (sym width)))
+      (finds _))) in
+      ap (λ c. is_no_word (signed_or_words c)) r.1
+
+  -- a negation
+  abbrev pub negated_range : Bool → ℕ → Exp → Exp
+  negated_range true n a = X.Between (least true n) (X.Negate (X.ToInt a)) (greatest true n)
+  negated_range false n a = X.Between (least false n) (X.Negate (X.ToNat a)) (greatest false n)
+
+  pub negation_based : (is_signed : Bool) (a : Exp) (older newer : List Fact) (cs : List Exp) (k : Surroundings) → map stands_for k.conditions ≡ map stands_for (at_guard older cs).conditions →
+      k.facts ≡ newer ++ (Whole (become same finds g names (among older) (under_all cs (negated_range is_signed (or_zero (width_in g a)) a))) ∷ older) →
+      ready same true g names (at_guard older cs) a ≡ true →
+      is_no_word (negation_base same true k (or_zero (width_in g a)) Wneg (A k a (Unsigned (or_zero (width_in g a)))) (A k a (Signed (or_zero (width_in g a))))) ≡ true
+  negation_based true a older newer cs k alike facts ra =
+      let m = or_zero (width_in g a) in
+      let l = behind older newer cs (negated_range true m a) k alike facts in
+      let natural = natural_range m (X.Negate (A k a (Unsigned m)).right) in
+      let integer = integer_range m (X.Negate (A k a (Signed m)).right) in
+      let r = range_there same finds g names natural integer older newer cs (least true m) (X.Negate (X.ToInt a)) (greatest true m) k alike facts
+      (inr (subst (λ e. same e (integer_range m (X.Negate (A k a (Signed m)).right)) ≡ true)
+      (ap (λ x. X.Between (least true m) (X.Negate x.right) (greatest true m)) (stays same true g names (at_guard older cs) k l a ra (Signed m))) (finds _))) in
+      ap (λ c. is_no_word (or_words c)) r.1 ∙ found_no_word same natural integer k.conditions k.facts r.0 r.1
+  negation_based false a older newer cs k alike facts ra =
+      let m = or_zero (width_in g a) in
+      let l = behind older newer cs (negated_range false m a) k alike facts in
+      let natural = natural_range m (X.Negate (A k a (Unsigned m)).right) in
+      let integer = integer_range m (X.Negate (A k a (Signed m)).right) in
+      let r = range_there same finds g names natural integer older newer cs (least false m) (X.Negate (X.ToNat a)) (greatest false m) k alike facts
+      (inl (subst (λ e. same e (natural_range m (X.Negate (A k a (Unsigned m)).right)) ≡ true)
+      (ap (λ x. X.Between (least false m) (X.Negate x.right) (greatest false m)) (stays same true g names (at_guard older cs) k l a ra (Unsigned m))) (finds _))) in
+      ap (λ c. is_no_word (or_words c)) r.1 ∙ found_no_word same natural integer k.conditions k.facts r.0 r.1
