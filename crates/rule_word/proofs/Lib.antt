@@ -29,5 +29,6 @@ pub mod RightPrograms
 pub mod UnitsFormed
 pub mod UnitTaken
 pub mod ChildrenSorted
+pub mod LeftWidths
 pub mod PartsFit
 pub mod ProgramPartsFit

@@ -9,3 +9,4 @@ pub mod WordsAbstracted
 pub mod ProgramsAbstracted
 pub mod Ready
 pub mod UnitAbstracted
+pub mod LeftWidth
