@@ -1,3 +1,4 @@
 pub mod GuardsStand
 pub mod SumsBased
 pub mod WorkedSums
+pub mod KindsFor
