@@ -6,3 +6,11 @@ pub mod SameValues
 pub mod GivenFacts
 pub mod HeadsAgree
 pub mod SameExps
+pub mod AgreeingValues
+pub mod SubstitutedValues
+pub mod PartsSorted
+pub mod StepsHold
+pub mod PlacesHold
+pub mod ExactSteps
+pub mod Apart
+pub mod HeadShapes

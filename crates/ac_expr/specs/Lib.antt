@@ -9,3 +9,6 @@ pub mod CodeChain
 pub mod CodeLasting
 pub mod Heads
 pub mod SameExp
+pub mod Step
+pub mod Substituted
+pub mod CodeHeads

@@ -5,8 +5,10 @@ mod chain;
 mod claims;
 mod fact_laws;
 mod facts;
+mod heads_alike;
 mod knowing;
 mod lasting;
+mod step_laws;
 
 pub use chain::{Facts, Sequence, Split};
 pub use expression_lang::{
@@ -15,4 +17,6 @@ pub use expression_lang::{
 };
 pub use fact_laws::known_facts_hold;
 pub use facts::Fact;
+pub use heads_alike::{Children, children_of, same_head, same_steps};
 pub use knowing::known;
+pub use step_laws::one_step_is_exact;

@@ -5,3 +5,5 @@ pub mod KeepsBytes
 pub mod HeapWritten
 pub mod SortedValues
 pub mod RunsLast
+pub mod Sorts
+pub mod PlacesAgree

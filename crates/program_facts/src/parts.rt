@@ -2,47 +2,80 @@
 
 ghost use Rattle.std.specs.Prelude.{◌≡◌};
 ghost use Rattle.monad_lang.specs.CodeProgram.{mon_of};
-ghost use Rattle.program_facts.specs.Flow.{changes_state, guard_in, parts};
+ghost use Rattle.program_facts.specs.Flow.{changes_state, parts};
+ghost use Rattle.program_facts.specs.CodeParts.{sequence};
 
 use ac_expr::{Exp, Sequence, Split};
 use monad_lang::Mon;
 
-/// A program, by its parts that come one after the other.
+/// A program, by its parts that come one after the other. It points at boxes alone: facts with a larger type in them are more than
+/// the language's types may reach.
 #[derive(Clone, Copy)]
-pub struct Parts<'a> {
-    pub program: &'a Mon,
+pub enum Parts<'a> {
+    /// No part.
+    None,
+    /// A part, its values' names, and what comes behind it.
+    Begins(&'a Box<Mon>, &'a [String], &'a Box<Mon>),
+    /// A program that is a part.
+    Whole(&'a Box<Mon>),
+}
+
+impl<'a> Parts<'a> {
+    /// The parts of a program.
+    pub fn of(m: &'a Mon) -> Parts<'a>
+        ensures { sequence result ≡ parts (mon_of m.now) }
+    {
+        match m {
+            Mon::Bind(first, names, rest) => Parts::Begins(first, names, rest),
+            _ => Parts::None,
+        }
+    }
 }
 
 impl Sequence for Parts<'_> {
-    ghost use Rattle.program_facts.specs.Flow.{changes_state, guard_in, parts};
-    ghost use Rattle.monad_lang.specs.CodeProgram.{mon_of};
+    ghost use Rattle.program_facts.specs.CodeParts.{sequence, guard_at, changes_at};
 
-    ghost parts = { λ it. parts (mon_of it.program.now) };
+    ghost parts = { λ it. sequence it };
 
-    ghost guard_in = { λ it. guard_in (mon_of it.program.now) };
+    ghost guard_in = { λ it. guard_at it };
 
-    ghost changes = { λ it. changes_state (mon_of it.program.now) };
+    ghost changes = { λ it. changes_at it };
 
     fn split(&self) -> Option<Split<'_, Self>> {
-        match self.program {
-            Mon::Bind(first, names, rest) => Some(Split {
-                first: Parts { program: &**first },
-                names,
-                rest: Parts { program: &**rest },
+        match self {
+            Parts::None => None,
+            Parts::Begins(first, names, rest) => Some(Split {
+                first: Parts::Whole(*first),
+                names: *names,
+                rest: Parts::Whole(*rest),
             }),
-            _ => None,
+            Parts::Whole(program) => match &***program {
+                Mon::Bind(first, names, rest) => Some(Split {
+                    first: Parts::Whole(first),
+                    names,
+                    rest: Parts::Whole(rest),
+                }),
+                _ => None,
+            },
         }
     }
 
     fn guard(&self) -> Option<&Exp> {
-        match self.program {
-            Mon::Guard(e) => Some(e),
-            _ => None,
+        match self {
+            Parts::None | Parts::Begins(_, _, _) => None,
+            Parts::Whole(program) => match &***program {
+                Mon::Guard(e) => Some(e),
+                _ => None,
+            },
         }
     }
 
     fn changes_state(&self) -> bool {
-        changes_state(self.program)
+        match self {
+            Parts::None => false,
+            Parts::Begins(first, _, rest) => changes_state(first) || changes_state(rest),
+            Parts::Whole(program) => changes_state(program),
+        }
     }
 }
 

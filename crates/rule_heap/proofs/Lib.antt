@@ -2,7 +2,6 @@ pub mod Alike
 pub mod InRange
 pub mod SoundValues
 pub mod StayingValues
-pub mod Sorts
 pub mod Sound
 pub mod WritesCovered
 pub mod Viewed
@@ -14,3 +13,10 @@ pub mod ExpForms
 pub mod ExpSorts
 pub mod HeapTaken
 pub mod HeapFormed
+pub mod WalkedParts
+pub mod RangeShapes
+pub mod StartNames
+pub mod Rows
+pub mod Matched
+pub mod Walked
+pub mod Along

@@ -48,7 +48,7 @@ use Rattle.rule_heap.proofs.Alike.{AreAlike}
 use Rattle.rule_heap.proofs.InRange.{Leads, leads_there}
 use Rattle.rule_heap.proofs.SoundValues.{SoundExp, covered_left, covered_ok, tagged, known, each_same, exp_sound}
 use Rattle.rule_heap.proofs.StayingValues.{value_stays, path_stays}
-use Rattle.rule_heap.proofs.Sorts.{then_parts, fits_parts, given_there, call_parts, bind_parts}
+use Rattle.program_facts.proofs.Sorts.{then_parts, fits_parts, given_there, call_parts, bind_parts}
 
 same_rest : {A : Type 0} {x y : A} {xs ys : List A} → ◌≡◌ {A = List A} (x ∷ xs) (y ∷ ys) → xs ≡ ys
 same_rest h = cc

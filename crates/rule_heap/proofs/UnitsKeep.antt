@@ -33,7 +33,7 @@ use Rattle.rule_heap.specs.Exact.{AnswersViewed, Place, StandsFor}
 use Rattle.rule_heap.specs.Units.{IsBodyTaken, IsTakenWhere, IsTakenTo, AreTakenTo, IsUnitTakenTo, UnitsKeepHeaps}
 use Rattle.rule_heap.proofs.Viewed.{IsSame, same_alike, heap_placed}
 use Rattle.rule_heap.proofs.Sound.{AlikeAnswers}
-use Rattle.rule_heap.proofs.Sorts.{given_there}
+use Rattle.program_facts.proofs.Sorts.{given_there}
 use Rattle.rule_heap.proofs.Itself.{program_itself, calls_any}
 use Rattle.rule_heap.proofs.Standing.{answer, lifted_heap, call_is, same_all, taken_stands}
 
