@@ -1,0 +1,4 @@
+pub mod CodeTrees
+pub mod Lifted
+pub mod CodeExps
+pub mod CodeLifted
