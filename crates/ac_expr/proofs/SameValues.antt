@@ -24,7 +24,7 @@ pub record DifferWhere (test : Exp → Bool) (env env' : Env) (s s' : State) : T
   pub load : (t : CType) (p : Exp) (path : Path) → test (Load t p path) ≡ false → s ≡ s'
   pub read : (t : CType) (p : Exp) (path : Path) → test (Read t p path) ≡ false → s ≡ s'
   pub global : (x : Name) (path : Path) → test (Global x path) ≡ false → s ≡ s'
-  pub tags : heap_tags s.heap ≡ heap_tags s'.heap
+  pub tags : (t : CType) (p : Exp) → test (Tagged t p) ≡ false → heap_tags s.heap ≡ heap_tags s'.heap
 
 module _ (l : Layout) (test : Exp → Bool) (env env' : Env) (s s' : State) (h : DifferWhere test env env' s s') where
   abbrev first : (x a : Bool) → (x || a) ≡ false → a ≡ false
@@ -101,7 +101,8 @@ module _ (l : Layout) (test : Exp → Bool) (env env' : Env) (s s' : State) (h :
         ap₂ (λ u ps. read_heap l s.heap t (word_in u).bits ps) (value_same a p.0) (steps_same path p.1)
         ∙ ap (λ r. read_heap l r.heap t (word_in (value l env' s' a)).bits (steps l env' s' path)) (h.read t a path (own (test (Read t a path)) (has test a) (path_has test path) n))
     value_same (Tagged t a) n =
-        ap₂ (λ ts u. Truth (is_covered l ts t (word_in u).bits)) h.tags (value_same a (first (test (Tagged t a)) (has test a) n))
+        let p = or_parts (test (Tagged t a)) (has test a) n in
+        ap₂ (λ ts u. Truth (is_covered l ts t (word_in u).bits)) (h.tags t a p.0) (value_same a p.1)
     value_same (PtrOk t a) n = ap (λ u. Truth (is_pointer_ok l t (word_in u).bits)) (value_same a (first (test (PtrOk t a)) (has test a) n))
     value_same (Global x path) n =
         let p = or_parts (test (Global x path)) (path_has test path) n in
@@ -131,7 +132,7 @@ unnamed_same l x v env s e n =
       load = λ t p path k. refl;
       read = λ t p path k. refl;
       global = λ y path k. refl;
-      tags = refl;
+      tags = λ t p k. refl;
     }) e n
 
 -- a state that it doesn't look at but for the tags
@@ -143,5 +144,5 @@ unread_same l env s s' tags e n =
       load = λ t p path k. absurd (true≢false k);
       read = λ t p path k. absurd (true≢false k);
       global = λ y path k. absurd (true≢false k);
-      tags = sym tags;
+      tags = λ t p k. sym tags;
     }) e n

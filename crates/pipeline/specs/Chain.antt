@@ -7,16 +7,14 @@ use Rattle.phase_relations.specs.Related.{Related, Same, BothFail}
 use Rattle.c_values.specs.Name.{Name}
 use Rattle.c_values.specs.Choice.{Choice}
 use Rattle.expression_lang.specs.Sort.{Level}
-use Rattle.expression_lang.specs.View.{AreOfKinds}
-use Rattle.expression_lang.specs.Signature.{Invocation}
-use Rattle.expression_lang.specs.States.{IsState}
 use Rattle.simpl_lang.specs.Command.{SimplUnit}
 use Rattle.simpl_lang.specs.Exec as Simpl
 use Rattle.monad_lang.specs.Program.{FinalUnit}
 use Rattle.monad_lang.specs.Run as Mon
 use Rattle.rule_local.specs.Kept.{LocalsKept}
 use Rattle.rule_heap.specs.Kept.{HeapsKept}
-use Rattle.rule_word.specs.Kept.{context_of, parameter_kinds, WordsKept}
+use Rattle.rule_word.specs.Kept.{context_of, WordsKept}
+use Rattle.rule_eq.specs.Kept.{EqualKept}
 use Rattle.c_lang.specs.Typed.{TypedUnit}
 use Rattle.generation.specs.SameEnds.{HasEndsOf}
 
@@ -33,15 +31,8 @@ ExceptionsKept f g = Related Same (λ c. Same) Same f g
 -- 4. Words: `WordsKept`, of programs on words and programs on what stands for the words at each kind; at calls with words of the
 -- parameters' kinds, in a state that can be. On either heap.
 
--- the same call, with arguments of the parameters' kinds, in a state that can be
-pub record SameInRange (a : FinalUnit) (c c' : Invocation) : Type 0 where
-  pub same : c' ≡ c
-  pub in_range : AreOfKinds (parameter_kinds (context_of a) c.name) c.arguments
-  pub state : IsState a.layout a.globals c.state
-
--- 5. Equality: programs and tidier ones. On either heap, from arguments in range.
-abbrev pub EqualKept : FinalUnit → Mon.Runs → Mon.Runs → Type 0
-EqualKept a f g = Related (SameInRange a) (λ c. Same) BothFail f g
+-- 5. Equality: `EqualKept`, of programs and tidier ones; at the same calls, of functions that there are, with arguments of the
+-- parameters' sorts, in a state that can be. On either heap.
 
 -- The five phases over a generated unit. Each is a law on whole units, at every choice and bound.
 pub record IsChain (u : TypedUnit) (levels : Name → Level) (generated flat : SimplUnit) (local heap word last : FinalUnit) : Type 0 where
@@ -50,4 +41,4 @@ pub record IsChain (u : TypedUnit) (levels : Name → Level) (generated flat : S
   pub locals : (p : Choice) (n : ℕ) → LocalsKept flat.signatures (Simpl.simpl_runs flat p n) (Mon.program_runs local p n)
   pub heaps : (p : Choice) (n : ℕ) → HeapsKept local levels (Mon.program_runs local p n) (Mon.program_runs heap p n)
   pub words : (p : Choice) (n : ℕ) → WordsKept (context_of last) (Mon.program_runs heap p n) (Mon.program_runs word p n)
-  pub equality : (p : Choice) (n : ℕ) → EqualKept last (Mon.program_runs word p n) (Mon.program_runs last p n)
+  pub equality : (p : Choice) (n : ℕ) → EqualKept word (Mon.program_runs word p n) (Mon.program_runs last p n)

@@ -3,7 +3,6 @@ pub mod SameWords
 pub mod SoundExpressions
 pub mod ScopesAfter
 pub mod InRange
-pub mod PlacesAgree
 pub mod ProgramSorts
 pub mod Recasts
 pub mod ProgramsGive

@@ -29,7 +29,7 @@ use Rattle.rule_word.specs.Table.{truth, each, owns, AreMatched, views_for, star
 use Rattle.rule_word.proofs.HeadSorts.{heads_sorted, sorts_in, IsNoName}
 use Rattle.rule_word.proofs.NoParts.{IsPlain, ArePlain, StaysPlain, PlainThere, claim_plain, plain_children, heads_plain}
 use Rattle.rule_word.proofs.PlaceSorts.{looking_at, same_children, heads_looking, place_looked_at, place_plain, plain_there, program_sort_plain}
-use Rattle.rule_word.proofs.PlacesAgree.{place_as_many}
+use Rattle.program_facts.proofs.PlacesAgree.{place_as_many}
 use Rattle.rule_word.proofs.ProgramSorts.{some_is, then_inv, fits_inv, are_inv, scalar_first, scalar_there, fits_there, call_inv}
 use Rattle.rule_word.proofs.ProgramsGive.{Gives, GivesThere, claim_gives, starts_given}
 use Rattle.rule_word.proofs.ProgramWidths.{AllWide, WideNames, WideCalls, wide_after, given_wide}

@@ -40,7 +40,7 @@ use Rattle.program_facts.proofs.RunsLast.{runs_last}
 use Rattle.program_facts.proofs.SortedValues.{bound_sorted}
 use Rattle.program_facts.proofs.FactsAfter.{facts_after_hold}
 use Rattle.rule_word.proofs.InRange.{views_fit}
-use Rattle.rule_word.proofs.PlacesAgree.{written_same, place_as_many, first_of, others_of}
+use Rattle.program_facts.proofs.PlacesAgree.{written_same, place_as_many, first_of, others_of}
 use Rattle.rule_word.proofs.ProgramSorts.{then_inv, if_inv, bind_inv, loop_inv, loop_parts}
 use Rattle.rule_word.proofs.ProgramsGive.{Gives, GivesThere, claim_gives}
 use Rattle.rule_word.proofs.Recasts.{recast_sorts, recast_values}

@@ -32,7 +32,7 @@ use Rattle.rule_word.specs.Table.{table}
 use Rattle.rule_word.specs.Exact.{Views, StandsFor}
 use Rattle.rule_word.specs.Kept.{context_of, WordsKept}
 use Rattle.program_facts.proofs.KeepsTags.{units_keep_tags}
-use Rattle.rule_word.proofs.PlacesAgree.{type_in, path_in, first_of, others_of}
+use Rattle.program_facts.proofs.PlacesAgree.{type_in, path_in, first_of, others_of}
 use Rattle.rule_word.proofs.SoundPrograms.{Function, taken_does}
 
 functions_of : (ctx : Context) (lay : IsLayout ctx.layout) (p : Choice) (fs gs : List Runs) → Paired (WordsKept ctx) fs gs → AllLast ctx.layout ctx.globals word_sort_of ctx.functions fs → AllKeepTags gs → Paired (Function ctx lay p) fs gs
