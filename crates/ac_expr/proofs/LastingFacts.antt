@@ -1,10 +1,10 @@
 -- Facts that are kept, and facts that last, each said of the other.
-use Rattle.std.proofs.Common.{◌≡◌, ◌↔◌, ◌⊎◌, inl, inr, ℕ, zero, suc, Bool, true, false, not, ◌&&◌, List, [], ◌∷◌, Option, Some, None, if◌then◌else◌, refl, sym, subst, ap, ◌∙◌}
+use Rattle.std.proofs.Common.{◌≡◌, ◌↔◌, ◌⊎◌, inl, inr, ℕ, zero, suc, Bool, true, false, not, ◌&&◌, List, [], ◌∷◌, Option, Some, None, if◌then◌else◌, refl, sym, ◌∙◌}
 use Rattle.std.proofs.lemmas.Bool.{false≢true}
 use Rattle.c_values.specs.Name.{Name}
 use Rattle.expression_lang.specs.Expression.{Exp}
 use Rattle.expression_lang.specs.Mentions.{names, reads}
-use Rattle.ac_expr.specs.Fact.{Fact, Whole, stands_for}
+use Rattle.ac_expr.specs.Fact.{Fact, stands_for}
 use Rattle.ac_expr.specs.Facts.{facts_where, without_name, without_reads}
 use Rattle.ac_expr.specs.Passed.{Part, without_names, with_guard, where_unchanged, after, passed}
 use Rattle.ac_expr.specs.Lasting.{is_unnamed, lasts_part, lasts_passed}

@@ -1,5 +1,5 @@
 -- One part more, or none.
-use Rattle.std.proofs.Common.{◌≡◌, ◌↔◌, ◌⊎◌, inl, inr, ℕ, zero, suc, ◌-◌, ◌<◌, Bool, true, false, ◌&&◌, List, [], ◌∷◌, refl, sym, subst, ap, ◌∙◌, arith}
+use Rattle.std.proofs.Common.{◌≡◌, ◌↔◌, ◌⊎◌, inl, inr, ℕ, zero, suc, ◌-◌, ◌<◌, true, false, ◌&&◌, List, [], ◌∷◌, refl, sym, subst, ap, ◌∙◌, arith}
 use Rattle.expression_lang.specs.Expression.{Exp}
 use Rattle.ac_expr.specs.Passed.{Part}
 use Rattle.ac_expr.specs.Lasting.{lasts_part, lasts_passed}

@@ -6,7 +6,6 @@ pub mod SameValues
 pub mod GivenFacts
 pub mod HeadsAgree
 pub mod SameExps
-pub mod AgreeingValues
 pub mod SubstitutedValues
 pub mod PartsSorted
 pub mod StepsHold

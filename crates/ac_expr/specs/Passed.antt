@@ -1,8 +1,7 @@
 -- What stays known along the parts of a program that come one after the other.
-use Rattle.std.specs.Prelude.{ℕ, zero, suc, Bool, true, false, not, ◌&&◌, List, [], ◌∷◌, Option, Some, None, if◌then◌else◌}
+use Rattle.std.specs.Prelude.{ℕ, zero, suc, Bool, true, false, List, [], ◌∷◌, Option, Some, None}
 use Rattle.c_values.specs.Name.{Name}
 use Rattle.expression_lang.specs.Expression.{Exp}
-use Rattle.expression_lang.specs.Mentions.{names, reads}
 use Rattle.ac_expr.specs.Fact.{Fact, Whole}
 use Rattle.ac_expr.specs.Facts.{without_name, without_reads}
 

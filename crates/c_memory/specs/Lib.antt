@@ -13,3 +13,4 @@ pub mod TagFault
 pub mod Ranges
 pub mod CodeHeap
 pub mod Footprint
+pub mod LevelHeap

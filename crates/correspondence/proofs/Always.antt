@@ -1,7 +1,7 @@
 -- What holds of every answer of a run, whatever its other side.
 use Rattle.std.proofs.Common.{List, [], ◌∷◌, ◌⊎◌, inl, inr, sym, subst}
 use Rattle.correspondence.specs.Always.{Always}
-use Rattle.correspondence.specs.Outcome.{Done, Ends, Then, goes_on, continued, loop}
+use Rattle.correspondence.specs.Outcome.{Ends, Then, goes_on, continued, loop}
 
 pub then_always : {A B F : Type 0} (P : A → Type 0) (Q : B → Type 0) (p : Ends A F) (r : A → Ends B F) → Always P p → ((a : A) → P a → Always Q (r a)) → Always Q (Then p r)
 then_always P Q p r h k b (goes_on {a} x y) = k a (h a x) b y

@@ -1,6 +1,6 @@
 -- Runs with fewer choices, put together.
 use Rattle.std.proofs.Common.{ℕ, zero, suc, Option, Some, None, Bool, true, false, List, [], ◌∷◌, ◌⊎◌, inl, inr}
-use Rattle.correspondence.specs.Outcome.{Outcome, Turns, Depth, Done, Failed, Stopped, Ends, done, stop, Then, goes_on, fails, stops, choose, continued, loop}
+use Rattle.correspondence.specs.Outcome.{Outcome, Done, Failed, Stopped, Ends, done, Then, goes_on, fails, stops, choose, continued, loop}
 use Rattle.correspondence.specs.Bound.{Functions, called, below}
 use Rattle.correspondence.specs.Included.{Included, AllIncluded}
 

@@ -5,3 +5,5 @@ pub mod Continues
 pub mod Watches
 pub mod Included
 pub mod Steps
+pub mod Related
+pub mod Turning

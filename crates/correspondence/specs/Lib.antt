@@ -4,3 +4,4 @@ pub mod Corresponds
 pub mod OneEnd
 pub mod Always
 pub mod Included
+pub mod Related

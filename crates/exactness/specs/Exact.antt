@@ -22,7 +22,7 @@ use Rattle.expression_lang.specs.GuardKind.{GuardKind}
 use Rattle.expression_lang.specs.Machine.{Returned}
 use Rattle.monad_lang.specs.Program.{FinalUnit, FinalFn}
 use Rattle.monad_lang.specs.Run.{Answer, Failure, program_runs}
-pub use Rattle.level_heaps.specs.LevelHeap.{heap_for}
+pub use Rattle.c_memory.specs.LevelHeap.{heap_for}
 use Rattle.c_lang.specs.Typed.{TypedUnit, TypedFn, typed_fn}
 use Rattle.c_meaning.specs.CRun.{c_runs, plain}
 use Rattle.c_meaning.specs.Fitting.{AreOfTypes}

@@ -45,5 +45,8 @@ names_of (N.Named' p outer own s) x = if same_name own.now x then Some (scalar_o
 names_of (N.AllOf' p outer bs) x = names_with_all bs.now (λ y. names_of outer y) x
 
 -- what is in scope
+abbrev pub scope_by : Layout → (Name → Option Scalar) → List G.GlobalVar → Scope
+scope_by l names globals = record { layout = l; names = names; globals = global_type (map global_of globals) }
+
 abbrev pub scope_of : Layout → N.Names → List G.GlobalVar → Scope
-scope_of l names globals = record { layout = l; names = names_of names; globals = global_type (map global_of globals) }
+scope_of l names globals = scope_by l (λ x. names_of names x) globals

@@ -35,7 +35,7 @@ pub use expression::{CastOp, Exp};
 pub use faults::EvalFault;
 pub use heads::{IsLoad, IsName, IsPartOfValue, IsRead, IsReading, IsWordArithmetic};
 pub use lists::{copy_exps, copy_names, same_exps, same_names};
-pub use names::Names;
+pub use names::{Names, Scope};
 pub use paths::Path;
 pub use searching::Test;
 pub use shape::{

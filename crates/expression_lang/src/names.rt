@@ -1,12 +1,22 @@
 //! Names in scope.
 
-ghost use Rattle.std.specs.Prelude.{◌≡◌, Some, None, IfSome, IfNone};
+ghost use Rattle.std.specs.Prelude.{◌≡◌, Option, Some, None, IfSome, IfNone};
 ghost use Rattle.std.specs.Option.{option_map};
-ghost use Rattle.c_values.specs.Name.{with_name};
+ghost use Rattle.c_values.specs.Name.{Name, with_name};
+ghost use Rattle.expression_lang.specs.Sort as plain;
 ghost use Rattle.expression_lang.specs.CodeSort.{names_of, scalar_of, no_names, names_with_all, IsScalarAmong, IsAmongNone};
 
 use crate::signatures::Binder;
 use crate::sort::{Scalar, scalar_of_kind};
+
+/// What is in scope: names, with what their values are.
+pub trait Scope {
+    ghost scalars: { Self → Name → Option plain.Scalar };
+
+    /// What the values of a name are.
+    fn scalar(&self, name: &str) -> Option<Scalar>
+        ensures { option_map scalar_of result ≡ scalars self.now name.now };
+}
 
 /// Names with what their values are: a chain, each link of which borrows the one before. The last of two with one name
 /// counts.
@@ -63,6 +73,14 @@ impl<'a> Names<'a> {
                 }
             }
         }
+    }
+}
+
+impl Scope for Names<'_> {
+    ghost scalars = { λ names x. names_of names x };
+
+    fn scalar(&self, name: &str) -> Option<Scalar> {
+        self.get(name)
     }
 }
 

@@ -8,12 +8,12 @@ ghost use Rattle.expression_lang.specs.Sort.{sort_of, shape_along, is_one_step, 
 ghost use Rattle.expression_lang.specs.CodeExpression.{exp_of, path_of};
 ghost use Rattle.expression_lang.specs.declared.arity.Arity.TheVariants.{Leaf, Choice, Place, Part, Update};
 ghost use Rattle.expression_lang.specs.CodeArity.{arity_of};
-ghost use Rattle.expression_lang.specs.CodeSort.{sort_value, names_of, scope_of};
+ghost use Rattle.expression_lang.specs.CodeSort.{sort_value, scope_by};
 ghost use Rattle.expression_lang.specs.CodeSortRules.{leaf_sort};
 
 use crate::arity::{Arity, arity_in};
 use crate::expression::Exp;
-use crate::names::Names;
+use crate::names::Scope;
 use crate::operands::{first, second};
 use crate::parts::{element, global, member};
 use crate::paths::Path;
@@ -28,13 +28,13 @@ use c_values::{CType, GlobalVar, Layout, is_object};
 /// the expression it takes up to 440 bytes of the stack.
 #[cycle(sorts)]
 #[tactic(auto, using(crate::proofs::OperandSorts::leaf_sorted, crate::proofs::OperandSorts::unary_sorted, crate::proofs::OperandSorts::binary_sorted, crate::proofs::OperandSorts::connective_sorted))]
-pub fn sort_of<'a>(
+pub fn sort_of<'a, N: Scope>(
     e: &'a Exp,
-    names: &Names<'_>,
+    names: &N,
     l: &'a Layout,
     globals: &'a [GlobalVar],
 ) -> Option<Sort<'a>>
-    ensures { option_map sort_value result ≡ sort_of (scope_of l.now names.now globals.now)
+    ensures { option_map sort_value result ≡ sort_of (scope_by l.now (N.scalars names.now) globals.now)
         (exp_of e.now) }
 {
     match arity_in(e) {
@@ -59,12 +59,12 @@ pub fn sort_of<'a>(
 
 // The sort of a name or a constant.
 #[inline(never)]
-fn leaf_sort<'a>(e: &Exp, names: &Names<'_>) -> Option<Sort<'a>>
+fn leaf_sort<'a, N: Scope>(e: &Exp, names: &N) -> Option<Sort<'a>>
     requires { arity_of (exp_of e.now) ≡ Leaf }
-    ensures { option_map sort_value result ≡ leaf_sort (names_of names.now) (exp_of e.now) }
+    ensures { option_map sort_value result ≡ leaf_sort (N.scalars names.now) (exp_of e.now) }
 {
     match e {
-        Exp::Var(x) => match names.get(x.as_str()) {
+        Exp::Var(x) => match names.scalar(x.as_str()) {
             Some(scalar) => Some(Sort::Of(scalar)),
             None => None,
         },
@@ -77,14 +77,14 @@ fn leaf_sort<'a>(e: &Exp, names: &Names<'_>) -> Option<Sort<'a>>
 
 #[cycle(sorts)]
 #[inline(never)]
-fn choice_sort_of<'a>(
+fn choice_sort_of<'a, N: Scope>(
     e: &'a Exp,
-    names: &Names<'_>,
+    names: &N,
     l: &'a Layout,
     globals: &'a [GlobalVar],
 ) -> Option<Sort<'a>>
     requires { arity_of (exp_of e.now) ≡ Choice }
-    ensures { option_map sort_value result ≡ sort_of (scope_of l.now names.now globals.now)
+    ensures { option_map sort_value result ≡ sort_of (scope_by l.now (N.scalars names.now) globals.now)
         (exp_of e.now) }
 {
     match e {
@@ -100,14 +100,14 @@ fn choice_sort_of<'a>(
 // The sort of what is at a place, or of its address.
 #[cycle(sorts)]
 #[inline(never)]
-fn place_sort<'a>(
+fn place_sort<'a, N: Scope>(
     e: &'a Exp,
-    names: &Names<'_>,
+    names: &N,
     l: &'a Layout,
     globals: &'a [GlobalVar],
 ) -> Option<Sort<'a>>
     requires { arity_of (exp_of e.now) ≡ Place }
-    ensures { option_map sort_value result ≡ sort_of (scope_of l.now names.now globals.now)
+    ensures { option_map sort_value result ≡ sort_of (scope_by l.now (N.scalars names.now) globals.now)
         (exp_of e.now) }
 {
     let root = sort_of(first(e), names, l, globals);
@@ -132,14 +132,14 @@ fn place_sort<'a>(
 // The sort of a part of a global.
 #[cycle(sorts)]
 #[inline(never)]
-fn global_sort<'a>(
+fn global_sort<'a, N: Scope>(
     e: &'a Exp,
-    names: &Names<'_>,
+    names: &N,
     l: &'a Layout,
     globals: &'a [GlobalVar],
 ) -> Option<Sort<'a>>
     requires { arity_of (exp_of e.now) ≡ Part }
-    ensures { option_map sort_value result ≡ sort_of (scope_of l.now names.now globals.now)
+    ensures { option_map sort_value result ≡ sort_of (scope_by l.now (N.scalars names.now) globals.now)
         (exp_of e.now) }
 {
     match e {
@@ -154,14 +154,14 @@ fn global_sort<'a>(
 // The sort of a value with a part replaced.
 #[cycle(sorts)]
 #[inline(never)]
-fn update_sort<'a>(
+fn update_sort<'a, N: Scope>(
     e: &'a Exp,
-    names: &Names<'_>,
+    names: &N,
     l: &'a Layout,
     globals: &'a [GlobalVar],
 ) -> Option<Sort<'a>>
     requires { arity_of (exp_of e.now) ≡ Update }
-    ensures { option_map sort_value result ≡ sort_of (scope_of l.now names.now globals.now)
+    ensures { option_map sort_value result ≡ sort_of (scope_by l.now (N.scalars names.now) globals.now)
         (exp_of e.now) }
 {
     let whole = sort_of(first(e), names, l, globals);
@@ -182,13 +182,13 @@ fn update_sort<'a>(
 #[cycle(sorts)]
 #[inline(never)]
 #[tactic(auto, using(crate::proofs::OperandSorts::rest_decides, crate::proofs::OperandSorts::first_decides))]
-fn is_truth_value<'a>(
+fn is_truth_value<'a, N: Scope>(
     e: &'a Exp,
-    names: &Names<'_>,
+    names: &N,
     l: &'a Layout,
     globals: &'a [GlobalVar],
 ) -> bool
-    ensures { result ≡ is_truth (sort_of (scope_of l.now names.now globals.now) (exp_of e.now)) }
+    ensures { result ≡ is_truth (sort_of (scope_by l.now (N.scalars names.now) globals.now) (exp_of e.now)) }
 {
     let mut rest = e;
     'operands: while let Arity::Connective = arity_in(rest) {
@@ -203,15 +203,15 @@ fn is_truth_value<'a>(
 /// The type at the end of a path. It goes along the path by a loop, since a text may have long paths.
 #[cycle(sorts)]
 #[tactic(auto, using(crate::proofs::AlongSteps::next_field, crate::proofs::AlongSteps::no_field, crate::proofs::AlongSteps::next_element, crate::proofs::AlongSteps::no_element, crate::proofs::AlongSteps::no_number,))]
-pub fn along<'a>(
+pub fn along<'a, N: Scope>(
     path: &'a Path,
     t: &'a CType,
-    names: &Names<'_>,
+    names: &N,
     l: &'a Layout,
     globals: &'a [GlobalVar],
 ) -> Option<&'a CType>
     ensures { option_map (λ u. shape_of l.now (type_of u.now)) result
-        ≡ shape_along (scope_of l.now names.now globals.now) (path_of path.now)
+        ≡ shape_along (scope_by l.now (N.scalars names.now) globals.now) (path_of path.now)
         (shape_of l.now (type_of t.now)) }
 {
     let mut rest = path;

@@ -13,7 +13,8 @@ use Rattle.expression_lang.specs.Sort.{Level, Bytes, Words, Numbers, Kind, WordK
 use Rattle.expression_lang.specs.Signature.{Binder, Signature, signature, kinds_of, kind_at, result_kind, binder}
 use Rattle.expression_lang.specs.Sorted.{program_sort, part_place, global_place, fits_place, sort_in, scalars_of, scalar_in, with_scalar, same_scalars, call_scalars, result_scalars}
 use Rattle.simpl_lang.specs.Command.{Condition, Simpl, Skip, Throw, Set, SetGlobal, Store, Pick, Seq, Cond, Catch, While, Call}
-use Rattle.simpl_lang.specs.Sorted.{is_sorted, is_scalar_of, is_local, fits_target}
+use Rattle.program_sorts.specs.Sorts.{is_scalar_of}
+use Rattle.simpl_lang.specs.Sorted.{is_sorted, is_local, fits_target}
 use Rattle.simpl_lang.specs.Exec.{result_local}
 use Rattle.c_lang.specs.Typed as C
 use Rattle.c_lang.specs.WellTyped.{Scope, Around, variable_type, are_variables, is_result, is_typed_at, is_typed, is_typed_target, is_typed_test, are_arguments, is_use_of, is_call_of, is_statement, are_statements, are_groups, is_own_name, nowhere, in_a_loop, in_a_switch}

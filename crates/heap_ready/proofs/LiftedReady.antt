@@ -26,7 +26,7 @@ set_is_no_pair : (b : Bool) (x : Name) (e : E.Exp) (us vs : List Name) (n : M.Mo
 set_is_no_pair true x e us vs n = refl
 set_is_no_pair false x e us vs n = refl
 
-lifted_is_no_pair : (bs : List Binder) (a : Simpl) (us vs : List Name) (n : M.Mon) → is_pair (lifted bs a us).right vs n ≡ false
+pub lifted_is_no_pair : (bs : List Binder) (a : Simpl) (us vs : List Name) (n : M.Mon) → is_pair (lifted bs a us).right vs n ≡ false
 lifted_is_no_pair bs Skip us vs n = refl
 lifted_is_no_pair bs Throw us vs n = refl
 lifted_is_no_pair bs (Set x e) us vs n = set_is_no_pair (is_among x us) x e us vs n

@@ -7,7 +7,7 @@ use Rattle.c_values.specs.Value.{Value}
 use Rattle.c_values.specs.Layout.{Layout, GlobalVar, global_type}
 use Rattle.c_values.specs.Choice.{Choice}
 use Rattle.c_memory.specs.Heap.{heap_tags}
-use Rattle.expression_lang.specs.Sort.{Scalar, Kind}
+use Rattle.expression_lang.specs.Sort.{Scalar, Kind, sort_of_kind}
 use Rattle.expression_lang.specs.Sorted.{names_with, result_scalars}
 use Rattle.expression_lang.specs.Signature.{Signature, Invocation, signature, names_of, kinds_of}
 use Rattle.expression_lang.specs.Evaluation.{State}
@@ -81,3 +81,10 @@ pub record UnitLasts (sort_for : Kind → Scalar) (u : FinalUnit) : Type 0 where
       AllLast u.layout u.globals sort_for (map signature_of u.functions) (functions_below u p n)
   pub runs : (p : Choice) (n : ℕ) →
       FunctionLasts u.layout u.globals sort_for (map signature_of u.functions) (program_runs u p n)
+
+-- a call that can be: of a function that there is, with arguments of its parameters' sorts, in a state that can be
+pub record CanBeCalled (l : Layout) (vs : List GlobalVar) (fs : List Signature) (c : Invocation) : Type 0 where
+  pub function : Signature
+  pub found : signature fs c.name ≡ Some function
+  pub sorted : AreOfSorts (map sort_of_kind (kinds_of function.params)) c.arguments
+  pub state : IsState l vs c.state

@@ -1,5 +1,5 @@
 -- The head of a place and its children: the expressions in it, in text order. The head has a hole for each.
-use Rattle.std.specs.Prelude.{List, [], ◌∷◌}
+use Rattle.std.specs.Prelude.{List, ◌∷◌}
 use Rattle.expression_lang.specs.Expression.{Exp}
 use Rattle.ac_expr.specs.Heads.{path_children, path_head, hole}
 use Rattle.monad_lang.specs.Program.{Place, Stored, Written, Global}

@@ -8,7 +8,8 @@ use Rattle.expression_lang.specs.Sorted.{program_sort}
 use Rattle.expression_lang.specs.Signature.{Signature}
 use Rattle.simpl_lang.specs.Command.{Condition, Simpl, Skip, Throw, Set, SetGlobal, Store, Pick, Seq, Cond, Guard, Catch, While, Call}
 use Rattle.simpl_lang.specs.Flag.{thrown_local}
-use Rattle.simpl_lang.specs.Sorted.{is_sorted, is_scalar_of, are_conditions}
+use Rattle.program_sorts.specs.Sorts.{is_scalar_of}
+use Rattle.simpl_lang.specs.Sorted.{is_sorted, are_conditions}
 use Rattle.rule_exn.specs.Quiet.{quiet}
 use Rattle.rule_exn.specs.Table.{is_thrown, cleared, unless_thrown}
 use Rattle.rule_exn.specs.Eliminated.{Eliminated, exceptions_eliminated, in_sequence, caught, repeated}

@@ -10,8 +10,8 @@ use Rattle.program_facts.specs.Flow.{parts, facts_after}
 use Rattle.rule_trees.specs.declared.tree.Tree as T
 use Rattle.rule_trees.specs.RuleTree.{Checked, next}
 use Rattle.rule_trees.specs.CodeTree.{trees_in}
-use Rattle.rule_heap.specs.CodeNodes.{nodes, nodes_in}
-use Rattle.rule_heap.proofs.WalkedParts as walked_parts
+use Rattle.rule_trees.specs.CodeNodes.{nodes, nodes_in}
+use Rattle.rule_trees.proofs.WalkedParts as walked_parts
 use Rattle.rule_trees.proofs.Walk as walk
 use Rattle.rule_heap.specs.declared.rule.Rule as C
 use Rattle.rule_heap.specs.Rule as R

@@ -2,7 +2,7 @@
 use Rattle.std.proofs.Common.{◌≡◌, Bool, true, List, [], ◌∷◌, refl, sym, ap, subst}
 use Rattle.std.proofs.lemmas.Bool.{and_from}
 use Rattle.correspondence.proofs.Corresponds.{done_corresponds}
-use Rattle.phase_relations.specs.Related.{BothFail}
+use Rattle.correspondence.specs.Related.{BothFail}
 use Rattle.c_values.specs.Name.{Name}
 use Rattle.c_values.specs.Choice.{Choice}
 use Rattle.c_values.specs.Layout.{Layout, IsLayout, GlobalVar}

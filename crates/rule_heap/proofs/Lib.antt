@@ -13,7 +13,6 @@ pub mod ExpForms
 pub mod ExpSorts
 pub mod HeapTaken
 pub mod HeapFormed
-pub mod WalkedParts
 pub mod RangeShapes
 pub mod StartNames
 pub mod Rows

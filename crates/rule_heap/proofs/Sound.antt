@@ -4,10 +4,10 @@ use Rattle.std.proofs.Common.{◌≡◌, ℕ, suc, Bool, true, false, ◌||◌, 
 use Rattle.std.proofs.lemmas.Bool.{and_parts, or_parts, not_from_false, true≢false, not-true}
 use Rattle.correspondence.specs.Outcome.{Ends, done, fault, Then, choose, loop}
 use Rattle.correspondence.specs.Corresponds.{Corresponds, Either, Paired, SameFunctions}
-use Rattle.phase_relations.specs.Related.{BothFail, Same}
+use Rattle.correspondence.specs.Related.{BothFail, Same}
 use Rattle.correspondence.proofs.Corresponds.{done_corresponds, fault_corresponds, then_corresponds, choose_corresponds, called_corresponds}
 use Rattle.correspondence.proofs.Steps.{same_on_right, same_on_left, after_done, after_fault}
-use Rattle.phase_relations.proofs.Turning.{turning_corresponds, Reached, reached}
+use Rattle.correspondence.proofs.Turning.{turning_corresponds, Reached, reached}
 use Rattle.c_values.specs.Name.{Name, with_name}
 use Rattle.c_values.specs.Types.{CType}
 use Rattle.c_values.specs.Value.{Value, word_in, truth_in}

@@ -3,9 +3,9 @@ use Rattle.std.proofs.Common.{◌≡◌, Bool, true, false, List, [], ◌∷◌,
 use Rattle.std.proofs.lemmas.Bool.{not-true}
 use Rattle.correspondence.specs.Outcome.{Ends}
 use Rattle.correspondence.specs.Corresponds.{Corresponds, After, Paired}
-use Rattle.phase_relations.specs.Related.{Same, BothFail}
+use Rattle.correspondence.specs.Related.{Same, BothFail}
 use Rattle.correspondence.proofs.Corresponds.{there, back, both, turned, corresponds_weaker, corresponds_after}
-use Rattle.phase_relations.proofs.Turning.{Reached, reached}
+use Rattle.correspondence.proofs.Turning.{Reached, reached}
 use Rattle.c_values.specs.Name.{Name}
 use Rattle.c_values.specs.Value.{Value}
 use Rattle.c_values.specs.Choice.{Choice}
@@ -25,7 +25,7 @@ use Rattle.expression_lang.specs.Form.{is_read}
 use Rattle.monad_lang.specs.Run.{Answer, Runs, functions_below}
 use Rattle.monad_lang.specs.Sorted.{signature_of, scalars_given, IsWellFormed}
 use Rattle.monad_lang.specs.Steady.{Viewed, Alike}
-use Rattle.level_heaps.specs.LevelHeap.{heap_for}
+use Rattle.c_memory.specs.LevelHeap.{heap_for}
 use Rattle.program_facts.specs.Lasting.{FunctionLasts, AllLast, AllKeepTags, setting_in}
 use Rattle.program_facts.proofs.KeepsTags.{units_keep_tags}
 use Rattle.program_facts.proofs.RunsLast.{formed_units_last}

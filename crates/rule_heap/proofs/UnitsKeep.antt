@@ -3,9 +3,9 @@ use Rattle.std.proofs.Common.{◌≡◌, ℕ, zero, suc, Bool, true, false, cond
 use Rattle.std.proofs.lemmas.Bool.{and_parts, true≢false}
 use Rattle.correspondence.specs.Outcome.{Ends}
 use Rattle.correspondence.specs.Corresponds.{Corresponds, Paired}
-use Rattle.phase_relations.specs.Related.{Same, BothFail}
+use Rattle.correspondence.specs.Related.{Same, BothFail}
 use Rattle.correspondence.proofs.Corresponds.{corresponds_weaker}
-use Rattle.phase_relations.proofs.Turning.{Reached, reached}
+use Rattle.correspondence.proofs.Turning.{Reached, reached}
 use Rattle.c_values.specs.Name.{Name, same_name}
 use Rattle.c_values.specs.Choice.{Choice}
 use Rattle.c_values.specs.Layout.{Layout, global_type}
@@ -22,7 +22,7 @@ use Rattle.expression_lang.specs.States.{IsEnvironment, IsState, state_with}
 use Rattle.monad_lang.specs.Program.{FinalFn, FinalUnit, final_fn}
 use Rattle.monad_lang.specs.Run.{Answer, Failure, runs, function_runs, functions_below, program_runs}
 use Rattle.monad_lang.specs.Sorted.{signature_of, scalars_given, are_scalars, has_few, IsWellFormed}
-use Rattle.level_heaps.specs.LevelHeap.{heap_for}
+use Rattle.c_memory.specs.LevelHeap.{heap_for}
 use Rattle.program_facts.specs.Lasting.{AreOfSorts, setting_in, setting_for, is_sorted_for, are_sorted_for}
 use Rattle.program_facts.proofs.KeepsTags.{units_keep_tags, calls_keep_tags}
 use Rattle.program_facts.proofs.KeepsBytes.{IsOnBytes, bytes_there, calls_keep_bytes}

@@ -9,8 +9,8 @@ use Rattle.rule_trees.specs.declared.tree.Tree as T
 use Rattle.rule_trees.specs.declared.tree.Tree.{out-Tree}
 use Rattle.rule_trees.specs.RuleTree.{Checked, AllChecked, next}
 use Rattle.rule_trees.specs.CodeTree.{trees_in}
-use Rattle.rule_heap.specs.CodeNodes.{nodes, nodes_in}
-use Rattle.rule_heap.proofs.WalkedParts as walked_parts
+use Rattle.rule_trees.specs.CodeNodes.{nodes, nodes_in}
+use Rattle.rule_trees.proofs.WalkedParts as walked_parts
 use Rattle.rule_trees.proofs.Walk as walk
 use Rattle.rule_heap.specs.declared.rule.Rule as C
 use Rattle.rule_heap.specs.Rule.{Rule, Claim, OfExp}

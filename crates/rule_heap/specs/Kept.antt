@@ -1,28 +1,24 @@
 -- What the phase keeps of functions. A lifted function's program on bytes and its program on typed heaps, called from
 -- bytes and from the typed heap that views them, have the same values and globals and memories that are so related,
 -- fail alike and stop alike; and called from one state both do the same.
-use Rattle.std.specs.Prelude.{◌≡◌, map, Some}
-use Rattle.phase_relations.specs.Related.{Related, Same, BothFail}
+use Rattle.std.specs.Prelude.{◌≡◌, map}
+use Rattle.correspondence.specs.Related.{Related, Same, BothFail}
 use Rattle.c_values.specs.Name.{Name}
 use Rattle.c_values.specs.Layout.{Layout}
 use Rattle.c_memory.specs.Memory.{Memory}
 use Rattle.c_memory.specs.Footprint.{KeepsMemory}
 use Rattle.c_memory.specs.Heap.{OnBytes}
-use Rattle.expression_lang.specs.Sort.{Level, is_lifted, sort_of_kind}
-use Rattle.expression_lang.specs.Signature.{Signature, Invocation, signature, kinds_of}
-use Rattle.expression_lang.specs.States.{IsState}
+use Rattle.expression_lang.specs.Sort.{Level, is_lifted}
+use Rattle.expression_lang.specs.Signature.{Invocation}
 use Rattle.monad_lang.specs.Program.{FinalUnit}
 use Rattle.monad_lang.specs.Run.{Answer, Runs}
 use Rattle.monad_lang.specs.Sorted.{signature_of}
-use Rattle.level_heaps.specs.LevelHeap.{heap_for}
-use Rattle.program_facts.specs.Lasting.{AreOfSorts}
+use Rattle.c_memory.specs.LevelHeap.{heap_for}
+use Rattle.program_facts.specs.Lasting.{CanBeCalled}
 
--- a call that can be: of a function of the unit, with arguments of its parameters' sorts, in a state that can be
-pub record IsCall (u : FinalUnit) (c : Invocation) : Type 0 where
-  pub function : Signature
-  pub found : signature (map signature_of u.functions) c.name ≡ Some function
-  pub sorted : AreOfSorts (map sort_of_kind (kinds_of function.params)) c.arguments
-  pub state : IsState u.layout u.globals c.state
+-- a call of a function of the unit that can be
+abbrev pub IsCall : FinalUnit → Invocation → Type 0
+IsCall u c = CanBeCalled u.layout u.globals (map signature_of u.functions) c
 
 -- a call on bytes, and the same call on the heap that its function's level gives it for those bytes
 pub record OnItsHeap (u : FinalUnit) (levels : Name → Level) (c c' : Invocation) : Type 0 where

@@ -6,7 +6,6 @@ pub mod Exact
 pub mod Units
 pub mod ExpLifted
 pub mod HeapLifted
-pub mod CodeNodes
 pub mod CodeRule
 pub mod CodeVerdict
 pub mod CodeParts

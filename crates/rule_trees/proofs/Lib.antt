@@ -2,3 +2,4 @@ pub mod Induction
 pub mod Checking
 pub mod Parts
 pub mod Walk
+pub mod WalkedParts

@@ -1,3 +1,4 @@
 pub mod RuleTree
 pub mod CodeFound
 pub mod CodeTree
+pub mod CodeNodes

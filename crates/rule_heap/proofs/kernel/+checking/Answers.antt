@@ -5,7 +5,7 @@ use Rattle.ac_expr.specs.Passed.{passed}
 use Rattle.program_facts.specs.CodeParts.{sequence}
 use Rattle.monad_lang.specs.CodeProgram.{mon_of}
 use Rattle.rule_trees.specs.CodeTree.{trees_in}
-use Rattle.rule_heap.specs.CodeNodes.{nodes, nodes_in}
+use Rattle.rule_trees.specs.CodeNodes.{nodes, nodes_in}
 use Rattle.rule_trees.specs.RuleTree.{Checked}
 use Rattle.rule_heap.specs.Rule as R
 use Rattle.rule_heap.specs.Rule.{Claim, OfExp, OfProgram}

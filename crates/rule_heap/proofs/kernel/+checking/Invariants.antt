@@ -6,7 +6,7 @@ use Rattle.program_facts.specs.Flow.{parts}
 use Rattle.program_facts.specs.CodeParts.{sequence}
 use Rattle.rule_trees.specs.RuleTree.{Checked, AllChecked}
 use Rattle.rule_trees.specs.CodeTree.{trees_in}
-use Rattle.rule_heap.specs.CodeNodes.{nodes, nodes_in}
+use Rattle.rule_trees.specs.CodeNodes.{nodes, nodes_in}
 use Rattle.rule_heap.specs.Rule.{OfProgram}
 use Rattle.rule_heap.specs.Table.{each}
 use Rattle.rule_heap.specs.CodeParts.{exps_in, then_in, rest_of}

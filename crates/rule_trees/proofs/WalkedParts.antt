@@ -5,7 +5,7 @@ use Rattle.rule_trees.specs.declared.tree.Tree.{out-Tree}
 use Rattle.rule_trees.specs.RuleTree.{Tree, node, Trees, no_trees, tree, count, Table, Row, next, IsInstance, Checked, AllChecked}
 use Rattle.rule_trees.specs.CodeTree.{tree_of, trees_in}
 use Rattle.rule_trees.proofs.Parts.{tree_parts}
-use Rattle.rule_heap.specs.CodeNodes.{nodes, nodes_in}
+use Rattle.rule_trees.specs.CodeNodes.{nodes, nodes_in}
 
 module _ {R Rule Claim : Type 0} (table : Table Rule Claim) (f : R → Rule) where
   -- the row of a node

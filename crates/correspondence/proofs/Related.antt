@@ -3,7 +3,7 @@ use Rattle.std.proofs.Common.{ℕ, zero, suc, Option, Some, None, List, [], ◌�
 use Rattle.correspondence.specs.Outcome.{Turns, Depth}
 use Rattle.correspondence.specs.Bound.{Functions, called, below}
 use Rattle.correspondence.specs.Corresponds.{Corresponds, Paired}
-use Rattle.phase_relations.specs.Related.{Related}
+use Rattle.correspondence.specs.Related.{Related}
 use Rattle.correspondence.proofs.Corresponds.{stop_corresponds}
 
 module _ {Call Call' A B F G : Type 0} (calls : Call → Call' → Type 0) (answers : Call → A → B → Type 0) (faults : F → G → Type 0) where

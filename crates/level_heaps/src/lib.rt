@@ -1,1 +1,0 @@
-//! The heap that a function of a level works on.
