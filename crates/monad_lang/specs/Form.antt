@@ -1,6 +1,6 @@
 -- The forms of programs: on bytes, on typed heaps, on numbers, and tidy, which is to be without a place where one of the
 -- rules of the state monad would make the program simpler.
-use Rattle.std.specs.Prelude.{Bool, true, false, not, ◌&&◌, ◌||◌, List, [], ◌∷◌}
+use Rattle.std.specs.Prelude.{Bool, true, false, not, ◌&&◌, ◌||◌, List, [], ◌∷◌, ◌++◌}
 use Rattle.c_values.specs.Name.{Name, same_name, is_among}
 use Rattle.expression_lang.specs.Expression.{Exp, Var, WordLit, NumberLit, TruthLit}
 use Rattle.expression_lang.specs.Form.{has, path_has, is_load, is_read, is_word_arithmetic}
@@ -93,11 +93,7 @@ can_be_put e x others n = false
 
 -- the names before a position, put before those after it
 abbrev pub some_can_be_put : List Name → List Exp → List Name → Mon → Bool
-some_can_be_put before (e ∷ es) (x ∷ xs) n = can_be_put e x (joined before xs) n || some_can_be_put (x ∷ before) es xs n
-  where
-    joined : List Name → List Name → List Name
-    joined [] ys = ys
-    joined (z ∷ zs) ys = z ∷ joined zs ys
+some_can_be_put before (e ∷ es) (x ∷ xs) n = can_be_put e x (before ++ xs) n || some_can_be_put (x ∷ before) es xs n
 some_can_be_put before es xs n = false
 
 -- Bind(Ret es, xs, m), a constant or a variable of the Ret being one that could stand in place of its name

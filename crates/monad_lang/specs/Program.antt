@@ -1,10 +1,9 @@
 -- Monadic programs as plain trees: the nondeterministic state monad with failure of AutoCorres (Greenaway's thesis, after
 -- Cock, Klein and Sewell), with values, a heap and globals.
-use Rattle.std.specs.Prelude.{List, [], ◌∷◌, Option, Some, None, if◌then◌else◌}
-use Rattle.c_values.specs.Name.{Name, same_name}
+use Rattle.std.specs.Prelude.{List, Option}
+use Rattle.c_values.specs.Name.{Name}
 use Rattle.c_values.specs.Types.{CType}
 use Rattle.c_values.specs.Program.{Program, function_named}
-use Rattle.c_values.specs.Layout.{Layout, GlobalVar}
 use Rattle.expression_lang.specs.Expression.{Exp, Path}
 use Rattle.expression_lang.specs.Sort.{Level, Kind}
 use Rattle.expression_lang.specs.Signature.{Binder}

@@ -9,7 +9,7 @@ use Rattle.c_values.specs.Path.{in_range}
 use Rattle.c_values.specs.Choice.{Choice}
 use Rattle.c_memory.specs.Memory.{Memory}
 use Rattle.c_memory.specs.TypedHeap.{view}
-use Rattle.c_memory.specs.Heap.{Heap, OnBytes, OnTypes, is_tagged}
+use Rattle.c_memory.specs.Heap.{OnBytes, OnTypes, is_tagged}
 use Rattle.expression_lang.specs.Evaluation.{Env, State, value, steps}
 use Rattle.expression_lang.specs.States.{state_with}
 use Rattle.expression_lang.specs.Signature.{kinds_of, values_of}

@@ -46,18 +46,47 @@ impl Drop for Mon {
     fn drop(mut self) {
         loop {
             match self {
-                Mon::Ret(_values) => return,
-                Mon::Guard(_condition) => return,
-                Mon::Write(_place, _value) => return,
-                Mon::Call(_function, _arguments) => return,
+                Mon::Ret(values) => return drop_exps(values),
+                Mon::Guard(condition) => return drop_exp(condition),
+                Mon::Write(place, value) => return drop_write(place, value),
+                Mon::Call(function, arguments) => return drop_call(function, arguments),
                 Mon::Pick(_kind) => return,
-                Mon::Bind(_first, _names, last) => self = Box::into_inner(last),
-                Mon::If(_test, _first, last) => self = Box::into_inner(last),
-                Mon::Loop(_starts, _guard, _test, last) => self = Box::into_inner(last),
+                Mon::Bind(_first, names, last) => {
+                    drop_names(names);
+                    self = Box::into_inner(last);
+                }
+                Mon::If(test, _first, last) => {
+                    drop_exp(test);
+                    self = Box::into_inner(last);
+                }
+                Mon::Loop(starts, guard, test, last) => {
+                    drop_turn(starts, guard, test);
+                    self = Box::into_inner(last);
+                }
             }
         }
     }
 }
+
+// What a program holds beside programs is dropped in frames of its own, so that a nested program takes little of the stack.
+
+#[inline(never)]
+fn drop_exp(_e: Exp) {}
+
+#[inline(never)]
+fn drop_exps(_es: Vec<Exp>) {}
+
+#[inline(never)]
+fn drop_names(_names: Vec<String>) {}
+
+#[inline(never)]
+fn drop_write(_place: Place, _value: Exp) {}
+
+#[inline(never)]
+fn drop_call(_function: String, _arguments: Vec<Exp>) {}
+
+#[inline(never)]
+fn drop_turn(_starts: Vec<Start>, _guard: Exp, _test: Exp) {}
 
 /// A function's program.
 #[derive(Debug, Drop)]

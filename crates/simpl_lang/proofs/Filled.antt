@@ -3,7 +3,6 @@ use Rattle.std.proofs.Common.{ℕ, Option, Some, None, List}
 use Rattle.correspondence.specs.Outcome.{Ends, fault}
 use Rattle.correspondence.specs.Included.{Included, AllIncluded}
 use Rattle.correspondence.proofs.Included.{included_itself, then_included, choose_included, loop_included, called_included, below_included}
-use Rattle.c_values.specs.Value.{Value}
 use Rattle.c_values.specs.Choice.{Any, Fill}
 use Rattle.c_values.specs.Layout.{Layout}
 use Rattle.expression_lang.specs.GuardKind.{GuardKind}

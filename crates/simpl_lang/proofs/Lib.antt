@@ -1,8 +1,6 @@
 pub mod OneEnd
 pub mod Continues
-pub mod Arguments
-pub mod PlaceTypes
-pub mod WholeParts
+pub mod Targets
 pub mod Formed
 pub mod LocalNames
 pub mod Filled

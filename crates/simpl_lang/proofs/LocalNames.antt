@@ -1,5 +1,5 @@
--- The names of locals, and what a body sees once they are in scope.
-use Rattle.std.proofs.Common.{◌≡◌, List, [], ◌∷◌, map, None, string_bytes, refl, ap, ◌∙◌}
+-- What a body sees once its locals are in scope.
+use Rattle.std.proofs.Common.{◌≡◌, List, map, None, ap, ◌∙◌}
 use Rattle.c_values.specs.Layout.{Layout, global_type}
 use Rattle.c_values.specs.declared.values.GlobalVar as G
 use Rattle.c_values.specs.CodeValue.{global_of}
@@ -12,10 +12,6 @@ use Rattle.expression_lang.specs.CodeSignature.{binder_of}
 use Rattle.expression_lang.specs.CodeSort as C
 use Rattle.simpl_lang.specs.Command.{Simpl}
 use Rattle.simpl_lang.specs.Sorted.{is_sorted}
-
-pub names_are : (bs : List B.Binder) → map (λ b. string_bytes b.name) bs ≡ names_of (map binder_of bs)
-names_are [] = refl
-names_are (b ∷ bs) = ap (λ xs. string_bytes b.name ∷ xs) (names_are bs)
 
 pub locals_in_scope : (l : Layout) (inside outside : N.Names) (gs : List G.GlobalVar) (bs : List B.Binder) (sigs : List Signature) (a : Simpl) →
     C.names_of inside ≡ C.names_with_all bs (C.names_of outside) → C.names_of outside ≡ C.no_names →

@@ -2,16 +2,16 @@
 -- function's signature is asked.
 use Rattle.std.specs.Prelude.{◌≡◌, Bool, true, false, ◌&&◌, List, map, Option, Some, None}
 use Rattle.c_values.specs.Name.{Name, same_name, are_distinct}
-use Rattle.c_values.specs.Layout.{Layout, shape_of, is_complete}
+use Rattle.c_values.specs.Layout.{Layout}
 use Rattle.expression_lang.specs.declared.names.Names as N
 use Rattle.expression_lang.specs.CodeSignature.{signature_of}
 use Rattle.expression_lang.specs.CodeSort.{scope_of}
-use Rattle.expression_lang.specs.Sort.{Scope, Scalar, Sort, Of, PartsSort, Kind, word_sort_of, are_kinds}
+use Rattle.expression_lang.specs.Sort.{Scope, Scalar, Of, Kind, word_sort_of, are_kinds}
 use Rattle.expression_lang.specs.Signature.{Signature, names_of, kinds_of}
-use Rattle.expression_lang.specs.Sorted.{same_scalars}
 use Rattle.simpl_lang.specs.Command.{SimplFn, SimplUnit}
 use Rattle.simpl_lang.specs.Sorted as Sorted
-use Rattle.simpl_lang.specs.Sorted.{is_scalar_of, same_level, come_first, holds_result, is_sorted, are_fns_sorted, are_signed}
+use Rattle.program_sorts.specs.Sorts.{is_scalar_of}
+use Rattle.simpl_lang.specs.Sorted.{same_level, come_first, holds_result, is_sorted, are_fns_sorted, are_signed}
 use Rattle.simpl_lang.specs.declared.units.SimplUnit as U
 
 -- the names, with the layout and the globals of the unit
@@ -20,17 +20,6 @@ scope_in u names = scope_of u.layout names u.globals.items
 
 abbrev pub signatures_in : U.SimplUnit → List Signature
 signatures_in u = map signature_of u.signatures.items
-
--- where a value has parts, they are those of a complete type
-abbrev pub HasCompleteParts : Layout → Option Sort → Type 0
-HasCompleteParts l None = Unit {0}
-HasCompleteParts l (Some (Of s)) = Unit {0}
-HasCompleteParts l (Some (PartsSort t)) = is_complete (shape_of l t) ≡ true
-
--- names of these kinds may take values of these scalars, where each has one
-abbrev pub may_take : List Kind → Option (List Scalar) → Bool
-may_take ks None = false
-may_take ks (Some ss) = same_scalars (map word_sort_of ks) ss
 
 -- a result may go to a local of its kind, or nowhere where there is none
 abbrev pub may_go_to : (Name → Option Scalar) → Option Name → Option Kind → Bool

@@ -15,7 +15,7 @@ use Rattle.expression_lang.specs.Expression.{Exp}
 use Rattle.expression_lang.specs.GuardKind.{GuardKind}
 use Rattle.expression_lang.specs.Machine.{Machine, machine_with, with_local, Returned}
 use Rattle.expression_lang.specs.Sort.{Kind}
-use Rattle.expression_lang.specs.Evaluation.{Env, State, value, steps, holds}
+use Rattle.expression_lang.specs.Evaluation.{Env, value, steps, holds}
 use Rattle.expression_lang.specs.View.{picked_word_at, zero_word_at}
 use Rattle.expression_lang.specs.Signature.{Binder, Signature, Invocation, names_of, signature, values_of, bound, no_env}
 use Rattle.simpl_lang.specs.Command.{Condition, Simpl, Skip, Throw, Set, SetGlobal, Store, Pick, Seq, Cond, Guard, Catch, While, Call, SimplFn, SimplUnit, simpl_fn, kind_of}

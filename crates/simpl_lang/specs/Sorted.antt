@@ -5,12 +5,9 @@ use Rattle.c_values.specs.Layout.{IsLayout, global_type}
 use Rattle.expression_lang.specs.Sort.{Level, Bytes, Words, Numbers, Scalar, Sort, Of, Kind, WordKind, NatKind, IntKind, BoolKind, Scope, same_scalar, is_truth, word_sort_of, are_kinds}
 use Rattle.expression_lang.specs.Signature.{Binder, Signature, names_of, kinds_of, signature}
 use Rattle.expression_lang.specs.Sorted.{names_with, program_sort, scalars_of, typed_place, global_place, fits_place, call_scalars}
+use Rattle.program_sorts.specs.Sorts.{is_scalar_of}
 use Rattle.simpl_lang.specs.Command.{Condition, Simpl, Skip, Throw, Set, SetGlobal, Store, Pick, Seq, Cond, Guard, Catch, While, Call, SimplFn, SimplUnit, kind_of}
 use Rattle.simpl_lang.specs.Exec.{result_local}
-
-abbrev pub is_scalar_of : Option Scalar → Option Sort → Bool
-is_scalar_of (Some s) (Some (Of t)) = same_scalar s t
-is_scalar_of _ _ = false
 
 abbrev pub are_conditions : Scope → List Condition → Bool
 are_conditions g [] = true

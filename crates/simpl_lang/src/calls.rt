@@ -8,16 +8,16 @@ ghost use Rattle.expression_lang.specs.Sorted.{scalars_of, call_scalars};
 ghost use Rattle.expression_lang.specs.CodeExpression.{exp_of, kind_of};
 ghost use Rattle.expression_lang.specs.CodeSignature.{binder_of, signature_of};
 ghost use Rattle.expression_lang.specs.CodeSort.{names_of};
-ghost use Rattle.simpl_lang.specs.Sorted.{fits_target, is_scalar_of};
-ghost use Rattle.simpl_lang.specs.CodeForms.{scope_in, signatures_in, may_take, may_go_to};
+ghost use Rattle.program_sorts.specs.Sorts.{is_scalar_of};
+ghost use Rattle.simpl_lang.specs.Sorted.{fits_target};
+ghost use Rattle.simpl_lang.specs.CodeForms.{scope_in, signatures_in, may_go_to};
 
-use crate::program_sorts::program_sort;
-use crate::scalars::is_of;
 use crate::units::SimplUnit;
-use expression_lang::{Binder, Exp, Kind, Names, Signature, scalar_of_kind};
+use expression_lang::{Exp, Kind, Names, scalar_of_kind};
+use program_sorts::{Phase, may_take, signature};
 
 /// Whether a call is of a function of the unit, with arguments and a target of its kinds.
-#[tactic(auto, using(crate::proofs::Arguments::calls_none, crate::proofs::Arguments::calls_one))]
+#[tactic(auto, using(crate::proofs::Targets::calls_none, crate::proofs::Targets::calls_one))]
 pub(crate) fn is_call_sorted(
     u: &SimplUnit,
     names: &Names<'_>,
@@ -32,46 +32,17 @@ pub(crate) fn is_call_sorted(
 {
     match signature(&u.signatures, function) {
         Some(signature) => {
-            may_take(u, names, &signature.params, arguments)
-                && may_go_to(names, target, signature.result)
+            may_take(
+                &signature.params,
+                arguments,
+                Phase::OnWords,
+                names,
+                &u.layout,
+                &u.globals,
+            ) && may_go_to(names, target, signature.result)
         }
         None => false,
     }
-}
-
-// The signature of a function, where there is one of the name.
-fn signature<'a>(signatures: &'a [Signature], name: &str) -> Option<&'a Signature>
-    ensures { option_map (λ s. signature_of s.now) result
-        ≡ signature (map signature_of signatures.now) name.now }
-{
-    'signatures: for signature in signatures {
-        if signature.name.as_str() == name {
-            return Some(signature);
-        }
-    }
-    None
-}
-
-// Whether there are as many arguments as parameters, each of its parameter's kind.
-#[tactic(auto, using(crate::proofs::Arguments::takes_one, crate::proofs::Arguments::takes_rest))]
-fn may_take(u: &SimplUnit, names: &Names<'_>, params: &[Binder], arguments: &[Exp]) -> bool
-    ensures { let g = scope_in u.now names.now in
-        result ≡ may_take (kinds_of (map binder_of params.now))
-        (scalars_of g (map exp_of arguments.now)) }
-{
-    let mut left = params;
-    let mut right = arguments;
-    'arguments: while let Some((param, params)) = left.split_first() {
-        let Some((argument, arguments)) = right.split_first() else {
-            return false;
-        };
-        if !is_of(scalar_of_kind(param.kind), program_sort(u, names, argument)) {
-            return false;
-        }
-        left = params;
-        right = arguments;
-    }
-    right.is_empty()
 }
 
 // Whether a function's result may go there: to a local of its kind, or nowhere where there is none.

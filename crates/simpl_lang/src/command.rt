@@ -61,17 +61,54 @@ impl Drop for Simpl {
         loop {
             match self {
                 Simpl::Skip | Simpl::Throw => return,
-                Simpl::Set(_name, _value) => return,
-                Simpl::SetGlobal(_name, _path, _value) => return,
-                Simpl::Store(_ty, _pointer, _path, _value) => return,
-                Simpl::Pick(_name) => return,
-                Simpl::Call(_target, _function, _arguments) => return,
-                Simpl::Seq(_first, last) => self = Box::into_inner(last),
-                Simpl::Cond(_test, _first, last) => self = Box::into_inner(last),
-                Simpl::Guard(_condition, last) => self = Box::into_inner(last),
-                Simpl::Catch(_first, last) => self = Box::into_inner(last),
-                Simpl::While(_conditions, _test, last) => self = Box::into_inner(last),
+                Simpl::Set(name, value) => return drop_set(name, value),
+                Simpl::SetGlobal(name, path, value) => return drop_global(name, path, value),
+                Simpl::Store(ty, pointer, path, value) => {
+                    return drop_store(ty, pointer, path, value);
+                }
+                Simpl::Pick(name) => return drop_name(name),
+                Simpl::Call(target, function, arguments) => {
+                    return drop_call(target, function, arguments);
+                }
+                Simpl::Seq(_first, last) | Simpl::Catch(_first, last) => {
+                    self = Box::into_inner(last);
+                }
+                Simpl::Cond(test, _first, last) => {
+                    drop_exp(test);
+                    self = Box::into_inner(last);
+                }
+                Simpl::Guard(condition, last) => {
+                    drop_exp(condition.exp);
+                    self = Box::into_inner(last);
+                }
+                Simpl::While(conditions, test, last) => {
+                    drop_tests(conditions, test);
+                    self = Box::into_inner(last);
+                }
             }
         }
     }
 }
+
+// What a command holds beside commands is dropped in frames of its own, so that a nested command takes little of the stack.
+
+#[inline(never)]
+fn drop_exp(_e: Exp) {}
+
+#[inline(never)]
+fn drop_name(_name: String) {}
+
+#[inline(never)]
+fn drop_set(_name: String, _value: Exp) {}
+
+#[inline(never)]
+fn drop_global(_name: String, _path: Path, _value: Exp) {}
+
+#[inline(never)]
+fn drop_store(_ty: CType, _pointer: Exp, _path: Path, _value: Exp) {}
+
+#[inline(never)]
+fn drop_call(_target: Option<String>, _function: String, _arguments: Vec<Exp>) {}
+
+#[inline(never)]
+fn drop_tests(_conditions: Vec<Condition>, _test: Exp) {}

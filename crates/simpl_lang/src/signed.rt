@@ -4,12 +4,11 @@ ghost use Rattle.std.specs.Prelude.{◌≡◌, map};
 ghost use Rattle.std.specs.Option.{option_map};
 ghost use Rattle.expression_lang.specs.CodeExpression.{kind_of, level_of};
 ghost use Rattle.expression_lang.specs.CodeSignature.{binder_of, signature_of};
-ghost use Rattle.simpl_lang.specs.Sorted.{are_signed, come_first, holds_result, same_level};
-ghost use Rattle.simpl_lang.specs.Command as plain;
+ghost use Rattle.simpl_lang.specs.Sorted.{are_signed, come_first, holds_result, same_kind, same_level};
 ghost use Rattle.simpl_lang.specs.CodeCommand.{simpl_fn_of};
 ghost use Rattle.simpl_lang.specs.CodeForms.{is_signed};
 
-use crate::scalars::same_kind;
+use crate::locals::kind_in;
 use crate::units::SimplFn;
 use expression_lang::{Binder, Kind, Level, Signature};
 
@@ -81,14 +80,9 @@ fn holds_result(kind: Option<Kind>, locals: &[Binder]) -> bool
     }
 }
 
-// The kind of a local, where there is one of the name.
-fn kind_in(locals: &[Binder], name: &str) -> Option<Kind>
-    ensures { option_map kind_of result ≡ plain.kind_of (map binder_of locals.now) name.now }
+// Whether two kinds are the same.
+fn same_kind(kind: Kind, other: Kind) -> bool
+    ensures { result ≡ same_kind (kind_of kind) (kind_of other) }
 {
-    'locals: for local in locals {
-        if local.name.as_str() == name {
-            return Some(local.kind);
-        }
-    }
-    None
+    kind == other
 }

@@ -4,17 +4,16 @@ ghost use Rattle.std.specs.Prelude.{◌≡◌, map};
 ghost use Rattle.expression_lang.specs.Sorted.{program_sort};
 ghost use Rattle.expression_lang.specs.CodeExpression.{exp_of};
 ghost use Rattle.expression_lang.specs.CodeSort.{names_of};
-ghost use Rattle.simpl_lang.specs.Sorted.{is_sorted, is_scalar_of, is_local, are_conditions};
+ghost use Rattle.program_sorts.specs.Sorts.{is_scalar_of};
+ghost use Rattle.simpl_lang.specs.Sorted.{is_sorted, is_local, are_conditions};
 ghost use Rattle.simpl_lang.specs.CodeCommand.{condition_of, simpl_of};
 ghost use Rattle.simpl_lang.specs.CodeForms.{scope_in, signatures_in};
 
 use crate::calls::is_call_sorted;
 use crate::command::{Condition, Simpl};
-use crate::places::{fits_global, fits_object};
-use crate::program_sorts::{is_test, program_sort};
-use crate::scalars::is_of;
 use crate::units::SimplUnit;
 use expression_lang::{Exp, Names};
+use program_sorts::{fits_global, fits_object, is_of, is_test, program_sort};
 
 /// Whether a command is well-sorted where these names are in scope. It goes along a sequence by a loop, since a text may
 /// have long ones.
@@ -27,14 +26,15 @@ pub(crate) fn is_sorted(c: &Simpl, names: &Names<'_>, u: &SimplUnit) -> bool
             Simpl::Skip | Simpl::Throw => return true,
             Simpl::Set(name, value) => return fits_local(u, names, name.as_str(), value),
             Simpl::SetGlobal(name, path, value) => return fits_global(
-                u,
-                names,
                 name.as_str(),
                 path,
                 value,
+                names,
+                &u.layout,
+                &u.globals,
             ),
             Simpl::Store(t, pointer, path, value) => return fits_object(
-                u, names, t, pointer, path, value,
+                t, pointer, path, value, names, &u.layout, &u.globals,
             ),
             Simpl::Pick(name) => return is_local(names, name.as_str()),
             Simpl::Call(target, function, arguments) => return is_call_sorted(
@@ -51,19 +51,21 @@ pub(crate) fn is_sorted(c: &Simpl, names: &Names<'_>, u: &SimplUnit) -> bool
                 rest = &**last;
             }
             Simpl::Cond(test, first, last) => {
-                if !is_test(u, names, test) || !is_sorted(first, names, u) {
+                if !is_test(test, names, &u.layout, &u.globals) || !is_sorted(first, names, u) {
                     return false;
                 }
                 rest = &**last;
             }
             Simpl::Guard(condition, last) => {
-                if !is_test(u, names, &condition.exp) {
+                if !is_test(&condition.exp, names, &u.layout, &u.globals) {
                     return false;
                 }
                 rest = &**last;
             }
             Simpl::While(conditions, test, last) => {
-                if !are_conditions(u, names, conditions) || !is_test(u, names, test) {
+                if !are_conditions(u, names, conditions)
+                    || !is_test(test, names, &u.layout, &u.globals)
+                {
                     return false;
                 }
                 rest = &**last;
@@ -78,7 +80,7 @@ fn fits_local(u: &SimplUnit, names: &Names<'_>, name: &str, value: &Exp) -> bool
         result ≡ is_scalar_of (g.names name.now) (program_sort g (exp_of value.now)) }
 {
     match names.get(name) {
-        Some(scalar) => is_of(scalar, program_sort(u, names, value)),
+        Some(scalar) => is_of(scalar, program_sort(value, names, &u.layout, &u.globals)),
         None => false,
     }
 }
@@ -94,7 +96,7 @@ fn are_conditions(u: &SimplUnit, names: &Names<'_>, conditions: &[Condition]) ->
     ensures { result ≡ are_conditions (scope_in u.now names.now) (map condition_of conditions.now) }
 {
     'conditions: for condition in conditions {
-        if !is_test(u, names, &condition.exp) {
+        if !is_test(&condition.exp, names, &u.layout, &u.globals) {
             return false;
         }
     }

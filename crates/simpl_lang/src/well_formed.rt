@@ -9,12 +9,12 @@ ghost use Rattle.simpl_lang.specs.Sorted.{IsWellFormed, is_sorted, are_fns_sorte
 ghost use Rattle.simpl_lang.specs.CodeCommand.{simpl_of, simpl_fn_of, simpl_unit_of};
 ghost use Rattle.simpl_lang.specs.CodeForms.{signatures_in, is_fn_sorted, is_formed};
 
-use crate::distinct_names::{are_functions_distinct, are_globals_distinct, are_locals_distinct};
-use crate::scalars::is_kind;
+use crate::distinct_names::are_functions_distinct;
 use crate::signed::are_signed;
 use crate::sorted::is_sorted;
 use crate::units::{SimplFn, SimplUnit};
 use expression_lang::{Binder, Names};
+use program_sorts::{are_binders_distinct, are_globals_distinct, are_kinds};
 
 /// Whether a unit is well-formed. It takes no memory, and of the stack no more for more locals.
 #[tactic(auto, using(crate::proofs::Formed::formed_sound, crate::proofs::Formed::formed_complete))]
@@ -62,19 +62,7 @@ fn are_locals_formed(locals: &[Binder]) -> bool
     ensures { let bs = map binder_of locals.now in
         result ≡ (are_kinds (kinds_of bs) && are_distinct (names_of bs)) }
 {
-    are_kinds(locals) && are_locals_distinct(locals)
-}
-
-// Whether each local is of a kind that is.
-fn are_kinds(locals: &[Binder]) -> bool
-    ensures { result ≡ are_kinds (kinds_of (map binder_of locals.now)) }
-{
-    'locals: for local in locals {
-        if !is_kind(local.kind) {
-            return false;
-        }
-    }
-    true
+    are_kinds(locals) && are_binders_distinct(locals)
 }
 
 // Whether a function's body is well-sorted where its locals are in scope.

@@ -1,0 +1,11 @@
+pub mod ToldSorts
+pub mod ValuesTold
+pub mod SortedIs
+pub mod Passing
+pub mod Formed
+pub mod Through
+pub mod Operands
+pub mod SameValues
+pub mod Positions
+pub mod ToldAt
+pub mod Weights

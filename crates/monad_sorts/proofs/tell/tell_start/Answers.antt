@@ -1,0 +1,15 @@
+-- The start at the position has what is told of its expression, and there is none past the end.
+use Rattle.std.proofs.Common.{sym, ◌∙◌, rules}
+use Rattle.monad_sorts.specs.CodeInside.{setting_in}
+use Rattle.monad_sorts.proofs.ToldAt.{start_told, no_start_told}
+use Rattle.monad_sorts.proofs.tell.tell_start.Goals as goal
+
+pub returns-in-Some : goal.returns-in-Some
+returns-in-Some c names =
+    c.tell.ensures names
+    ∙ sym (start_told (setting_in c.args.setting names).scope c.args.starts.now c.args.position c.in-Some.start.now
+    (search rules) (search rules))
+
+pub returns-in-None : goal.returns-in-None
+returns-in-None c names =
+    sym (no_start_told (setting_in c.args.setting names).scope c.args.starts.now c.args.position (search rules))

@@ -1,0 +1,3 @@
+pub mod CodeTold
+pub mod CodeSorted
+pub mod CodeInside

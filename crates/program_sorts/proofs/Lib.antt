@@ -1,0 +1,4 @@
+pub mod PlaceTypes
+pub mod WholeParts
+pub mod Arguments
+pub mod BinderNames
