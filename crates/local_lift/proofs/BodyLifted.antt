@@ -9,7 +9,6 @@ use Rattle.monad_lang.specs.Program as M
 use Rattle.monad_lang.specs.Program.{Mon}
 use Rattle.monad_lang.specs.Form.{is_bytes}
 use Rattle.rule_trees.specs.RuleTree.{Tree}
-use Rattle.rule_local.specs.Assigned.{assigns}
 use Rattle.rule_local.specs.CommandForm.{is_bytes_command}
 use Rattle.rule_local.specs.Rule.{Rule, Start, Context}
 use Rattle.rule_local.specs.Table.{zeros, TakesWhole}

@@ -1,15 +1,13 @@
 -- Lifted by what is live is lifted.
-use Rattle.std.proofs.Common.{◌≡◌, Bool, true, not, ◌&&◌, ◌||◌, List, [], ◌∷◌, Option, Some, None, refl, sym, ap, ap₂, ◌∙◌}
-use Rattle.std.proofs.lemmas.Bool.{or_left, or_right}
+use Rattle.std.proofs.Common.{◌≡◌, not, ◌&&◌, List, [], Some, None, refl, sym, ap, ap₂, ◌∙◌}
 use Rattle.c_values.specs.Name.{Name, is_among}
 use Rattle.expression_lang.specs.Signature.{Binder, names_of}
 use Rattle.simpl_lang.specs.Command as C
 use Rattle.simpl_lang.specs.Command.{Simpl}
 use Rattle.monad_lang.specs.Program as M
 use Rattle.monad_lang.specs.Names.{is_free}
-use Rattle.rule_local.specs.Assigned.{assigns}
 use Rattle.rule_local.specs.Rule.{Context, Seq, Cond, Guard}
-use Rattle.rule_local.specs.Lifted.{Lifted, over_one, over_two, chosen, seq_lifted, while_lifted, handed_on, lifted, begun, locals_lifted}
+use Rattle.rule_local.specs.Lifted.{over_one, over_two, seq_lifted, while_lifted, lifted, begun, locals_lifted}
 use Rattle.rule_local.proofs.LiftedTaken.{AssignsThese}
 use Rattle.local_lift.specs.Live.{live}
 use Rattle.local_lift.specs.LiftedByLive.{among, carried, by_live, whole_by_live}

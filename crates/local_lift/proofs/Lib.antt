@@ -2,7 +2,8 @@ pub mod Spread
 pub mod LiveIsFree
 pub mod ByLive
 pub mod RowLaws
-pub mod SpineLaws
+pub mod FirstLive
+pub mod PlanLaws
 pub mod ConjNames
 pub mod MatrixLaws
 pub mod ListLaws

@@ -16,18 +16,13 @@ pub mapped_push : {A B : Type 0} (f : A → B) (xs : List A) (x : A) (ys : List 
 mapped_push f [] x ys = refl
 mapped_push f (a ∷ xs) x ys = ap (λ r. f a ∷ r) (mapped_push f xs x ys)
 
-pub carried_here : (a : Simpl) (b : B.Binder) (bs : List B.Binder) (f : Bool) (fs : List Bool) → assigns (string_bytes b.name) a ≡ true → f ≡ true → carried_in a (b ∷ bs) (f ∷ fs) ≡ string_bytes b.name ∷ carried_in a bs fs
-carried_here a b bs f fs h k = ap (λ t. cond (t && f) (string_bytes b.name ∷ carried_in a bs fs) (carried_in a bs fs)) h ∙ ap (λ t. cond t (string_bytes b.name ∷ carried_in a bs fs) (carried_in a bs fs)) k
+pub carried_here : (b : B.Binder) (bs : List B.Binder) (a f : Bool) (as' fs : List Bool) → (a && f) ≡ true → carried_in (b ∷ bs) (a ∷ as') (f ∷ fs) ≡ string_bytes b.name ∷ carried_in bs as' fs
+carried_here b bs a f as' fs h = ap (λ t. cond t (string_bytes b.name ∷ carried_in bs as' fs) (carried_in bs as' fs)) h
 
-pub carried_later : (a : Simpl) (b : B.Binder) (bs : List B.Binder) (f : Bool) (fs : List Bool) → (f && assigns (string_bytes b.name) a) ≡ false → carried_in a (b ∷ bs) (f ∷ fs) ≡ carried_in a bs fs
-carried_later a b bs f fs h = by_tests (assigns (string_bytes b.name) a) f h
-  where
-    by_tests : (s t : Bool) → (t && s) ≡ false → cond (s && t) (string_bytes b.name ∷ carried_in a bs fs) (carried_in a bs fs) ≡ carried_in a bs fs
-    by_tests true true h = cc
-    by_tests true false h = refl
-    by_tests false t h = refl
+pub carried_later : (b : B.Binder) (bs : List B.Binder) (a f : Bool) (as' fs : List Bool) → (a && f) ≡ false → carried_in (b ∷ bs) (a ∷ as') (f ∷ fs) ≡ carried_in bs as' fs
+carried_later b bs a f as' fs h = ap (λ t. cond t (string_bytes b.name ∷ carried_in bs as' fs) (carried_in bs as' fs)) h
 
-pub carried_marks : (a : Simpl) (p : Name → Bool) (bs : List B.Binder) → carried_in a bs (marks p bs) ≡ carried (names bs) a p
+pub carried_marks : (a : Simpl) (p : Name → Bool) (bs : List B.Binder) → carried_in bs (marks (λ y. assigns y a) bs) (marks p bs) ≡ carried (names bs) a p
 carried_marks a p [] = refl
 carried_marks a p (b ∷ bs) = ap (λ r. cond (assigns (string_bytes b.name) a && p (string_bytes b.name)) (string_bytes b.name ∷ r) r) (carried_marks a p bs)
 

@@ -1,5 +1,5 @@
 -- What is live before a command is what the lifted command looks at, and a loop hands on what it assigns and is live at its start.
-use Rattle.std.proofs.Common.{◌≡◌, Bool, true, false, not, cond, ◌&&◌, ◌||◌, List, [], ◌∷◌, length, suc, Option, Some, None, ◌⊎◌, inl, inr, refl, sym, subst, ap, ◌∙◌}
+use Rattle.std.proofs.Common.{◌≡◌, Bool, true, false, not, cond, ◌&&◌, ◌||◌, List, [], ◌∷◌, length, suc, Some, None, ◌⊎◌, inl, inr, refl, sym, subst, ap, ◌∙◌}
 use Rattle.std.proofs.lemmas.Bool.{false≢true, true≢false, and_parts, and_from, or_left, or_right, not-true, not_from_false, cases_Bool, false_from_ne_true}
 use Rattle.c_values.specs.Name.{Name, same_name, is_among}
 use Rattle.c_values.proofs.Laid.{name_is, same_name-refl, other_name}
@@ -13,13 +13,13 @@ use Rattle.monad_lang.specs.Run.{start_names}
 use Rattle.monad_lang.specs.Names.{is_free, is_in_some, is_in_start}
 use Rattle.rule_local.specs.Assigned.{assigns}
 use Rattle.rule_local.specs.Table.{vars, as_starts, conj, is_needed}
-use Rattle.rule_local.specs.Lifted.{chosen, settled, handed_on, set_lifted, lifted}
+use Rattle.rule_local.specs.Lifted.{chosen, handed_on, set_lifted, lifted}
 use Rattle.rule_local.proofs.Parts.{in_vars, starts_named}
 use Rattle.rule_local.proofs.HandedOn.{among_chosen, chosen_passes, settled_has, handed_on_carries}
 use Rattle.rule_local.proofs.LiftedNames.{either, last_of, handed_on_assigned}
 use Rattle.rule_local.proofs.LiftedTaken.{AssignsThese}
 use Rattle.rule_local.proofs.Least.{AllIn, with_exp, with_other, with_parts, start_of, start_is, loop_least}
-use Rattle.local_lift.specs.Live.{none, spread, live}
+use Rattle.local_lift.specs.Live.{none, live}
 use Rattle.local_lift.specs.LiftedByLive.{among, carried}
 use Rattle.local_lift.proofs.Spread.{Leads, Within, or_both, spread_from, spread_closed, spread_keeps, live_grows, live_from_none, live_from_one, into, live_is_sum, live_stays, OnlyItself, live_for_unassigned}
 
@@ -174,7 +174,7 @@ module _ (bs : List Binder) where
 
         by_assigned : needed handed z ≡ true → (assigns z a ≡ true) ⊎ (assigns z a ≡ false) → free y ≡ true
         by_assigned k (inl t) = from_handed (carries z t k)
-        by_assigned k (inr n) = of_itself (live_for_unassigned xs a z y n l)
+        by_assigned k (inr n) = of_itself (live_for_unassigned xs a z y (λ i. n) l)
 
         of : (is_among z handed ≡ true) ⊎ (needed handed z ≡ true) → free y ≡ true
         of (inl m) = from_handed m
@@ -248,7 +248,7 @@ module _ (bs : List Binder) where
         by_between : (z : Name) → then z ≡ true → live (names_of bs) a (same_name z) y ≡ true → (is_among z between ≡ true) ⊎ (is_among z between ≡ false) → (free_first y || later y) ≡ true
         by_between z m l (inl i) = or_left (free_first y) (later y) (complete_first between y (live_from_one (names_of bs) a (among between) z y i l))
         by_between z m l (inr n) =
-            of_itself z n m (live_for_unassigned (names_of bs) a z y (false_from_ne_true (assigns z a) (λ t. true≢false (sym (is_between z t (complete_second vs z m)) ∙ n))) l)
+            of_itself z n m (live_for_unassigned (names_of bs) a z y (λ i. false_from_ne_true (assigns z a) (λ t. true≢false (sym (is_between z t (complete_second vs z m)) ∙ n))) l)
 
     between_is : between ≡ carried (names_of bs) a then
     between_is =

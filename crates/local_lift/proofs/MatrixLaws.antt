@@ -1,5 +1,5 @@
 -- A row after the rows of a matrix.
-use Rattle.std.proofs.Common.{◌≡◌, Bool, List, [], ◌∷◌, ◌++◌, refl, string_bytes}
+use Rattle.std.proofs.Common.{◌≡◌, Bool, List, [], ◌∷◌, ◌++◌, string_bytes}
 use Rattle.c_values.specs.Name.{Name}
 use Rattle.expression_lang.specs.declared.signatures.Binder as B
 use Rattle.local_lift.specs.declared.rows.Row.{Row}

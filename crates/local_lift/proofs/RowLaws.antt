@@ -1,12 +1,14 @@
 -- Rows of names that pass tests.
 use Rattle.std.proofs.Common.{◌≡◌, ℕ, zero, suc, Bool, true, false, not, cond, ◌&&◌, ◌||◌, List, [], ◌∷◌, ◌++◌, length, refl, sym, subst, ap, ap₂, ◌∙◌, string_bytes, Result, Ok, Err, IfOk, ◌<◌, ◌≤◌, ◌+◌, add-one, drop, get_or, arith, append_assoc}
 use Rattle.c_values.specs.Name.{Name, same_name, is_among}
-use Rattle.c_values.proofs.Laid.{name_is}
+use Rattle.std.proofs.lemmas.Bool.{or_left, or_right}
+use Rattle.c_values.proofs.Laid.{name_is, same_name-refl}
 use Rattle.expression_lang.specs.declared.signatures.Binder as B
 use Rattle.local_lift.specs.declared.rows.Row.{Row}
 use Rattle.local_lift.specs.Live.{some_of, through}
 use Rattle.local_lift.specs.CodeNames.{names}
-use Rattle.local_lift.specs.CodeRows.{marks, either_row, row_without, row_has, Change, RowMoves, Moves, Matrix, MatrixAnd, IsAt, flags_of, row_at, with_meant, each_either, assigning, adding, removing, either_change, by_way, spreading}
+use Rattle.local_lift.proofs.FirstLive.{past}
+use Rattle.local_lift.specs.CodeRows.{marks, either_row, past_row, row_without, row_has, Change, RowMoves, Moves, Matrix, IsAt, flags_of, row_at, with_meant, each_either, assigning, adding, removing, either_change, by_way, spreading}
 
 pub marks_same : (p q : Name → Bool) (bs : List B.Binder) → ((y : Name) → p y ≡ q y) → marks p bs ≡ marks q bs
 marks_same p q [] h = refl
@@ -15,6 +17,16 @@ marks_same p q (b ∷ bs) h = ap₂ (λ a r. a ∷ r) (h (string_bytes b.name)) 
 pub either_marks : (p q : Name → Bool) (bs : List B.Binder) → either_row (marks p bs) (marks q bs) ≡ marks (λ y. p y || q y) bs
 either_marks p q [] = refl
 either_marks p q (b ∷ bs) = ap (λ r. (p (string_bytes b.name) || q (string_bytes b.name)) ∷ r) (either_marks p q bs)
+
+pub marks_among : (p q : Name → Bool) (bs : List B.Binder) → ((y : Name) → is_among y (names bs) ≡ true → p y ≡ q y) → marks p bs ≡ marks q bs
+marks_among p q [] h = refl
+marks_among p q (b ∷ bs) h =
+    let x = string_bytes b.name in
+    ap₂ (λ a r. a ∷ r) (h x (or_left (same_name x x) (is_among x (names bs)) (same_name-refl x))) (marks_among p q bs (λ y m. h y (or_right (same_name y x) (is_among y (names bs)) m)))
+
+pub past_marks : (p q r : Name → Bool) (bs : List B.Binder) → past_row (marks p bs) (marks q bs) (marks r bs) ≡ marks (past p q r) bs
+past_marks p q r [] = refl
+past_marks p q r (b ∷ bs) = ap (λ fs. past p q r (string_bytes b.name) ∷ fs) (past_marks p q r bs)
 
 pub without_marks : (x : Name) (p : Name → Bool) (bs : List B.Binder) → row_without x bs (marks p bs) ≡ marks (removing x p) bs
 without_marks x p [] = refl

@@ -1,8 +1,8 @@
 -- What names lead to, in steps; and that liveness grows, is the sum of what it is for each name, and passes what isn't assigned.
-use Rattle.std.proofs.Common.{◌≡◌, Bool, true, false, not, ◌&&◌, ◌||◌, List, [], ◌∷◌, Option, Some, None, ◌⊎◌, inl, inr, refl, sym, subst, ap, ◌∙◌}
-use Rattle.std.proofs.lemmas.Bool.{false≢true, true≢false, and_parts, and_from, or_cases, or_parts, or_left, or_right, not-true, not_from_false, cases_Bool}
+use Rattle.std.proofs.Common.{◌≡◌, Bool, true, false, not, ◌&&◌, ◌||◌, List, [], ◌∷◌, ◌⊎◌, inl, inr, sym, subst, ◌∙◌}
+use Rattle.std.proofs.lemmas.Bool.{false≢true, true≢false, and_parts, and_from, or_cases, or_parts, or_left, or_right, not_from_false}
 use Rattle.c_values.specs.Name.{Name, same_name, is_among}
-use Rattle.c_values.proofs.Laid.{name_is, same_name-refl, other_name}
+use Rattle.c_values.proofs.Laid.{name_is, same_name-refl}
 use Rattle.expression_lang.specs.Mentions.{names}
 use Rattle.simpl_lang.specs.Command.{Simpl, Skip, Throw, Set, SetGlobal, Store, Pick, Seq, Cond, Guard, Catch, While, Call}
 use Rattle.simpl_lang.specs.Names.{path_names, is_target}
@@ -256,7 +256,7 @@ module _ (xs : List Name) where
       spread_from xs (λ z. live xs a (same_name z)) (λ z. own z || p z) y (or_right (own y) (p y) h)
   live_stays (Call x f es) p y n h = or_right (is_in_some y es) (not (is_target y x) && p y) (and_from (not (is_target y x)) (p y) (not_from_false (is_target y x) n) h)
 
-  -- and nothing else is live for it
+  -- and nothing else is live for it, nor for what is no local
   abbrev pub OnlyItself : Simpl → Name → Name → Type 0
   OnlyItself a z y = (live xs a none y ≡ true) ⊎ (same_name z y ≡ true)
 
@@ -264,17 +264,21 @@ module _ (xs : List Name) where
   not_only a z y f (inl h) = inl (f h)
   not_only a z y f (inr h) = inr h
 
-  pub live_for_unassigned : (a : Simpl) (z y : Name) → assigns z a ≡ false → live xs a (same_name z) y ≡ true → OnlyItself a z y
+  either_part : (a b : Simpl) (z : Name) → (is_among z xs ≡ true → (assigns z a || assigns z b) ≡ false) → (is_among z xs ≡ true → assigns z a ≡ false) × (is_among z xs ≡ true → assigns z b ≡ false)
+  either_part a b z n = ((λ i. (or_parts (assigns z a) (assigns z b) (n i)).0), (λ i. (or_parts (assigns z a) (assigns z b) (n i)).1))
+
+  pub live_for_unassigned : (a : Simpl) (z y : Name) → (is_among z xs ≡ true → assigns z a ≡ false) → live xs a (same_name z) y ≡ true → OnlyItself a z y
   live_for_unassigned Skip z y n h = inr h
   live_for_unassigned Throw z y n h = inr h
   live_for_unassigned (Set x e) z y n h =
       either ((is_among x xs && same_name z x) && names y e) (not (same_name y x) && same_name z y) h
-      (λ k. absurd (true≢false (sym (and_parts (is_among x xs) (same_name z x) (and_parts (is_among x xs && same_name z x) (names y e) k).0).1 ∙ n))) (λ k. inr (and_parts (not (same_name y x)) (same_name z y) k).1)
+      (λ k. let p = and_parts (is_among x xs) (same_name z x) (and_parts (is_among x xs && same_name z x) (names y e) k).0 in
+      absurd (true≢false (sym p.1 ∙ n (subst (λ w. is_among w xs ≡ true) (sym (name_is z x p.1)) p.0)))) (λ k. inr (and_parts (not (same_name y x)) (same_name z y) k).1)
   live_for_unassigned (SetGlobal x path e) z y n h = let r = path_names y path || names y e in either r (same_name z y) h (λ k. inl (or_left r false k)) inr
   live_for_unassigned (Store t a path e) z y n h = let r = names y a || path_names y path || names y e in either r (same_name z y) h (λ k. inl (or_left r false k)) inr
   live_for_unassigned (Pick x) z y n h = inr (and_parts (not (same_name y x)) (same_name z y) h).1
   live_for_unassigned (Seq a b) z y n h =
-      let m = or_parts (assigns z a) (assigns z b) n in
+      let m = either_part a b z n in
       into a (live xs b (same_name z)) y (λ k. inl (live_from_none a (live xs b none) y k)) (λ w t k. second (λ j. live_for_unassigned a z y m.0 j) w k (live_for_unassigned b z w m.1 t)) (live_is_sum a (live xs b (same_name z)) y h)
     where
       first : OnlyItself a z y → OnlyItself (Seq a b) z y
@@ -285,7 +289,7 @@ module _ (xs : List Name) where
       second r w k (inl j) = inl (live_from_one a (live xs b none) w y j k)
       second r w k (inr j) = first (r (subst (λ v. live xs a (same_name v) y ≡ true) (sym (name_is z w j)) k))
   live_for_unassigned (Cond e a b) z y n h =
-      let m = or_parts (assigns z a) (assigns z b) n in
+      let m = either_part a b z n in
       let l = λ (q : Name → Bool). names y e || live xs a q y in
       let r = λ (q : Name → Bool). live xs b q y in
       either (l (same_name z)) (r (same_name z)) h
@@ -295,7 +299,7 @@ module _ (xs : List Name) where
   live_for_unassigned (Guard g a) z y n h =
       either (names y g.exp) (live xs a (same_name z) y) h (λ k. inl (or_left (names y g.exp) (live xs a none y) k))
       (λ k. not_only a z y (or_right (names y g.exp) (live xs a none y)) (live_for_unassigned a z y n k))
-  live_for_unassigned (Catch a b) z y n h = live_for_unassigned a z y (or_parts (assigns z a) (assigns z b) n).0 h
+  live_for_unassigned (Catch a b) z y n h = live_for_unassigned a z y (either_part a b z n).0 h
   live_for_unassigned (While gs e a) z y n h =
       spread_keeps xs leads (λ w. own w || same_name z w) (OnlyItself (While gs e a) z)
       (λ w t. either (own w) (same_name z w) t (λ k. inl (spread_from xs leads (λ v. own v || false) w (or_left (own w) false k))) inr) (λ v w. kept v w (λ k. live_for_unassigned a z w n k)) y h

@@ -1,14 +1,14 @@
--- Locals of a row that a command assigns, and conditions before an expression.
+-- Locals of a row that are assigned, and conditions before an expression.
 use Rattle.std.specs.Prelude.{Bool, not, ◌&&◌, List, [], ◌∷◌, string_bytes, if◌then◌else◌}
 use Rattle.c_values.specs.Name.{Name, is_among}
 use Rattle.expression_lang.specs.Expression.{Exp, And}
 use Rattle.expression_lang.specs.declared.signatures.Binder as B
-use Rattle.simpl_lang.specs.Command.{Condition, Simpl}
-use Rattle.rule_local.specs.Assigned.{assigns}
+use Rattle.simpl_lang.specs.Command.{Condition}
 
-abbrev pub carried_in : Simpl → List B.Binder → List Bool → List Name
-carried_in a (b ∷ bs) (f ∷ fs) = if assigns (string_bytes b.name) a && f then string_bytes b.name ∷ carried_in a bs fs else carried_in a bs fs
-carried_in a _ _ = []
+-- of the locals those of two rows
+abbrev pub carried_in : List B.Binder → List Bool → List Bool → List Name
+carried_in (b ∷ bs) (a ∷ as') (f ∷ fs) = if a && f then string_bytes b.name ∷ carried_in bs as' fs else carried_in bs as' fs
+carried_in _ _ _ = []
 
 abbrev pub conj_before : List Condition → Exp → Exp
 conj_before [] e = e

@@ -1,5 +1,5 @@
 -- Names of locals, as the code has them.
-use Rattle.std.specs.Prelude.{List, map, string_bytes}
+use Rattle.std.specs.Prelude.{List, map}
 use Rattle.c_values.specs.Name.{Name}
 use Rattle.expression_lang.specs.declared.signatures.Binder as B
 use Rattle.expression_lang.specs.CodeSignature.{binder_of}

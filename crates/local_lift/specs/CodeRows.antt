@@ -1,5 +1,5 @@
 -- Rows: for each of a function's locals whether it is meant; and how rows change.
-use Rattle.std.specs.Prelude.{◌≡◌, ℕ, zero, suc, Bool, true, false, not, ◌&&◌, ◌||◌, List, [], ◌∷◌, string_bytes, Option, if◌then◌else◌, slice_index_or as get_or}
+use Rattle.std.specs.Prelude.{◌≡◌, ℕ, zero, suc, Bool, false, not, ◌&&◌, ◌||◌, List, [], ◌∷◌, string_bytes, Option, if◌then◌else◌, slice_index_or as get_or}
 use Rattle.c_values.specs.Name.{Name, same_name, is_among}
 use Rattle.expression_lang.specs.declared.signatures.Binder as B
 use Rattle.simpl_lang.specs.Names.{is_target}
@@ -15,6 +15,11 @@ marks p (b ∷ bs) = p (string_bytes b.name) ∷ marks p bs
 abbrev pub either_row : List Bool → List Bool → List Bool
 either_row (a ∷ as') (b ∷ bs) = (a || b) ∷ either_row as' bs
 either_row _ _ = []
+
+-- in a row, or in another and not in a third
+abbrev pub past_row : List Bool → List Bool → List Bool → List Bool
+past_row (a ∷ as') (b ∷ bs) (c ∷ cs) = (a || (b && not c)) ∷ past_row as' bs cs
+past_row _ _ _ = []
 
 -- without one name
 abbrev pub row_without : Name → List B.Binder → List Bool → List Bool

@@ -1,6 +1,6 @@
 -- Which locals are looked at from the start of a flat command on, where it is known which are looked at after it. What a loop's
 -- body hands from each local to each other is found once, so nested loops cost no power of their depth.
-use Rattle.std.specs.Prelude.{Bool, true, false, not, ◌&&◌, ◌||◌, List, [], ◌∷◌}
+use Rattle.std.specs.Prelude.{Bool, false, not, ◌&&◌, ◌||◌, List, [], ◌∷◌}
 use Rattle.c_values.specs.Name.{Name, same_name, is_among}
 use Rattle.expression_lang.specs.Mentions.{names}
 use Rattle.simpl_lang.specs.Command as C

@@ -219,6 +219,21 @@ fn with_meant(alloc: Global, reached: &[Row], row: &Row) -> Result<Row, AllocErr
     Ok(all)
 }
 
+/// A row before a loop of which these are looked at, which leads so.
+pub(crate) fn spread(
+    alloc: Global,
+    reached: &[Row],
+    own: &Row,
+    row: &Row,
+) -> Result<Row, AllocError>
+    ensures { IfOk result (λ after. (bs : List B.Binder) (leads : Name → Name → Bool) (g : Name → Bool) →
+        Matrix bs leads bs reached.now → own.now.flags.items ≡ marks g bs →
+        RowMoves bs (spreading (names bs) leads g) row.now.flags.items after.flags.items) }
+{
+    let from = either(alloc, own, row)?;
+    with_meant(alloc, reached, &from)
+}
+
 /// Rows before a loop of which these are looked at, which leads so.
 pub(crate) fn all_spread(
     alloc: Global,
@@ -232,8 +247,7 @@ pub(crate) fn all_spread(
 {
     let mut after = Vec::new(alloc);
     for row in rows {
-        let from = either(alloc, own, &row)?;
-        after.push(with_meant(alloc, reached, &from)?)?;
+        after.push(spread(alloc, reached, own, &row)?)?;
     }
     Ok(after)
 }

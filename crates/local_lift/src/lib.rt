@@ -8,8 +8,9 @@ mod lifting;
 mod lists;
 mod liveness;
 mod names;
+mod plan;
+mod planning;
 mod rows;
-mod spine;
 mod translation;
 
 pub use laws::lifted_by_live;

@@ -21,10 +21,9 @@ ghost use Rattle.local_lift.specs.CodeLifted.{lifted_of};
 ghost use Rattle.local_lift.specs.LiftedByLive.{by_live};
 
 use crate::lists::{conjunction, kind_held, starts, vars, vars_with};
-use crate::names::is_among;
 use c_values::{CType, copy_of};
 use expression_lang::{Binder, Exp, Path, copy_exps};
-use monad_lang::{Mon, Place, boxed};
+use monad_lang::{Mon, Place, boxed, is_among};
 use rule_local::Rule;
 use rule_trees::Tree;
 use simpl_lang::Condition;
@@ -308,6 +307,7 @@ pub(crate) fn tested(
 }
 
 /// A loop that hands on the names.
+#[inline(never)]
 pub(crate) fn looped(
     alloc: Global,
     conditions: &[Condition],

@@ -6,11 +6,8 @@ ghost use Rattle.expression_lang.specs.Expression.{Var, And};
 ghost use Rattle.expression_lang.specs.CodeExpression.{exp_of, kind_of};
 ghost use Rattle.expression_lang.specs.CodeSignature.{binder_of};
 ghost use Rattle.simpl_lang.specs.Command as plain;
-ghost use Rattle.simpl_lang.specs.CodeCommand.{condition_of, simpl_of};
-ghost use Rattle.simpl_lang.specs.Names.{is_target};
-ghost use Rattle.std.specs.Option.{option_map};
+ghost use Rattle.simpl_lang.specs.CodeCommand.{condition_of};
 ghost use Rattle.monad_lang.specs.CodeProgram.{start_of};
-ghost use Rattle.rule_local.specs.Assigned.{assigns};
 ghost use Rattle.rule_local.specs.Table.{vars, vars_with, as_starts, conj, word_kind, picked_kind};
 ghost use Rattle.rule_local.specs.Lifted.{kind_there};
 ghost use Rattle.local_lift.specs.CodeLists.{carried_in};
@@ -18,7 +15,7 @@ ghost use Rattle.local_lift.specs.CodeLists.{carried_in};
 use crate::rows::Row;
 use expression_lang::{Binder, Exp, Kind, boxed};
 use monad_lang::Start;
-use simpl_lang::{Condition, Simpl};
+use simpl_lang::Condition;
 use std::alloc::{AllocError, Global};
 
 /// The names as expressions.
@@ -116,59 +113,33 @@ fn both(alloc: Global, first: &Exp, last: Box<Exp>) -> Result<Box<Exp>, AllocErr
     boxed(alloc, Exp::And(first, last))
 }
 
-// Whether a command assigns the local. It goes along the last parts by a loop, since a text may have long sequences.
-fn assigns(name: &str, c: &Simpl) -> bool
-    ensures { result ≡ assigns name.now (simpl_of c.now) }
-{
-    let mut rest = c;
-    'along: loop {
-        match rest {
-            Simpl::Skip | Simpl::Throw | Simpl::SetGlobal(_, _, _) | Simpl::Store(_, _, _, _) =>
-                return false,
-            Simpl::Set(other, _) | Simpl::Pick(other) => return name == other.as_str(),
-            Simpl::Call(target, _, _) => return is_target(name, target),
-            Simpl::Seq(first, last) | Simpl::Cond(_, first, last) | Simpl::Catch(first, last) => {
-                if assigns(name, first) {
-                    return true;
-                }
-                rest = &**last;
-            }
-            Simpl::Guard(_, last) | Simpl::While(_, _, last) => rest = &**last,
-        }
-    }
-}
-
-fn is_target(name: &str, target: &Option<String>) -> bool
-    ensures { result ≡ is_target name.now (option_map string_bytes target.now) }
-{
-    match target {
-        Some(other) => name == other.as_str(),
-        None => false,
-    }
-}
-
-/// The locals of a row that a command assigns.
+/// The locals of a row that are assigned.
 #[tactic(auto, using(crate::proofs::ListLaws::mapped_push, crate::proofs::ListLaws::carried_here, crate::proofs::ListLaws::carried_later))]
 pub(crate) fn carried(
     alloc: Global,
     locals: &[Binder],
-    c: &Simpl,
+    assigned: &Row,
     row: &Row,
 ) -> Result<Vec<String>, AllocError>
-    ensures { IfOk result (λ names.
-        map string_bytes names.items ≡ carried_in (simpl_of c.now) locals.now row.now.flags.items) }
+    ensures { IfOk result (λ names. map string_bytes names.items
+        ≡ carried_in locals.now assigned.now.flags.items row.now.flags.items) }
 {
     let mut names = Vec::new(alloc);
     let mut left = locals;
+    let mut middle = assigned.flags.as_slice();
     let mut right = row.flags.as_slice();
     'along: while let Some((local, others)) = left.split_first() {
+        let Some((is_assigned, more)) = middle.split_first() else {
+            return Ok(names);
+        };
         let Some((flag, rest)) = right.split_first() else {
             return Ok(names);
         };
-        if *flag && assigns(local.name.as_str(), c) {
+        if *is_assigned && *flag {
             names.push(local.name.clone()?)?;
         }
         left = others;
+        middle = more;
         right = rest;
     }
     Ok(names)

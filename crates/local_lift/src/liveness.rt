@@ -2,24 +2,23 @@
 
 ghost use Rattle.std.specs.Prelude.{List, map, string_bytes, IfOk};
 ghost use Rattle.std.specs.Option.{option_map};
-ghost use Rattle.c_values.specs.Name.{Name, same_name};
+ghost use Rattle.c_values.specs.Name.{Name};
 ghost use Rattle.c_values.specs.Types.{CType};
 ghost use Rattle.simpl_lang.specs.CodeCommand.{condition_of, simpl_of};
 ghost use Rattle.expression_lang.specs.CodeExpression.{exp_of, path_of};
 ghost use Rattle.local_lift.specs.declared.rows.Row.{Row};
-ghost use Rattle.local_lift.specs.Live.{none, live};
+ghost use Rattle.local_lift.specs.Live.{live};
 ghost use Rattle.local_lift.specs.CodeNames.{names};
-ghost use Rattle.local_lift.specs.CodeRows.{Moves, MatrixAnd, without_target};
-ghost use Rattle.local_lift.specs.CodeSpine.{IsLast};
+ghost use Rattle.local_lift.specs.CodeRows.{Moves, without_target};
+ghost use Rattle.local_lift.specs.CodePlan.{around, command_of, AreRight, IsAlone, IsRight};
 ghost use Rattle.simpl_lang.specs.Command as plain;
 
 use crate::changes::{
-    all_added, all_assigned, all_either, all_removed, all_spread, copies_of_rows, reached,
-    single_rows,
+    all_added, all_assigned, all_either, all_removed, all_spread, copies_of_rows,
 };
-use crate::names::{IsNamed, IsNamedByArguments, IsNamedByStore, IsNamedByTurn, IsNamedByWrite};
-use crate::rows::{Row, either, row_of};
-use crate::spine::{Front, Spine, taken_apart};
+use crate::names::{IsNamed, IsNamedByArguments, IsNamedByStore, IsNamedByWrite};
+use crate::plan::{Fronts, Plan};
+use crate::rows::{Row, row_of};
 use expression_lang::{Binder, Exp, Path};
 use simpl_lang::{Condition, Simpl};
 use std::alloc::{AllocError, Global};
@@ -120,6 +119,7 @@ fn before_call(
 }
 
 // Rows before a test, from the rows before what follows each way.
+#[inline(never)]
 fn before_test(
     alloc: Global,
     locals: &[Binder],
@@ -161,64 +161,15 @@ fn before_guard(
     Ok(before)
 }
 
-// Rows before a loop, from the rows before its body, of each local alone and of none.
-fn before_loop(
-    alloc: Global,
-    locals: &[Binder],
-    conditions: &[Condition],
-    test: &Exp,
-    turns: Vec<Row>,
-    rows: Vec<Row>,
-) -> Result<Vec<Row>, AllocError>
-    ensures { IfOk result (λ before. (a : plain.Simpl) →
-        MatrixAnd locals.now (λ z. live (names locals.now) a (same_name z))
-        (live (names locals.now) a none) locals.now turns.items →
-        Moves locals.now
-        (live (names locals.now)
-        (plain.While (map condition_of conditions.now) (exp_of test.now) a)) rows.items
-        before.items) }
-{
-    let mut leads = turns;
-    let Some(of_none) = leads.pop() else {
-        return Ok(rows);
-    };
-    let named = row_of(alloc, locals, &IsNamedByTurn { conditions, test })?;
-    let own = either(alloc, &named, &of_none)?;
-    let steps = reached(alloc, locals, leads)?;
-    let before = all_spread(alloc, steps.as_slice(), &own, rows)?;
-    Ok(before)
-}
-
-/// Rows before a command. It goes back along the first parts by a loop.
-#[cycle(lived)]
-pub(crate) fn lived(
+/// Rows before a command without parts.
+#[inline(never)]
+pub(crate) fn lived_alone(
     alloc: Global,
     locals: &[Binder],
     c: &Simpl,
     rows: Vec<Row>,
 ) -> Result<Vec<Row>, AllocError>
-    ensures { IfOk result (λ before.
-        Moves locals.now (live (names locals.now) (simpl_of c.now)) rows.items before.items) }
-{
-    let Spine { mut fronts, last } = taken_apart(alloc, c)?;
-    let mut before = lived_last(alloc, locals, last, rows)?;
-    'back: while let Some(front) = fronts.pop() {
-        match front {
-            Front::Seq(first) => before = lived(alloc, locals, first, before)?,
-            Front::Guard(condition) => before = before_guard(alloc, locals, condition, before)?,
-        }
-    }
-    Ok(before)
-}
-
-#[cycle(lived)]
-fn lived_last(
-    alloc: Global,
-    locals: &[Binder],
-    c: &Simpl,
-    rows: Vec<Row>,
-) -> Result<Vec<Row>, AllocError>
-    requires { IsLast (simpl_of c.now) }
+    requires { IsAlone (simpl_of c.now) }
     ensures { IfOk result (λ before.
         Moves locals.now (live (names locals.now) (simpl_of c.now)) rows.items before.items) }
 {
@@ -232,18 +183,83 @@ fn lived_last(
         }
         Simpl::Pick(name) => all_removed(alloc, locals, name.as_str(), rows),
         Simpl::Call(target, _, arguments) => before_call(alloc, locals, target, arguments, rows),
-        Simpl::Cond(test, first, second) => {
-            let others = copies_of_rows(alloc, rows.as_slice())?;
-            let lefts = lived(alloc, locals, first, rows)?;
-            let rights = lived(alloc, locals, second, others)?;
-            before_test(alloc, locals, test, lefts, rights)
-        }
-        Simpl::Catch(first, _) => lived(alloc, locals, first, rows),
-        Simpl::While(conditions, test, body) => {
-            let singles = single_rows(alloc, locals)?;
-            let turns = lived(alloc, locals, body, singles)?;
-            before_loop(alloc, locals, conditions, test, turns, rows)
-        }
         _ => unreachable!(),
+    }
+}
+
+/// Rows before a command. It doesn't go into the bodies of loops, and goes back along the first parts by a loop.
+#[cycle(lived)]
+pub(crate) fn lived(
+    alloc: Global,
+    locals: &[Binder],
+    plan: &Plan<'_>,
+    rows: Vec<Row>,
+) -> Result<Vec<Row>, AllocError>
+    requires { IsRight locals.now plan.now }
+    ensures { IfOk result (λ before.
+        Moves locals.now (live (names locals.now) (command_of plan.now)) rows.items before.items) }
+{
+    match plan {
+        Plan::Alone(c) => lived_alone(alloc, locals, c, rows),
+        Plan::Cond(test, first, second) => lived_choice(alloc, locals, test, first, second, rows),
+        Plan::Catch(first, _) => lived(alloc, locals, first, rows),
+        Plan::While(_, _, _, _, turns) => {
+            all_spread(alloc, turns.steps.as_slice(), &turns.own, rows)
+        }
+        Plan::Behind(fronts, last) => lived_behind(alloc, locals, fronts, last, rows),
+    }
+}
+
+#[cycle(lived)]
+#[inline(never)]
+fn lived_choice(
+    alloc: Global,
+    locals: &[Binder],
+    test: &Exp,
+    first: &Plan<'_>,
+    second: &Plan<'_>,
+    rows: Vec<Row>,
+) -> Result<Vec<Row>, AllocError>
+    requires first { IsRight locals.now first.now }
+    requires second { IsRight locals.now second.now }
+    ensures { IfOk result (λ before. Moves locals.now
+        (live (names locals.now)
+        (plain.Cond (exp_of test.now) (command_of first.now) (command_of second.now))) rows.items
+        before.items) }
+{
+    let others = copies_of_rows(alloc, rows.as_slice())?;
+    let lefts = lived(alloc, locals, first, rows)?;
+    let rights = lived(alloc, locals, second, others)?;
+    before_test(alloc, locals, test, lefts, rights)
+}
+
+#[cycle(lived)]
+#[inline(never)]
+fn lived_behind(
+    alloc: Global,
+    locals: &[Binder],
+    fronts: &Fronts<'_>,
+    last: &Plan<'_>,
+    rows: Vec<Row>,
+) -> Result<Vec<Row>, AllocError>
+    requires fronts { AreRight locals.now fronts.now }
+    requires last { IsRight locals.now last.now }
+    ensures { IfOk result (λ before. Moves locals.now
+        (live (names locals.now) (around fronts.now (command_of last.now))) rows.items before.items) }
+{
+    let mut before = lived(alloc, locals, last, rows)?;
+    let mut rest = fronts;
+    'back: loop {
+        match rest {
+            Fronts::None => return Ok(before),
+            Fronts::Seq(first, _, others) => {
+                before = lived(alloc, locals, first, before)?;
+                rest = &**others;
+            }
+            Fronts::Guard(condition, others) => {
+                before = before_guard(alloc, locals, condition, before)?;
+                rest = &**others;
+            }
+        }
     }
 }

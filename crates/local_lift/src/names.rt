@@ -1,60 +1,12 @@
 //! Names among the locals, and tests of names.
 
-ghost use Rattle.std.specs.Prelude.{◌≡◌, map, string_bytes};
-ghost use Rattle.c_values.specs.Name.{is_among};
-ghost use Rattle.expression_lang.specs.CodeExpression.{exp_of};
-ghost use Rattle.expression_lang.specs.Mentions.{names};
+ghost use Rattle.std.specs.Prelude.{◌≡◌, map};
 ghost use Rattle.simpl_lang.specs.CodeCommand.{condition_of};
 ghost use Rattle.simpl_lang.specs.Names.{conditions_name};
-ghost use Rattle.monad_lang.specs.Names.{is_in_some};
 
 use expression_lang::{Exp, IsName, Path};
+use monad_lang::{NameTest, is_among, is_in, is_in_some};
 use simpl_lang::Condition;
-
-/// A test of names.
-pub(crate) trait NameTest {
-    ghost use Rattle.std.specs.Prelude.{Bool};
-    ghost use Rattle.c_values.specs.Name.{Name};
-
-    ghost holds: { Self → Name → Bool };
-
-    /// Whether a name passes.
-    fn holds(&self, name: &str) -> bool
-        ensures { result ≡ holds self.now name.now };
-}
-
-/// Whether one of the names is this one.
-pub(crate) fn is_among(name: &str, names: &[String]) -> bool
-    ensures { result ≡ is_among name.now (map string_bytes names.now) }
-{
-    'names: for other in names {
-        if name == other.as_str() {
-            return true;
-        }
-    }
-    false
-}
-
-/// Whether an expression has the name.
-pub(crate) fn is_in(name: &str, e: &Exp) -> bool
-    ensures { result ≡ names name.now (exp_of e.now) }
-{
-    e.any(&IsName { name })
-}
-
-/// Whether one of the expressions has the name.
-pub(crate) fn is_in_some(name: &str, exps: &[Exp]) -> bool
-    ensures { result ≡ is_in_some name.now (map exp_of exps.now) }
-{
-    let mut rest = exps;
-    'along: while let Some((first, others)) = rest.split_first() {
-        if is_in(name, first) {
-            return true;
-        }
-        rest = others;
-    }
-    false
-}
 
 /// No name.
 #[derive(Clone, Copy)]
@@ -83,6 +35,22 @@ impl NameTest for IsThis<'_> {
 
     fn holds(&self, name: &str) -> bool {
         self.name == name
+    }
+}
+
+/// A name that is this one, as a set's.
+#[derive(Clone, Copy)]
+pub(crate) struct IsSet<'a> {
+    pub(crate) name: &'a str,
+}
+
+impl NameTest for IsSet<'_> {
+    ghost use Rattle.c_values.specs.Name.{same_name};
+
+    ghost holds = { λ test y. same_name y test.name.now };
+
+    fn holds(&self, name: &str) -> bool {
+        name == self.name
     }
 }
 

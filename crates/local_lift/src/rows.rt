@@ -2,10 +2,10 @@
 
 ghost use Rattle.std.specs.Prelude.{◌≡◌, Bool, ◌||◌, IfOk};
 ghost use Rattle.c_values.specs.Name.{Name};
-ghost use Rattle.local_lift.specs.CodeRows.{marks, either_row, row_without, row_has, RowMoves};
+ghost use Rattle.local_lift.specs.CodeRows.{marks, either_row, past_row, row_without, row_has};
 
-use crate::names::NameTest;
 use expression_lang::Binder;
+use monad_lang::NameTest;
 use std::alloc::{AllocError, Global};
 
 /// Which of a function's locals are meant.
@@ -54,6 +54,30 @@ pub(crate) fn either(alloc: Global, row: &Row, other: &Row) -> Result<Row, Alloc
         flags.push(*first || *second)?;
         left = others;
         right = rest;
+    }
+    Ok(Row { flags })
+}
+
+/// The locals of a row, and those of another that a third doesn't have.
+pub(crate) fn past(alloc: Global, row: &Row, other: &Row, assigned: &Row) -> Result<Row, AllocError>
+    ensures { IfOk result (λ r. r.flags.items
+        ≡ past_row row.now.flags.items other.now.flags.items assigned.now.flags.items) }
+{
+    let mut flags = Vec::new(alloc);
+    let mut left = row.flags.as_slice();
+    let mut right = other.flags.as_slice();
+    let mut cut = assigned.flags.as_slice();
+    'along: while let Some((first, others)) = left.split_first() {
+        let Some((second, rest)) = right.split_first() else {
+            return Ok(Row { flags });
+        };
+        let Some((third, more)) = cut.split_first() else {
+            return Ok(Row { flags });
+        };
+        flags.push(*first || (*second && !*third))?;
+        left = others;
+        right = rest;
+        cut = more;
     }
     Ok(Row { flags })
 }

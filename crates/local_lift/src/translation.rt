@@ -2,7 +2,7 @@
 
 ghost use Rattle.std.specs.Prelude.{◌≡◌, true, List, Option, Some, map, string_bytes, IfOk};
 ghost use Rattle.std.specs.Option.{option_map};
-ghost use Rattle.c_values.specs.Name.{Name, is_among};
+ghost use Rattle.c_values.specs.Name.{Name};
 ghost use Rattle.expression_lang.specs.Expression as plain;
 ghost use Rattle.expression_lang.specs.Expression.{WordLit};
 ghost use Rattle.expression_lang.specs.CodeExpression.{exp_of, kind_of};
@@ -10,7 +10,6 @@ ghost use Rattle.expression_lang.specs.CodeSignature.{binder_of};
 ghost use Rattle.expression_lang.specs.Signature.{names_of, kinds_of};
 ghost use Rattle.expression_lang.specs.Sort as sorts;
 ghost use Rattle.expression_lang.specs.Sort.{is_width, is_kind, are_kinds};
-ghost use Rattle.simpl_lang.specs.Command as commands;
 ghost use Rattle.rule_local.specs.Table.{zero_exp, zeros};
 ghost use Rattle.simpl_lang.specs.CodeCommand.{simpl_of};
 ghost use Rattle.simpl_lang.specs.Form.{is_flat};
@@ -26,20 +25,21 @@ ghost use Rattle.local_lift.specs.CodeLifted.{lifted_of};
 ghost use Rattle.local_lift.specs.CodeLists.{begun_in};
 
 use crate::lifted::{Lifted, starting};
-use crate::lifting::{lift, row_before};
-use crate::names::IsOutput;
-use crate::rows::{Row, row_of};
+use crate::lifting::lift;
+use crate::planning::plan_of;
+use crate::rows::Row;
 use c_values::Word;
 use expression_lang::{Binder, Exp, Kind};
 use monad_lang::Mon;
 use rule_local::{Context, Rule};
 use rule_trees::Tree;
-use simpl_lang::Simpl;
+use simpl_lang::{Simpl, is_bound, kind_in};
 use std::alloc::{AllocError, Global};
 
 /// Locals lifted out of the body of a function, for these outputs, and the tree of rules that shows it: what
 /// `specs/Lifted` of the rules has, where the function is ready for it, as in a well-formed unit. There is no answer only where
-/// memory is wanting. It takes the commands times the depth of their nesting times the square of the locals.
+/// memory is wanting. It takes the commands times the locals; a command in a loop takes the
+/// square of the locals, and a loop their cube.
 pub fn translate(
     alloc: Global,
     left: &Simpl,
@@ -73,16 +73,15 @@ fn lifted_body(
         lifted_of l
         ≡ whole_by_live (context_of context.entry) (simpl_of left.now) (map string_bytes outputs.now)) }
 {
-    let inner = lift(alloc, context.locals, left, outputs)?;
-    let after = row_of(alloc, context.locals, &IsOutput { outputs })?;
-    let row = row_before(alloc, context.locals, left, after)?;
-    let names = begun_names(alloc, context, &row)?;
+    let command = plan_of(alloc, context.locals, left)?;
+    let inner = lift(alloc, context.locals, &command.plan, outputs)?;
+    let names = begun_names(alloc, context, &inner.before)?;
     let given = names.as_slice();
     if given.is_empty() {
-        return Ok(inner);
+        return Ok(inner.lifted);
     }
     let values = zeros(alloc, context.locals, given)?;
-    let whole = starting(alloc, names, values, inner)?;
+    let whole = starting(alloc, names, values, inner.lifted)?;
     Ok(whole)
 }
 
@@ -111,18 +110,6 @@ fn zero_of(kind: Option<Kind>) -> Exp
     }
 }
 
-// The kind of the first local of the name, where there is one.
-fn kind_in(locals: &[Binder], name: &str) -> Option<Kind>
-    ensures { option_map kind_of result ≡ commands.kind_of (map binder_of locals.now) name.now }
-{
-    'binders: for binder in locals {
-        if binder.name.as_str() == name {
-            return Some(binder.kind);
-        }
-    }
-    None
-}
-
 // The zeros of locals.
 fn zeros(alloc: Global, locals: &[Binder], names: &[String]) -> Result<Vec<Exp>, AllocError>
     ensures { IfOk result (λ exps. (es : List plain.Exp) →
@@ -136,18 +123,6 @@ fn zeros(alloc: Global, locals: &[Binder], names: &[String]) -> Result<Vec<Exp>,
         rest = others;
     }
     Ok(exps)
-}
-
-// Whether one of the binders has the name.
-fn is_bound(name: &str, binders: &[Binder]) -> bool
-    ensures { result ≡ is_among name.now (names_of (map binder_of binders.now)) }
-{
-    'binders: for binder in binders {
-        if name == binder.name.as_str() {
-            return true;
-        }
-    }
-    false
 }
 
 // The locals of a row that are no parameters.

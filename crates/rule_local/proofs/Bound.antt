@@ -1,19 +1,13 @@
 -- What a name is bound to, and environments that agree.
-use Rattle.std.proofs.Common.{◌≡◌, Bool, true, false, cond, ◌||◌, List, [], ◌∷◌, refl, ap, ◌∙◌}
-use Rattle.std.proofs.lemmas.Bool.{or_from, or_parts, or_left, or_right, cond_both, cond-false}
+use Rattle.std.proofs.Common.{◌≡◌, Bool, true, false, cond, List, [], ◌∷◌, refl, ap, ◌∙◌}
+use Rattle.std.proofs.lemmas.Bool.{or_from, or_parts, cond_both, cond-false}
 use Rattle.c_values.specs.Name.{Name, same_name, with_name, is_among}
 use Rattle.c_values.specs.Value.{Value}
 use Rattle.c_values.proofs.Laid.{name_is, other_name}
 use Rattle.expression_lang.specs.Evaluation.{Env}
 use Rattle.expression_lang.specs.Signature.{Binder, names_of, bound}
-use Rattle.rule_local.specs.Agree.{AgreeOn, held}
+use Rattle.rule_local.specs.Agree.{held}
 use Rattle.rule_local.specs.Kept.{HasEach}
-
-pub agree_left : {A : Type 0} (p q : Name → Bool) (env env' : Name → A) → AgreeOn (λ y. p y || q y) env env' → AgreeOn p env env'
-agree_left p q env env' a y h = a y (or_left (p y) (q y) h)
-
-pub agree_right : {A : Type 0} (p q : Name → Bool) (env env' : Name → A) → AgreeOn (λ y. p y || q y) env env' → AgreeOn q env env'
-agree_right p q env env' a y h = a y (or_right (p y) (q y) h)
 
 known_or_there : (t env : Env) (x y : Name) → (same_name y x ≡ false → env y ≡ t y) → with_name x (t x) env y ≡ t y
 known_or_there t env x y h = cond_both (same_name x y) (t x) (env y) (λ v. v ≡ t y) (λ e. ap t (name_is x y e)) (λ e. h (other_name x y e))

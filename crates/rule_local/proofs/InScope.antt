@@ -15,7 +15,8 @@ use Rattle.expression_lang.specs.Signature.{Binder, Signature, names_of, kinds_o
 use Rattle.expression_lang.specs.Sorted.{names_with, program_sort, scalar_in, with_scalar, scalars_of, sort_in, part_place, typed_place, global_place, fits_place, call_scalars}
 use Rattle.simpl_lang.specs.Command.{Condition, Simpl, Skip, Throw, Set, SetGlobal, Store, Pick, Seq, Cond, Guard, Catch, While, Call, SimplFn, SimplUnit}
 use Rattle.simpl_lang.specs.Names.{path_names, some_names, conditions_name, is_target, command_names}
-use Rattle.simpl_lang.specs.Sorted.{is_sorted, is_scalar_of, is_local, are_conditions, fits_target, scope_of}
+use Rattle.program_sorts.specs.Sorts.{is_scalar_of}
+use Rattle.simpl_lang.specs.Sorted.{is_sorted, is_local, are_conditions, fits_target, scope_of}
 use Rattle.rule_local.proofs.LiftedNames.{either}
 
 -- parts of what has a sort

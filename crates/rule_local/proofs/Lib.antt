@@ -13,7 +13,6 @@ pub mod LiftedWhole
 pub mod LiftedBytes
 pub mod InScope
 pub mod UnitsLifted
-pub mod SortsAgree
 pub mod LiftedSorted
 pub mod UnitsSorted
 pub mod Least

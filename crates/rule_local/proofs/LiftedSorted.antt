@@ -15,23 +15,24 @@ use Rattle.expression_lang.specs.Sorted.{names_with, program_sort, scalar_in, wi
 use Rattle.expression_lang.proofs.Inversion.{same_inv}
 use Rattle.simpl_lang.specs.Command.{Condition, Simpl, Skip, Throw, Set, SetGlobal, Store, Pick, Seq, Cond, Guard, Catch, While, Call, kind_of}
 use Rattle.simpl_lang.specs.Names.{command_names}
-use Rattle.simpl_lang.specs.Sorted.{is_sorted, is_scalar_of, is_local, are_conditions, fits_target}
+use Rattle.program_sorts.specs.Sorts.{is_scalar_of}
+use Rattle.simpl_lang.specs.Sorted.{is_sorted, is_local, are_conditions, fits_target}
 use Rattle.monad_lang.specs.Program as M
 use Rattle.monad_lang.specs.Program.{Mon, Place}
 use Rattle.monad_lang.specs.Run.{start_names}
 use Rattle.monad_lang.specs.Names.{is_free, is_in_some, is_in_start, is_in_place}
 use Rattle.monad_lang.specs.Sorted.{Setting, setting_with, start_scalars, are_scalars, place_sort, where_fits, and_then_scalars, one_for_each, scalars_given}
-use Rattle.rule_local.specs.Agree.{AgreeOn}
+use Rattle.monad_lang.specs.Agree.{AgreeOn}
 use Rattle.rule_local.specs.Assigned.{assigns}
 use Rattle.rule_local.specs.Table.{vars, vars_with, as_starts, conj, word_kind, picked_kind, zero_exp, zero_first, zeros, is_needed}
 use Rattle.rule_local.specs.Lifted.{Lifted, chosen, handed_on, kind_there, set_lifted, lifted, zeros_there, begun, locals_lifted}
-use Rattle.rule_local.proofs.Bound.{agree_left, agree_right}
+use Rattle.monad_lang.proofs.Agreeing.{agree_left, agree_right}
 use Rattle.rule_local.proofs.Parts.{free_after, starts_named}
 use Rattle.rule_local.proofs.HandedOn.{among_chosen, chosen_passes, settled_has}
 use Rattle.rule_local.proofs.LiftedTaken.{local_kind}
 use Rattle.rule_local.proofs.LiftedNames.{either, handed_on_assigned, lifted_names}
 use Rattle.rule_local.proofs.InScope.{command_in_scope}
-use Rattle.rule_local.proofs.SortsAgree.{in_scope, program_agrees, scalars_agree, place_agrees}
+use Rattle.monad_lang.proofs.AgreeingSorts.{in_scope, program_agrees, scalars_agree, place_agrees}
 
 -- names that are chosen from distinct ones are distinct
 
@@ -65,7 +66,7 @@ there_is : (o : Option Scalar) → is_some o ≡ true → Some (scalar_there o) 
 there_is (Some s) h = refl
 there_is None h = absurd (false≢true h)
 
-there_in : (o : Option Scalar) → is_some o ≡ true → scalar_in (scalar_sort o) ≡ Some (scalar_there o)
+pub there_in : (o : Option Scalar) → is_some o ≡ true → scalar_in (scalar_sort o) ≡ Some (scalar_there o)
 there_in (Some s) h = refl
 there_in None h = absurd (false≢true h)
 

@@ -25,9 +25,11 @@ use Rattle.monad_lang.specs.Run.{Answer, Failure, start_names, start_values}
 use Rattle.monad_lang.specs.Names.{is_in_some, is_in_start}
 use Rattle.rule_local.specs.Assigned.{assigns, Carries}
 use Rattle.rule_local.specs.Table.{vars, as_starts, conj, word_kind, picked_kind, zero_exp, zero_first, zeros}
-use Rattle.rule_local.specs.Agree.{AgreeOn, held, GivesAt}
+use Rattle.monad_lang.specs.Agree.{AgreeOn}
+use Rattle.rule_local.specs.Agree.{held, GivesAt}
 use Rattle.rule_local.specs.Kept.{Related, BothFail, HasEach, IsFilled, FitsCall, FitsTarget}
-use Rattle.rule_local.proofs.Bound.{agree_left, agree_right, bound_is}
+use Rattle.monad_lang.proofs.Agreeing.{agree_left, agree_right}
+use Rattle.rule_local.proofs.Bound.{bound_is}
 use Rattle.rule_local.proofs.Stays.{HasAt}
 use Rattle.rule_local.proofs.Signed.{HasResult, IsSigned}
 

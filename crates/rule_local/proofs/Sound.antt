@@ -36,11 +36,14 @@ use Rattle.rule_local.specs.Assigned.{assigns, Carries}
 use Rattle.rule_local.specs.Rule as R
 use Rattle.rule_local.specs.Rule.{Rule, Context, Claim, whole}
 use Rattle.rule_local.specs.Table.{vars, vars_with, as_starts, conj, picked_kind, zeros, is_needed, AreNone, AllFreeAmong, row, table, Takes, TakesWhole}
-use Rattle.rule_local.specs.Agree.{AgreeOn, held, Gives, GivesAt, Begins}
+use Rattle.monad_lang.specs.Agree.{AgreeOn}
+use Rattle.rule_local.specs.Agree.{held, Gives, GivesAt, Begins}
 use Rattle.rule_local.specs.Kept.{BothFail, SameResult, SameFilled, CallsFit, as_values}
 use Rattle.rule_local.proofs.Signed.{SameSigned, KeptAsSigned, also}
-use Rattle.rule_local.proofs.Bound.{agree_left, agree_right, name_stays}
-use Rattle.rule_local.proofs.Values.{value_agrees, holds_agrees, steps_agree, values_agree, vars_held, vars_with_held, others_held, held_alike}
+use Rattle.monad_lang.proofs.Agreeing.{agree_left, agree_right}
+use Rattle.rule_local.proofs.Bound.{name_stays}
+use Rattle.monad_lang.proofs.AgreeingValues.{value_agrees, holds_agrees, steps_agree, values_agree}
+use Rattle.rule_local.proofs.Values.{vars_held, vars_with_held, others_held, held_alike}
 use Rattle.rule_local.proofs.Stays.{unassigned_stays}
 use Rattle.rule_local.proofs.Parts.{Same, Stays, called_related, picks_alike, guarded, checked_at_once, rebound, free_after, unassigned, set_held, in_vars, starts_named, starts_held, zeros_held, call_filled, result_there, into_target}
 

@@ -15,7 +15,7 @@ use Rattle.simpl_lang.specs.Sorted.{same_kind, same_level, come_first, is_kind_o
 use Rattle.monad_lang.specs.Program.{FinalUnit}
 use Rattle.monad_lang.specs.Sorted as M
 use Rattle.monad_lang.specs.Sorted.{are_scalars, signature_of, has_few, setting_of, is_fn_sorted, scalars_given}
-use Rattle.rule_local.specs.Agree.{AgreeOn}
+use Rattle.monad_lang.specs.Agree.{AgreeOn}
 use Rattle.rule_local.specs.Table.{word_kind}
 use Rattle.rule_local.specs.Units.{outputs_of}
 use Rattle.rule_local.specs.Lifted.{in_words, result_in_words, function_lifted, functions_lifted, unit_lifted}
@@ -51,7 +51,7 @@ same_kind_is BoolKind (IntKind n) h = absurd (false≢true h)
 
 -- scopes of locals
 
-others_stay : (y : Name) (bs : List Binder) (ms : Name → Option Scalar) → is_among y (names_of bs) ≡ false → names_with (names_of bs) (map word_sort_of (kinds_of bs)) ms y ≡ ms y
+pub others_stay : (y : Name) (bs : List Binder) (ms : Name → Option Scalar) → is_among y (names_of bs) ≡ false → names_with (names_of bs) (map word_sort_of (kinds_of bs)) ms y ≡ ms y
 others_stay y [] ms h = refl
 others_stay y (b ∷ bs) ms h =
     let p = or_parts (same_name y b.name) (is_among y (names_of bs)) h in
@@ -61,7 +61,7 @@ others_stay y (b ∷ bs) ms h =
     swapped e = subst (λ z. same_name z b.name ≡ true) (name_is b.name y e) (same_name-refl b.name)
 
 -- a local has the sort of its kind
-local_scalar : (bs : List Binder) (ms : Name → Option Scalar) (x : Name) (k : Kind) → are_distinct (names_of bs) ≡ true → kind_of bs x ≡ Some k → names_with (names_of bs) (map word_sort_of (kinds_of bs)) ms x ≡ Some (word_sort_of k)
+pub local_scalar : (bs : List Binder) (ms : Name → Option Scalar) (x : Name) (k : Kind) → are_distinct (names_of bs) ≡ true → kind_of bs x ≡ Some k → names_with (names_of bs) (map word_sort_of (kinds_of bs)) ms x ≡ Some (word_sort_of k)
 local_scalar [] ms x k d h = none_is_none h
 local_scalar (b ∷ bs) ms x k d h =
     let p = and_parts (not (is_among b.name (names_of bs))) (are_distinct (names_of bs)) d in
@@ -75,7 +75,7 @@ local_scalar (b ∷ bs) ms x k d h =
         ∙ ap (λ k. Some (word_sort_of k)) (some_is j)
     by_test false e j n r = r j
 
-local_is_kind : (bs : List Binder) (x : Name) (k : Kind) → are_kinds (kinds_of bs) ≡ true → kind_of bs x ≡ Some k → is_kind k ≡ true
+pub local_is_kind : (bs : List Binder) (x : Name) (k : Kind) → are_kinds (kinds_of bs) ≡ true → kind_of bs x ≡ Some k → is_kind k ≡ true
 local_is_kind [] x k h e = none_is_none e
 local_is_kind (b ∷ bs) x k h e = let p = and_parts (is_kind b.kind) (are_kinds (kinds_of bs)) h in by_test (same_name b.name x) e p.0 (local_is_kind bs x k p.1)
   where

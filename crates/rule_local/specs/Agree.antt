@@ -1,5 +1,5 @@
 -- What both sides have in common: the state, and the values of the names that the right side looks at.
-use Rattle.std.specs.Prelude.{◌≡◌, Bool, true, List, [], ◌∷◌, Some, false}
+use Rattle.std.specs.Prelude.{◌≡◌, List, [], ◌∷◌, Some, false}
 use Rattle.c_values.specs.Name.{Name, is_among}
 use Rattle.c_values.specs.Value.{Value}
 use Rattle.expression_lang.specs.Evaluation.{Env}
@@ -9,11 +9,8 @@ use Rattle.expression_lang.specs.Machine.{Machine}
 use Rattle.simpl_lang.specs.Command.{kind_of}
 use Rattle.simpl_lang.specs.Exec.{Flow, Normal, Abrupt}
 use Rattle.monad_lang.specs.Run.{Answer}
+use Rattle.monad_lang.specs.Agree.{AgreeOn}
 use Rattle.rule_local.specs.Rule.{Context}
-
--- the same values for the names that pass the test
-abbrev pub AgreeOn : {A : Type 0} → (Name → Bool) → (Name → A) → (Name → A) → Type 0
-AgreeOn test env env' = (y : Name) → test y ≡ true → env y ≡ env' y
 
 -- the values of names
 abbrev pub held : List Name → Env → List Value

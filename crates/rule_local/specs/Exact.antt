@@ -13,7 +13,8 @@ use Rattle.monad_lang.specs.Names.{is_free}
 use Rattle.monad_lang.specs.Run as Mon
 use Rattle.monad_lang.specs.Run.{runs}
 use Rattle.rule_local.specs.Rule.{Context}
-use Rattle.rule_local.specs.Agree.{AgreeOn, GivesAt, Begins}
+use Rattle.monad_lang.specs.Agree.{AgreeOn}
+use Rattle.rule_local.specs.Agree.{GivesAt, Begins}
 use Rattle.rule_local.specs.Kept.{BothFail, LocalsKept, CallsFit}
 
 -- The right side stands for the left side. Over the functions of any two units that do the same at all smaller bounds, from a

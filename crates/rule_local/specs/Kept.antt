@@ -1,7 +1,7 @@
 -- What the phase keeps of functions: to the same call, with an argument for each parameter, flat commands and the programs that
 -- bind what their locals hold have the same result and state, fail alike and stop alike. The kind of a fault is no longer told.
-use Rattle.std.specs.Prelude.{◌≡◌, ℕ, List, [], ◌∷◌, Option, Some, None}
-pub use Rattle.phase_relations.specs.Related.{Related, BothFail}
+use Rattle.std.specs.Prelude.{◌≡◌, List, [], ◌∷◌, Option, Some, None}
+pub use Rattle.correspondence.specs.Related.{Related, BothFail}
 use Rattle.c_values.specs.Name.{Name}
 use Rattle.c_values.specs.Value.{Value}
 use Rattle.expression_lang.specs.Sort.{Kind}

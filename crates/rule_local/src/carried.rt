@@ -10,23 +10,9 @@ ghost use Rattle.rule_local.specs.Assigned.{Carries};
 ghost use Rattle.rule_local.specs.Table.{is_needed};
 ghost use Rattle.rule_local.specs.CodeAssigned.{target_passes, assigns_some};
 
-use crate::free_names::{is_free, is_in};
-use crate::name_lists::is_among;
 use expression_lang::Exp;
-use monad_lang::Mon;
+use monad_lang::{Mon, NameTest, is_among, is_free, is_in};
 use simpl_lang::Simpl;
-
-/// A test of names.
-pub(crate) trait NameTest {
-    ghost use Rattle.std.specs.Prelude.{Bool};
-    ghost use Rattle.c_values.specs.Name.{Name};
-
-    ghost holds: { Self → Name → Bool };
-
-    /// Whether a name passes.
-    fn holds(&self, name: &str) -> bool
-        ensures { result ≡ holds self.now name.now };
-}
 
 /// A name that isn't handed on, and that is free in the program.
 #[derive(Clone, Copy)]

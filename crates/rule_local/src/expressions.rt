@@ -11,10 +11,9 @@ ghost use Rattle.monad_lang.specs.CodeProgram.{start_of};
 ghost use Rattle.rule_local.specs.Table.{vars, vars_with, as_starts, conj, zeros};
 ghost use Rattle.rule_local.specs.CodeRow.{IsZeroOf};
 
-use crate::name_lists::kind_in;
 use expression_lang::{Binder, Exp, Kind};
 use monad_lang::Start;
-use simpl_lang::Condition;
+use simpl_lang::{Condition, kind_in};
 
 // Whether an expression is a name.
 fn is_var(e: &Exp, name: &str) -> bool

@@ -14,12 +14,12 @@ ghost use Rattle.rule_local.specs.CodeRule.{rule_of, context_of};
 
 use crate::carried::{carries_free, carries_needed};
 use crate::expressions::{are_starts_of, are_vars, are_vars_with, are_zeros, is_conjunction};
-use crate::name_lists::{are_unbound, is_among, is_none, is_only, kind_in};
+use crate::name_lists::{are_unbound, is_none, is_only};
 use crate::rule::{Context, Rule};
 use c_values::CType;
 use expression_lang::{Exp, Kind, Path, equal_types, same_exps};
-use monad_lang::{Mon, Place};
-use simpl_lang::{Condition, Simpl};
+use monad_lang::{Mon, Place, is_among};
+use simpl_lang::{Condition, Simpl, kind_in};
 
 /// Whether what a rule asks of a command, of a program and of what this gives holds: of the whole body of a function, or of a
 /// part of one.

@@ -4,7 +4,6 @@
 
 mod carried;
 mod expressions;
-mod free_names;
 mod instances;
 mod kernel;
 mod laws;

@@ -1,54 +1,12 @@
 //! Lists of names, and names in lists.
 
 ghost use Rattle.std.specs.Prelude.{◌≡◌, ◌↔◌, IsTrue, [], ◌∷◌, map, string_bytes};
-ghost use Rattle.std.specs.Option.{option_map};
-ghost use Rattle.c_values.specs.Name.{is_among};
-ghost use Rattle.expression_lang.specs.CodeExpression.{kind_of};
 ghost use Rattle.expression_lang.specs.CodeSignature.{binder_of};
 ghost use Rattle.expression_lang.specs.Signature.{names_of};
-ghost use Rattle.simpl_lang.specs.Command as plain;
-ghost use Rattle.monad_lang.specs.Run.{start_names};
-ghost use Rattle.monad_lang.specs.CodeProgram.{start_of};
 ghost use Rattle.rule_local.specs.Table.{AreNone};
 
-use expression_lang::{Binder, Kind};
-use monad_lang::Start;
-
-/// Whether one of the names is this one.
-pub(crate) fn is_among(name: &str, names: &[String]) -> bool
-    ensures { result ≡ is_among name.now (map string_bytes names.now) }
-{
-    'names: for other in names {
-        if name == other.as_str() {
-            return true;
-        }
-    }
-    false
-}
-
-/// Whether one of the binders has the name.
-pub(crate) fn is_bound(name: &str, binders: &[Binder]) -> bool
-    ensures { result ≡ is_among name.now (names_of (map binder_of binders.now)) }
-{
-    'binders: for binder in binders {
-        if name == binder.name.as_str() {
-            return true;
-        }
-    }
-    false
-}
-
-/// Whether one of the starts has the name.
-pub(crate) fn is_started(name: &str, starts: &[Start]) -> bool
-    ensures { result ≡ is_among name.now (start_names (map start_of starts.now)) }
-{
-    'starts: for start in starts {
-        if name == start.name.as_str() {
-            return true;
-        }
-    }
-    false
-}
+use expression_lang::Binder;
+use simpl_lang::is_bound;
 
 /// Whether none of the names is a binder's.
 #[tactic(auto, using(crate::proofs::Unbound::unbound_end, crate::proofs::Unbound::unbound_on, crate::proofs::Unbound::unbound_off))]
@@ -81,16 +39,4 @@ pub(crate) fn is_only(names: &[String], name: &str) -> bool
         Some((first, rest)) => first.as_str() == name && is_none(rest),
         None => false,
     }
-}
-
-/// The kind of the first binder of the name, where there is one.
-pub(crate) fn kind_in(binders: &[Binder], name: &str) -> Option<Kind>
-    ensures { option_map kind_of result ≡ plain.kind_of (map binder_of binders.now) name.now }
-{
-    'binders: for binder in binders {
-        if binder.name.as_str() == name {
-            return Some(binder.kind);
-        }
-    }
-    None
 }

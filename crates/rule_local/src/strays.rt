@@ -7,10 +7,9 @@ ghost use Rattle.monad_lang.specs.CodeProgram.{mon_of};
 ghost use Rattle.rule_local.specs.Table.{AllFreeAmong};
 ghost use Rattle.rule_local.specs.CodeFree.{is_stray};
 
-use crate::free_names::is_free;
-use crate::name_lists::is_bound;
 use expression_lang::{Binder, Exp, Test};
-use monad_lang::{Mon, NoPlace};
+use monad_lang::{Mon, NoPlace, is_free};
+use simpl_lang::is_bound;
 
 /// A name that is no parameter, and free in the program.
 #[derive(Clone, Copy)]

@@ -1,4 +1,4 @@
-use Rattle.std.proofs.Common.{rules, ◌≡◌, Bool}
+use Rattle.std.proofs.Common.{rules}
 use Rattle.local_lift.proofs.RowLaws.{ok_map, assigned_there, assigned_nowhere}
 use Rattle.local_lift.proofs.changes.assigned.Goals as goal
 

@@ -1,4 +1,4 @@
-use Rattle.std.proofs.Common.{◌≡◌, sym, ◌∙◌}
+use Rattle.std.proofs.Common.{sym, ◌∙◌}
 use Rattle.local_lift.proofs.RowLaws.{ok_map, row_at_index, row_past}
 use Rattle.local_lift.proofs.changes.copy_at.Goals as goal
 

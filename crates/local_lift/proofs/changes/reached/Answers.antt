@@ -1,4 +1,4 @@
-use Rattle.std.proofs.Common.{rules, ◌≡◌, ◌<◌, length, arith}
+use Rattle.std.proofs.Common.{rules, ◌<◌, length, arith}
 use Rattle.local_lift.specs.CodeNames.{names}
 use Rattle.local_lift.specs.Live.{through}
 use Rattle.local_lift.proofs.RowLaws.{reach_step}

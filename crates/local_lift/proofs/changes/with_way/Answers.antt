@@ -1,5 +1,5 @@
-use Rattle.std.proofs.Common.{rules, ◌≡◌, Bool}
-use Rattle.local_lift.proofs.RowLaws.{ok_map, way_taken, way_not_taken}
+use Rattle.std.proofs.Common.{rules}
+use Rattle.local_lift.proofs.RowLaws.{ok_map, way_taken}
 use Rattle.local_lift.proofs.changes.with_way.Goals as goal
 
 pub returns : goal.returns

@@ -1,30 +1,27 @@
--- What is lifted so far is what is done lifted, with the row before it, and the fronts that are left, around what is done, are the
--- whole.
-use Rattle.std.proofs.Common.{◌≡◌, suc, ◌*◌, vec_len, map, string_bytes}
-use Rattle.expression_lang.specs.CodeSignature.{binder_of}
+-- What is lifted so far is what is done lifted, and what is left, around what is done, is the whole.
+use Rattle.std.proofs.Common.{◌≡◌, suc, ◌*◌, ◌≤◌, max, map, string_bytes}
 use Rattle.simpl_lang.specs.Command.{Simpl}
-use Rattle.simpl_lang.specs.declared.command.Simpl.{size-Simpl}
-use Rattle.simpl_lang.specs.CodeCommand.{simpl_of}
-use Rattle.local_lift.specs.Live.{live}
-use Rattle.local_lift.specs.LiftedByLive.{among, by_live}
-use Rattle.local_lift.specs.CodeLifted.{lifted_of}
-use Rattle.local_lift.specs.CodeNames.{names}
-use Rattle.local_lift.specs.CodeRows.{marks}
-use Rattle.local_lift.specs.CodeSpine.{with_fronts, AreBelow}
+use Rattle.local_lift.specs.declared.plan.Plan.{size-Plan}
+use Rattle.local_lift.specs.declared.plan.Fronts.{size-Fronts}
+use Rattle.local_lift.specs.CodeLifted.{IsLifted}
+use Rattle.local_lift.specs.CodePlan.{around, command_of, AreRight}
 use Rattle.local_lift.proofs.lifting.+lift.Given as goal
 
-abbrev pub invariant-lift-back : goal.invariant-lift-back
-invariant-lift-back l = record {
-  done : (a : Simpl) × (lifted_of l.whole ≡ by_live (map binder_of l.locals) a (map string_bytes l.outputs)) × (l.row.flags.items ≡ marks (live (names l.locals) a (among (map string_bytes l.outputs))) l.locals)
-      × (with_fronts l.fronts.items a ≡ simpl_of l.c);
-  below : AreBelow (size-Simpl l.c) l.fronts.items;
+abbrev pub invariant-lift_behind-back : goal.invariant-lift_behind-back
+invariant-lift_behind-back l = record {
+  done : (a : Simpl) × IsLifted l.locals a (map string_bytes l.outputs) l.whole × (around l.rest a ≡ around l.fronts (command_of l.last));
+  right : AreRight l.locals l.rest;
+  smaller : size-Fronts l.rest ≤ size-Fronts l.fronts;
 }
 
-abbrev pub decreases-lift-back : goal.decreases-lift-back
-decreases-lift-back l = vec_len l.fronts
-
 abbrev pub decreases-lift : goal.decreases-lift
-decreases-lift l = suc (2 * size-Simpl l.c.now)
+decreases-lift l = suc (2 * size-Plan l.plan.now)
 
-abbrev pub decreases-lift_last : goal.decreases-lift_last
-decreases-lift_last l = 2 * size-Simpl l.c.now
+abbrev pub decreases-lift_choice : goal.decreases-lift_choice
+decreases-lift_choice l = suc (suc (2 * max (size-Plan l.first.now) (size-Plan l.second.now)))
+
+abbrev pub decreases-lift_loop : goal.decreases-lift_loop
+decreases-lift_loop l = suc (suc (2 * size-Plan l.body.now))
+
+abbrev pub decreases-lift_behind : goal.decreases-lift_behind
+decreases-lift_behind l = suc (suc (2 * max (size-Fronts l.fronts.now) (size-Plan l.last.now)))

@@ -1,5 +1,4 @@
-use Rattle.std.proofs.Common.{List, map, string_bytes}
-use Rattle.c_values.specs.Name.{Name}
+use Rattle.std.proofs.Common.{map, string_bytes}
 use Rattle.simpl_lang.specs.CodeCommand.{simpl_of}
 use Rattle.monad_lang.specs.CodeProgram.{mon_of}
 use Rattle.rule_local.specs.CodeRule.{tree_of, context_of}
