@@ -41,12 +41,12 @@ given_by same [] (f ∷ fs) e = ap (λ b. gives_at_once same (stands_for f) e ||
 given_by same (c ∷ cs) fs e = ap (λ b. gives_at_once same (stands_for c) e || b) (given_by same cs fs e)
 
 module _ (same : Exp → Exp → Bool) (natural integer : Exp) where
-  range_alike : (bs cs : List Fact) → ((e : Exp) → some_gives same bs e ≡ some_gives same cs e) → (fact : Exp) → range_given same bs natural integer fact ≡ range_given same cs natural integer fact
+  pub range_alike : (bs cs : List Fact) → ((e : Exp) → some_gives same bs e ≡ some_gives same cs e) → (fact : Exp) → range_given same bs natural integer fact ≡ range_given same cs natural integer fact
   range_alike bs cs h (X.And a b) = ap₂ or_else (range_alike bs cs h a) (range_alike bs cs h b)
   range_alike bs cs h (X.Imp c d) = ap₂ (λ t o. cond t o None) (h c) (range_alike bs cs h d)
   range_alike bs cs h fact = refl
 
-  first_alike : (bs cs : List Fact) → ((e : Exp) → some_gives same bs e ≡ some_gives same cs e) → (fact : Exp) → first_range same bs natural integer fact ≡ first_range same cs natural integer fact
+  pub first_alike : (bs cs : List Fact) → ((e : Exp) → some_gives same bs e ≡ some_gives same cs e) → (fact : Exp) → first_range same bs natural integer fact ≡ first_range same cs natural integer fact
   first_alike bs cs h (X.And a b) = ap₂ or_else (first_alike bs cs h a) (first_alike (Whole a ∷ bs) (Whole a ∷ cs) (λ e. ap (λ t. gives_at_once same a e || t) (h e)) b)
   first_alike bs cs h fact = range_alike bs cs h fact
 

@@ -6,17 +6,17 @@ use Rattle.c_values.specs.Layout.{Shape, Incomplete, Scalar as WordShape, Record
 use Rattle.c_values.specs.Path.{member_spot, Spot}
 use Rattle.expression_lang.specs.Expression as X
 use Rattle.expression_lang.specs.Expression.{Exp, Path}
-use Rattle.expression_lang.specs.Sort.{Sort, Of, PartsSort, WordSort, NumberSort, TruthSort, Scope, sort_of, shape_along, shape_in, sort_at, parts_shape, word_sort, number_sort, truth_sort, word_width, is_number, is_truth, is_word_of, is_width, is_unary, is_one_step, are_same, cast_fits, where_holds, of_words, of_word, of_shape, of_type}
+use Rattle.expression_lang.specs.Sort.{Sort, Of, PartsSort, WordSort, NumberSort, TruthSort, Scope, sort_of, shape_along, shape_in, sort_at, parts_shape, word_sort, number_sort, truth_sort, word_width, is_number, is_truth, is_word_of, is_width, is_unary, is_one_step, are_same, cast_fits, where_holds, of_words, of_word, of_shape}
 use Rattle.expression_lang.proofs.Inversion.{where_inv, words_inv, word_inv, width_inv, number_inv, truth_inv, word_of_inv, same_inv, shape_inv, type_inv, parts_inv}
 use Rattle.ac_expr.specs.Heads.{children, path_children}
+use Rattle.rule_word.specs.CodeFits as fits
 
 module _ (g : Scope) where
   abbrev pub IsSorted : Exp → Type 0
-  IsSorted e = (s : Sort) × (sort_of g e ≡ Some s)
+  IsSorted e = fits.IsSorted g e
 
   abbrev pub AreSorted : List Exp → Type 0
-  AreSorted [] = Unit {0}
-  AreSorted (e ∷ es) = IsSorted e × AreSorted es
+  AreSorted es = fits.AreSorted g es
 
   pub path_sorted : (path : Path) (s q : Shape) → shape_along g path s ≡ Some q → AreSorted (path_children path)
   path_sorted X.Here s q h = tt

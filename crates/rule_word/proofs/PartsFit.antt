@@ -1,23 +1,20 @@
 -- What a checker needn't look at again: where a node's left side is well-sorted and of the sort that is seen, so is each part's. Only the
 -- kind of an equality, of a value that is returned and of one that a loop starts from may not be of the sort that its side has; and what
 -- comes after the first part of a bind is known to be well-sorted once that part is taken.
-use Rattle.std.proofs.Common.{◌≡◌, ℕ, ◌&&◌, List, [], ◌∷◌, ◌++◌, map, Option, Some, None, refl, sym, subst, ap, ◌∙◌}
+use Rattle.std.proofs.Common.{◌≡◌, ℕ, ◌&&◌, List, [], ◌∷◌, Option, Some, None, refl, sym, ap, ◌∙◌}
 use Rattle.std.proofs.lemmas.Bool.{and_parts}
-use Rattle.c_values.specs.Name.{Name, are_distinct}
 use Rattle.c_values.specs.Word.{Wadd, Wsub, Wmul, Wudiv, Wumod, Wsdiv, Wsmod, Wneg, WordOp, WordTest, Wult, Wule, Wslt, Wsle}
 use Rattle.c_values.specs.Number as N
 use Rattle.expression_lang.specs.Expression as X
 use Rattle.expression_lang.specs.Expression.{Exp}
-use Rattle.expression_lang.specs.Sort.{Scalar, Sort, Of, WordSort, TruthSort, Kind, WordKind, NatKind, IntKind, BoolKind, Scope, sort_of, word_sort, truth_sort, word_width, is_truth, are_same, where_holds, of_words, of_word, word_sort_of}
+use Rattle.expression_lang.specs.Sort.{Sort, Of, WordSort, TruthSort, Kind, WordKind, NatKind, IntKind, BoolKind, Scope, sort_of, word_sort, truth_sort, word_width, is_truth, are_same, where_holds}
 use Rattle.expression_lang.proofs.Inversion.{where_inv, words_inv, word_inv, width_inv, truth_inv, same_inv}
-use Rattle.ac_expr.specs.Fact.{Fact}
 use Rattle.ac_expr.specs.Heads.{children}
-use Rattle.monad_lang.specs.Sorted.{scalars_given}
-use Rattle.rule_trees.specs.RuleTree.{Row, Tree, Accepts}
 use Rattle.rule_word.specs.Rule as R
 use Rattle.rule_word.specs.Rule.{Rule, Context, Point, View, AsIs, Unsigned, Signed, Claim, expression, program}
 use Rattle.rule_word.specs.Scopes.{words, sort_seen, view_for, width_in}
-use Rattle.rule_word.specs.Table.{number_width, of_width, each, owns, expression_row, table}
+use Rattle.rule_word.specs.Table.{number_width, of_width, each, owns, expression_row}
+use Rattle.rule_word.specs.CodeFits as fits
 use Rattle.rule_word.proofs.ChildrenSorted.{AreSorted, children_sorted}
 
 some_is : {A : Type 0} {a b : A} → ◌≡◌ {A = Option A} (Some a) (Some b) → a ≡ b
@@ -26,20 +23,17 @@ some_is h = cc
 module _ (ctx : Context) where
   -- well-sorted, of the sort that is seen
   abbrev pub Fits : Point → Exp → View → Type 0
-  Fits at e v = (s : Sort) × (sort_of (words ctx at.names).scope e ≡ Some s) × (sort_seen v ≡ Some s)
+  Fits at e v = fits.Fits (words ctx at.names).scope e v
 
   abbrev pub ClaimFits : Claim → Type 0
-  ClaimFits (expression at e v a) = Fits at e v
-  ClaimFits (program at m m' ks) = (cs : List Scalar) × (scalars_given (words ctx at.names) m ≡ Some cs)
+  ClaimFits c = fits.ClaimFits ctx c
 
   abbrev pub AllFit : List Claim → Type 0
-  AllFit [] = Unit {0}
-  AllFit (c ∷ cs) = ClaimFits c × AllFit cs
+  AllFit cs = fits.AllFit ctx cs
 
   -- each, where those before it are taken
   abbrev pub FitInTurn : List Claim → Type 0
-  FitInTurn [] = Unit {0}
-  FitInTurn (c ∷ cs) = ClaimFits c × ((t : Tree Rule) → Accepts (table ctx) t c → FitInTurn cs)
+  FitInTurn cs = fits.FitInTurn ctx cs
 
   pub all_in_turn : (cs : List Claim) → AllFit cs → FitInTurn cs
   all_in_turn [] h = tt

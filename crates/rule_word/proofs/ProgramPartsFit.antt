@@ -1,12 +1,12 @@
 -- The same of programs: each part is well-sorted once those before it are taken. What is to be looked at are the values that are returned
 -- and those that a loop starts from, whose kinds are wanted or are data.
-use Rattle.std.proofs.Common.{◌≡◌, true, ◌&&◌, List, [], ◌∷◌, ◌++◌, map, Option, Some, None, refl, sym, subst, ap, ◌∙◌}
+use Rattle.std.proofs.Common.{◌≡◌, true, ◌&&◌, List, [], ◌∷◌, ◌++◌, map, Option, Some, None, refl, sym, ap, ◌∙◌}
 use Rattle.std.proofs.lemmas.Bool.{and_parts}
-use Rattle.c_values.specs.Name.{Name, are_distinct}
+use Rattle.c_values.specs.Name.{are_distinct}
 use Rattle.c_values.specs.Types.{CType, address_width}
 use Rattle.c_values.specs.Layout.{shape_of, is_object, global_type}
 use Rattle.expression_lang.specs.Expression.{Exp, Path}
-use Rattle.expression_lang.specs.Sort.{Scalar, Sort, Of, WordSort, TruthSort, Kind, WordKind, BoolKind, Scope, sort_of, is_truth, is_word_of, word_sort_of}
+use Rattle.expression_lang.specs.Sort.{Scalar, Sort, Of, WordSort, TruthSort, Kind, WordKind, BoolKind, Scope, is_truth, is_word_of, word_sort_of}
 use Rattle.expression_lang.specs.Sorted.{program_sort, scalar_in, scalars_of, typed_place, global_place, part_place, fits_place, call_scalars}
 use Rattle.expression_lang.specs.Signature.{Signature, signature, kinds_of}
 use Rattle.expression_lang.proofs.Inversion.{truth_inv, word_of_inv}
@@ -14,17 +14,17 @@ use Rattle.ac_expr.specs.Heads.{path_children}
 use Rattle.monad_lang.specs.Program as M
 use Rattle.monad_lang.specs.Program.{Mon, Place, Start}
 use Rattle.monad_lang.specs.Run.{start_names}
-use Rattle.monad_lang.specs.Sorted.{Setting, setting_with, scalars_given, start_scalars, place_sort, one_for_each, are_scalars, where_fits}
+use Rattle.monad_lang.specs.Sorted.{setting_with, scalars_given, start_scalars, place_sort, one_for_each, are_scalars, where_fits}
 use Rattle.program_facts.specs.Places.{place_children}
-use Rattle.rule_trees.specs.RuleTree.{AllHold, Tree, Accepts}
+use Rattle.rule_trees.specs.RuleTree.{AllHold}
 use Rattle.rule_word.specs.Rule as R
 use Rattle.rule_word.specs.Rule.{Rule, Context, Point, Claim, expression, program}
 use Rattle.rule_word.specs.Scopes.{with_kinds, words, view_for}
-use Rattle.rule_word.specs.Table.{each, owns, AreMatched, views_for, start_exps, call_row, program_row, table}
-use Rattle.rule_word.proofs.ChildrenSorted.{AreSorted, IsSorted, path_sorted, and_one}
+use Rattle.rule_word.specs.Table.{each, owns, views_for, start_exps, call_row, program_row, table}
+use Rattle.rule_word.proofs.ChildrenSorted.{AreSorted, path_sorted, and_one}
 use Rattle.rule_word.proofs.PartsFit.{Fits, ClaimFits, AllFit, FitInTurn, all_in_turn, looked_at, owns_fit, children_fit}
 use Rattle.rule_word.proofs.ProgramsGive.{GivesThere, each_gives, starts_given, accepted_gives}
-use Rattle.rule_word.proofs.ProgramSorts.{some_is, then_inv, fits_inv, if_inv, are_inv, scalar_first, scalar_there, program_sorted, part_there, if_there, fits_there, call_inv, loop_parts}
+use Rattle.rule_word.proofs.ProgramSorts.{then_inv, fits_inv, are_inv, scalar_first, scalar_there, program_sorted, part_there, if_there, fits_there, call_inv}
 use Rattle.rule_word.proofs.ScopesAfter.{sort_of_view, setting_after}
 
 module _ (ctx : Context) where
@@ -37,7 +37,7 @@ module _ (ctx : Context) where
   abbrev g_at : Point → Scope
   g_at at = (words ctx at.names).scope
 
-  test_fits : (at : Point) (e : Exp) → is_truth (program_sort (g_at at) e) ≡ true → Fits ctx at e (view_for BoolKind)
+  pub test_fits : (at : Point) (e : Exp) → is_truth (program_sort (g_at at) e) ≡ true → Fits ctx at e (view_for BoolKind)
   test_fits at e h = (Of TruthSort, program_sorted (g_at at) e (Of TruthSort) (truth_inv (program_sort (g_at at) e) h), refl)
 
   -- arguments
@@ -84,7 +84,7 @@ module _ (ctx : Context) where
   place_sorted at (M.Written t p path) s h = typed_sorted at t p path s h
   place_sorted at (M.Global x path) s h = global_sorted at (global_type ctx.globals x) path s h
 
-  write_fits : (at : Point) (place : Place) (e : Exp) (as' : List Exp) (cs : List Scalar) → scalars_given (words ctx at.names) (M.Write place e) ≡ Some cs →
+  pub write_fits : (at : Point) (place : Place) (e : Exp) (as' : List Exp) (cs : List Scalar) → scalars_given (words ctx at.names) (M.Write place e) ≡ Some cs →
       AllFit ctx (each at (place_children place ++ (e ∷ [])) (owns (g_at at) (place_children place ++ (e ∷ []))) as')
   write_fits at place e as' cs q =
       let g = g_at at in

@@ -3,11 +3,11 @@ use Rattle.std.proofs.Common.{◌≡◌, ℕ, suc, Bool, true, false, ◌&&◌, 
 use Rattle.std.proofs.lemmas.Bool.{not_from_false}
 use Rattle.correspondence.specs.Outcome.{Done, Ends, done, fault, Then, choose, loop}
 use Rattle.correspondence.specs.Corresponds.{Corresponds, Either, Paired}
-use Rattle.phase_relations.specs.Related.{BothFail}
+use Rattle.correspondence.specs.Related.{BothFail}
 use Rattle.correspondence.proofs.Corresponds.{done_corresponds, fault_corresponds, then_corresponds, choose_corresponds, corresponds_weaker}
-use Rattle.phase_relations.proofs.Related.{called_related}
+use Rattle.correspondence.proofs.Related.{called_related}
 use Rattle.correspondence.proofs.Steps.{right_goes_on}
-use Rattle.phase_relations.proofs.Turning.{turning_corresponds, Reached, reached}
+use Rattle.correspondence.proofs.Turning.{turning_corresponds, Reached, reached}
 use Rattle.c_values.specs.Name.{Name, are_distinct}
 use Rattle.c_values.specs.Word.{unsigned, signed}
 use Rattle.c_values.specs.Value.{Value, Bits, Number, truth_in}

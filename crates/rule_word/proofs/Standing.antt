@@ -2,7 +2,7 @@
 use Rattle.std.proofs.Common.{◌≡◌, ℕ, Bool, true, false, cond, List, [], ◌∷◌, map, Option, Some, sym, subst, ap, ◌∙◌}
 use Rattle.correspondence.specs.Corresponds.{Corresponds, After, Paired}
 use Rattle.correspondence.specs.Outcome.{Ends}
-use Rattle.phase_relations.specs.Related.{BothFail}
+use Rattle.correspondence.specs.Related.{BothFail}
 use Rattle.correspondence.proofs.Corresponds.{there, back, both, corresponds_after, corresponds_weaker}
 use Rattle.c_values.specs.Name.{Name, same_name}
 use Rattle.c_values.specs.Choice.{Choice}

@@ -3,7 +3,7 @@ use Rattle.std.proofs.Common.{◌≡◌, ℕ, zero, suc, Bool, true, false, cond
 use Rattle.std.proofs.lemmas.Bool.{and_parts}
 use Rattle.correspondence.specs.Outcome.{Turns, Done}
 use Rattle.correspondence.specs.Corresponds.{Corresponds, Paired}
-use Rattle.phase_relations.specs.Related.{BothFail}
+use Rattle.correspondence.specs.Related.{BothFail}
 use Rattle.correspondence.proofs.Corresponds.{stop_corresponds, corresponds_weaker}
 use Rattle.c_values.specs.Name.{Name, same_name, are_distinct}
 use Rattle.c_values.specs.Choice.{Choice}

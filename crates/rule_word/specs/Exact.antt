@@ -1,7 +1,7 @@
 -- What an accepted tree gives of two expressions, and of two programs alone.
 use Rattle.std.specs.Prelude.{◌≡◌, ℕ, List, map, Option, Some}
 use Rattle.correspondence.specs.Corresponds.{Corresponds, Paired}
-use Rattle.phase_relations.specs.Related.{BothFail}
+use Rattle.correspondence.specs.Related.{BothFail}
 use Rattle.c_values.specs.Name.{Name}
 use Rattle.c_values.specs.Word.{unsigned, signed}
 use Rattle.c_values.specs.Value.{Value, Number, word_in}

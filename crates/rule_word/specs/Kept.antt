@@ -2,7 +2,7 @@
 -- kinds on the right, in one state that can be, a function gives words, and what stands for them at its results' kinds, with equal
 -- states; both fail alike and stop alike. On either heap.
 use Rattle.std.specs.Prelude.{◌≡◌, List, [], map, Option, Some, None}
-use Rattle.phase_relations.specs.Related.{Related, BothFail}
+use Rattle.correspondence.specs.Related.{Related, BothFail}
 use Rattle.c_values.specs.Name.{Name}
 use Rattle.expression_lang.specs.Sort.{Kind, word_sort_of}
 use Rattle.expression_lang.specs.States.{IsState}

@@ -10,3 +10,14 @@ pub mod ProgramsAbstracted
 pub mod Ready
 pub mod UnitAbstracted
 pub mod LeftWidth
+pub mod CodePassed
+pub mod CodeRule
+pub mod CodeNames
+pub mod CodeKinds
+pub mod CodeFits
+pub mod CodeSorts
+pub mod CodeClaims
+pub mod CodeRows
+pub mod CodeParts
+pub mod CodeFront
+pub mod CodeVerdict
