@@ -1,0 +1,10 @@
+-- Those that are listed, and those that are left, are all.
+use Rattle.std.proofs.Common.{◌≡◌, ◌++◌, length, map}
+use Rattle.expression_lang.specs.CodeExpression.{kind_of}
+use Rattle.word_abstract.proofs.kinds.copy_kinds.Given as goal
+
+abbrev pub invariant-along : goal.invariant-along
+invariant-along l = map kind_of l.copies.items ++ map kind_of l.rest ≡ map kind_of l.kinds
+
+abbrev pub decreases-along : goal.decreases-along
+decreases-along l = length l.rest

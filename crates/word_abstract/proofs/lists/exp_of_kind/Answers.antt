@@ -1,0 +1,17 @@
+use Rattle.std.proofs.Common.{◌≡◌, refl, ◌∙◌, sym}
+use Rattle.expression_lang.specs.CodeExpression.{exp_of, kind_of}
+use Rattle.rule_word.specs.Rule.{View}
+use Rattle.rule_word.specs.Scopes.{words, own, view_for}
+use Rattle.rule_word.specs.Table.{truth}
+use Rattle.word_abstract.specs.Standing.{seen_in, AsWord}
+use Rattle.word_abstract.specs.CodeViews.{seen_of}
+use Rattle.word_abstract.specs.CodeAbstracted.{abstracted_in}
+use Rattle.word_abstract.specs.CodeScenes.{context_at, binders_at, exp_there}
+use Rattle.word_abstract.proofs.OkLaws.{ok_map}
+use Rattle.word_abstract.proofs.Seeing.{kind_seen}
+use Rattle.word_abstract.proofs.lists.exp_of_kind.Goals as goal
+
+pub returns : goal.returns
+returns c =
+    ok_map c.exp_at.result (λ x. (v : View) → seen_in v ≡ (seen_of c.seen_for.result) → abstracted_in x ≡ exp_there c.args.at.now (exp_of c.args.e.now) v)
+    (λ x. abstracted_in x ≡ exp_there c.args.at.now (exp_of c.args.e.now) (view_for (kind_of c.args.kind))) (λ x e. e (view_for (kind_of c.args.kind)) (kind_seen (kind_of c.args.kind) ∙ sym c.seen_for.ensures)) c.exp_at.ensures
