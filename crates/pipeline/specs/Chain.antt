@@ -2,8 +2,8 @@
 -- relates functions of two units at one bound: to calls that are related, and whatever the limit of nested calls, they have
 -- related answers, fail alike and stop alike. Exactness follows from the five phases and from the theorem on generation, by
 -- composition alone (docs/CHAIN.md).
-use Rattle.std.specs.Prelude.{◌≡◌, ℕ}
-use Rattle.phase_relations.specs.Related.{Related, Same, BothFail}
+use Rattle.std.specs.Prelude.{ℕ}
+use Rattle.correspondence.specs.Related.{Related, Same}
 use Rattle.c_values.specs.Name.{Name}
 use Rattle.c_values.specs.Choice.{Choice}
 use Rattle.expression_lang.specs.Sort.{Level}

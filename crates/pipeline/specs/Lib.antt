@@ -1,1 +1,4 @@
 pub mod Chain
+pub mod Whole
+pub mod Taken
+pub mod Translated

@@ -15,7 +15,9 @@ use Rattle.expression_lang.specs.Sort.{Scalar, Scope, sort_of_kind, is_truth}
 use Rattle.expression_lang.specs.Sorted.{names_with, program_sort, scalar_in, with_scalar, scalars_of}
 use Rattle.expression_lang.specs.Signature.{Signature, kinds_of, signature, values_of, bound}
 use Rattle.expression_lang.specs.States.{IsEnvironment, IsState}
-use Rattle.ac_expr.proofs.AgreeingValues.{Agree, agree_left, agree_right, value_agrees}
+use Rattle.monad_lang.specs.Agree.{AgreeOn}
+use Rattle.monad_lang.proofs.Agreeing.{agree_left, agree_right}
+use Rattle.monad_lang.proofs.AgreeingValues.{value_agrees, values_agree}
 use Rattle.ac_expr.specs.Heads.{path_children}
 use Rattle.monad_lang.specs.Program as M
 use Rattle.monad_lang.specs.Program.{Mon, Place, Start}
@@ -23,39 +25,33 @@ use Rattle.monad_lang.specs.Names.{is_free, is_in_some, is_in_start, is_in_place
 use Rattle.monad_lang.specs.Run.{Answer, Runs, runs, start_names, start_values}
 use Rattle.monad_lang.specs.Sorted.{Setting, scalars_given, start_scalars, one_for_each, are_scalars}
 use Rattle.program_facts.specs.Places.{place_children}
-use Rattle.program_facts.specs.Lasting.{AreOfSorts}
+use Rattle.program_facts.specs.Lasting.{AreOfSorts, CanBeCalled}
 use Rattle.program_facts.proofs.SortedValues.{bound_sorted, values_sorted, starts_sorted}
 use Rattle.program_facts.proofs.RunsLast.{runs_last}
-use Rattle.rule_eq.specs.Kept.{CanBeCalled}
 use Rattle.program_facts.proofs.Sorts.{some_is, then_parts, fits_parts, given_there, call_parts}
 use Rattle.rule_eq.proofs.Bound.{AsMany, as_many, bound_alike}
 use Rattle.rule_eq.proofs.Together.{Respects, Pairs, lasts_left, Does, ret_does, guard_does, choice_does, bind_does, write_does, call_does, pick_does, loop_does}
 
 -- behind a binder
-pub behind_binder : (test : Name → Bool) (xs : List Name) (vs : List Value) (env env' : Env) → AsMany xs vs → Agree (λ y. not (is_among y xs) && test y) env env' → Agree test (bound xs vs env) (bound xs vs env')
+pub behind_binder : (test : Name → Bool) (xs : List Name) (vs : List Value) (env env' : Env) → AsMany xs vs → AgreeOn (λ y. not (is_among y xs) && test y) env' env → AgreeOn test (bound xs vs env') (bound xs vs env)
 behind_binder test xs vs env env' k h y i = bound_alike y xs vs env env' k (λ n. h y (and_from (not (is_among y xs)) (test y) (ap not n) i))
 
 module _ (l : Layout) (env env' : Env) (s : State) where
-  pub values_agree : (es : List Exp) → Agree (λ y. is_in_some y es) env env' → values_of l env' s es ≡ values_of l env s es
-  values_agree [] h = refl
-  values_agree (e ∷ es) h =
-      ap₂ (λ v vs. v ∷ vs) (value_agrees l env env' s e (agree_left (λ y. X.names y e) (λ y. is_in_some y es) env env' h)) (values_agree es (agree_right (λ y. X.names y e) (λ y. is_in_some y es) env env' h))
-
-  pub starts_agree : (xs : List Start) → Agree (λ y. is_in_start y xs) env env' → start_values l env' s xs ≡ start_values l env s xs
+  pub starts_agree : (xs : List Start) → AgreeOn (λ y. is_in_start y xs) env' env → start_values l env' s xs ≡ start_values l env s xs
   starts_agree [] h = refl
   starts_agree (x ∷ xs) h =
-      ap₂ (λ v vs. v ∷ vs) (value_agrees l env env' s x.exp (agree_left (λ y. X.names y x.exp) (λ y. is_in_start y xs) env env' h)) (starts_agree xs (agree_right (λ y. X.names y x.exp) (λ y. is_in_start y xs) env env' h))
+      ap₂ (λ v vs. v ∷ vs) (value_agrees l env' env s x.exp (agree_left (λ y. X.names y x.exp) (λ y. is_in_start y xs) env' env h)) (starts_agree xs (agree_right (λ y. X.names y x.exp) (λ y. is_in_start y xs) env' env h))
 
-  path_agrees : (path : Path) → Agree (λ y. path_has (is_name y) path) env env' → values_of l env' s (path_children path) ≡ values_of l env s (path_children path)
+  path_agrees : (path : Path) → AgreeOn (λ y. path_has (is_name y) path) env' env → values_of l env' s (path_children path) ≡ values_of l env s (path_children path)
   path_agrees Here h = refl
   path_agrees (IntoField k path) h = path_agrees path h
   path_agrees (IntoElement e path) h =
-      ap₂ (λ v vs. v ∷ vs) (value_agrees l env env' s e (agree_left (λ y. X.names y e) (λ y. path_has (is_name y) path) env env' h)) (path_agrees path (agree_right (λ y. X.names y e) (λ y. path_has (is_name y) path) env env' h))
+      ap₂ (λ v vs. v ∷ vs) (value_agrees l env' env s e (agree_left (λ y. X.names y e) (λ y. path_has (is_name y) path) env' env h)) (path_agrees path (agree_right (λ y. X.names y e) (λ y. path_has (is_name y) path) env' env h))
 
-  root_agrees : (e : Exp) (path : Path) → Agree (λ y. X.names y e || path_has (is_name y) path) env env' → values_of l env' s (e ∷ path_children path) ≡ values_of l env s (e ∷ path_children path)
+  root_agrees : (e : Exp) (path : Path) → AgreeOn (λ y. X.names y e || path_has (is_name y) path) env' env → values_of l env' s (e ∷ path_children path) ≡ values_of l env s (e ∷ path_children path)
   root_agrees e path h = path_agrees (IntoElement e path) h
 
-  pub place_agrees : (q : Place) → Agree (λ y. is_in_place y q) env env' → values_of l env' s (place_children q) ≡ values_of l env s (place_children q)
+  pub place_agrees : (q : Place) → AgreeOn (λ y. is_in_place y q) env' env → values_of l env' s (place_children q) ≡ values_of l env s (place_children q)
   place_agrees (M.Stored t e path) h = root_agrees e path h
   place_agrees (M.Written t e path) h = root_agrees e path h
   place_agrees (M.Global x path) h = path_agrees path h
@@ -181,41 +177,41 @@ module _ (l : Layout) (laid : IsLayout l) (p : Choice) (vs : List GlobalVar) (si
   abbrev DoesSame : Mon → Mon → Env → Env → Option ℕ → List Runs → List Runs → State → Type 0
   DoesSame = Does l p vs sigs P respects
 
-  pub agrees : (m : Mon) (names : NamesInScope) (cs : List Scalar) → scalars_given (setting names) m ≡ Some cs → (env env' : Env) → Agree (λ y. is_free y m) env env' → (depth : Option ℕ) (fs gs : List Runs) (s : State) → Starts names env fs gs s →
+  pub agrees : (m : Mon) (names : NamesInScope) (cs : List Scalar) → scalars_given (setting names) m ≡ Some cs → (env env' : Env) → AgreeOn (λ y. is_free y m) env' env → (depth : Option ℕ) (fs gs : List Runs) (s : State) → Starts names env fs gs s →
       DoesSame m m env env' depth fs gs s
-  agrees (M.Ret es) names cs sorted env env' h depth fs gs s w = ret_does l p vs sigs P respects es es env env' depth fs gs s (values_agree l env env' s es h)
+  agrees (M.Ret es) names cs sorted env env' h depth fs gs s w = ret_does l p vs sigs P respects es es env env' depth fs gs s (values_agree l env' env s es h)
   agrees (M.Bind m xs n) names cs sorted env env' h depth fs gs s w =
       let b = bind_parts names m xs n cs sorted in
       bind_does l p vs sigs P respects m m xs n n env env' depth fs gs s
-      (agrees m names b.given b.first env env' (agree_left (λ y. is_free y m) (λ y. not (is_among y xs) && is_free y n) env env' h) depth fs gs s w)
+      (agrees m names b.given b.first env env' (agree_left (λ y. is_free y m) (λ y. not (is_among y xs) && is_free y n) env' env h) depth fs gs s w)
       (λ a r r'. let k = behind names m xs n cs b env depth fs gs s w a r in
       agrees n (names_with xs b.given names) cs b.second (bound xs a.values env) (bound xs a.values env')
-      (behind_binder (λ y. is_free y n) xs a.values env env' k.1 (agree_right (λ y. is_free y m) (λ y. not (is_among y xs) && is_free y n) env env' h)) depth fs gs a.state k.0)
-  agrees (M.Guard e) names cs sorted env env' h depth fs gs s w = guard_does l p vs sigs P respects e e env env' depth fs gs s (value_agrees l env env' s e h)
+      (behind_binder (λ y. is_free y n) xs a.values env env' k.1 (agree_right (λ y. is_free y m) (λ y. not (is_among y xs) && is_free y n) env' env h)) depth fs gs a.state k.0)
+  agrees (M.Guard e) names cs sorted env env' h depth fs gs s w = guard_does l p vs sigs P respects e e env env' depth fs gs s (value_agrees l env' env s e h)
   agrees (M.If e m n) names cs sorted env env' h depth fs gs s w =
       let k = choice_parts names e m n cs sorted in
-      let first = agree_left (λ y. X.names y e || is_free y m) (λ y. is_free y n) env env' h in
-      choice_does l p vs sigs P respects e e m m n n env env' depth fs gs s (value_agrees l env env' s e (agree_left (λ y. X.names y e) (λ y. is_free y m) env env' first))
-      (λ i. agrees m names cs k.first env env' (agree_right (λ y. X.names y e) (λ y. is_free y m) env env' first) depth fs gs s w)
-      (λ i. agrees n names cs k.second env env' (agree_right (λ y. X.names y e || is_free y m) (λ y. is_free y n) env env' h) depth fs gs s w)
+      let first = agree_left (λ y. X.names y e || is_free y m) (λ y. is_free y n) env' env h in
+      choice_does l p vs sigs P respects e e m m n n env env' depth fs gs s (value_agrees l env' env s e (agree_left (λ y. X.names y e) (λ y. is_free y m) env' env first))
+      (λ i. agrees m names cs k.first env env' (agree_right (λ y. X.names y e) (λ y. is_free y m) env' env first) depth fs gs s w)
+      (λ i. agrees n names cs k.second env env' (agree_right (λ y. X.names y e || is_free y m) (λ y. is_free y n) env' env h) depth fs gs s w)
   agrees (M.Write q e) names cs sorted env env' h depth fs gs s w =
-      write_does l p vs sigs P respects q q e e env env' depth fs gs s refl (place_agrees l env env' s q (agree_left (λ y. is_in_place y q) (λ y. X.names y e) env env' h))
-      (value_agrees l env env' s e (agree_right (λ y. is_in_place y q) (λ y. X.names y e) env env' h))
+      write_does l p vs sigs P respects q q e e env env' depth fs gs s refl (place_agrees l env env' s q (agree_left (λ y. is_in_place y q) (λ y. X.names y e) env' env h))
+      (value_agrees l env' env s e (agree_right (λ y. is_in_place y q) (λ y. X.names y e) env' env h))
   agrees (M.Loop starts guard test m) names cs sorted env env' h depth fs gs s w =
       let k = loop_parts names starts guard test m cs sorted in
       let xs = start_names starts in
       let inner : Name → Bool = λ y. X.names y guard || X.names y test || is_free y m in
-      let behind' : (a : Answer) → Turning k.given a → Agree inner (bound xs a.values env) (bound xs a.values env') = λ a t.
-      behind_binder inner xs a.values env env' (starts_many (scope names) starts k.given k.starts_given a.values t.values) (agree_right (λ y. is_in_start y starts) (λ y. not (is_among y xs) && inner y) env env' h) in
+      let behind' : (a : Answer) → Turning k.given a → AgreeOn inner (bound xs a.values env') (bound xs a.values env) = λ a t.
+      behind_binder inner xs a.values env env' (starts_many (scope names) starts k.given k.starts_given a.values t.values) (agree_right (λ y. is_in_start y starts) (λ y. not (is_among y xs) && inner y) env' env h) in
       loop_does l p vs sigs P respects starts starts guard guard test test m m env env' depth (Turning k.given)
-      (λ a t. ap truth_in (value_agrees l (bound xs a.values env) (bound xs a.values env') a.state guard
-      (agree_left (λ y. X.names y guard) (λ y. X.names y test) (bound xs a.values env) (bound xs a.values env') (agree_left (λ y. X.names y guard || X.names y test) (λ y. is_free y m) (bound xs a.values env) (bound xs a.values env') (behind' a t)))))
-      (λ a t i. ap truth_in (value_agrees l (bound xs a.values env) (bound xs a.values env') a.state test
-      (agree_right (λ y. X.names y guard) (λ y. X.names y test) (bound xs a.values env) (bound xs a.values env') (agree_left (λ y. X.names y guard || X.names y test) (λ y. is_free y m) (bound xs a.values env) (bound xs a.values env') (behind' a t)))))
+      (λ a t. ap truth_in (value_agrees l (bound xs a.values env') (bound xs a.values env) a.state guard
+      (agree_left (λ y. X.names y guard) (λ y. X.names y test) (bound xs a.values env') (bound xs a.values env) (agree_left (λ y. X.names y guard || X.names y test) (λ y. is_free y m) (bound xs a.values env') (bound xs a.values env) (behind' a t)))))
+      (λ a t i. ap truth_in (value_agrees l (bound xs a.values env') (bound xs a.values env) a.state test
+      (agree_right (λ y. X.names y guard) (λ y. X.names y test) (bound xs a.values env') (bound xs a.values env) (agree_left (λ y. X.names y guard || X.names y test) (λ y. is_free y m) (bound xs a.values env') (bound xs a.values env) (behind' a t)))))
       (λ hs js paired a t i. agrees m (names_with xs k.given names) k.given k.body (bound xs a.values env) (bound xs a.values env')
-      (agree_right (λ y. X.names y guard || X.names y test) (λ y. is_free y m) (bound xs a.values env) (bound xs a.values env') (behind' a t)) depth hs js a.state (turn_starts names starts k.given env a hs js paired w.environment t))
+      (agree_right (λ y. X.names y guard || X.names y test) (λ y. is_free y m) (bound xs a.values env') (bound xs a.values env) (behind' a t)) depth hs js a.state (turn_starts names starts k.given env a hs js paired w.environment t))
       (λ hs js paired a t b r r'. next_turn names starts k.given m k.body env depth a hs js paired w.environment t b r)
-      fs gs w.functions s refl (starts_agree l env env' s starts (agree_left (λ y. is_in_start y starts) (λ y. not (is_among y xs) && inner y) env env' h)) (begun names starts k.given k.starts_given env fs gs s w)
+      fs gs w.functions s refl (starts_agree l env env' s starts (agree_left (λ y. is_in_start y starts) (λ y. not (is_among y xs) && inner y) env' env h)) (begun names starts k.given k.starts_given env fs gs s w)
   agrees (M.Call f es) names cs sorted env env' h depth fs gs s w =
-      call_does l p vs sigs P respects f es es env env' depth fs gs s w.functions (can_call names f es cs sorted env fs gs s w) (values_agree l env env' s es h)
+      call_does l p vs sigs P respects f es es env env' depth fs gs s w.functions (can_call names f es cs sorted env fs gs s w) (values_agree l env' env s es h)
   agrees (M.Pick k) names cs sorted env env' h depth fs gs s w = pick_does l p vs sigs P respects k env env' depth fs gs s

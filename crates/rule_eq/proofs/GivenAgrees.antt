@@ -17,7 +17,9 @@ use Rattle.monad_lang.specs.Run.{start_names}
 use Rattle.monad_lang.specs.Sorted.{Setting, scalars_given, start_scalars, one_for_each, are_scalars, and_then_scalars, where_fits}
 use Rattle.program_facts.proofs.Sorts.{none_is}
 use Rattle.rule_eq.proofs.Bound.{no_zero, one_less}
-use Rattle.rule_eq.proofs.AgreeingSorts.{AgreeOn, agree_left, agree_right, in_scope, program_agrees, scalars_agree, place_agrees}
+use Rattle.monad_lang.specs.Agree.{AgreeOn}
+use Rattle.monad_lang.proofs.Agreeing.{agree_left, agree_right}
+use Rattle.monad_lang.proofs.AgreeingSorts.{in_scope, program_agrees, scalars_agree, place_agrees}
 
 pub then_same : (o o' : Option (List Scalar)) (f f' : List Scalar → Option (List Scalar)) → o ≡ o' → ((ss : List Scalar) → o' ≡ Some ss → f ss ≡ f' ss) → and_then_scalars o f ≡ and_then_scalars o' f'
 then_same o o' f f' e h = ap (λ q. and_then_scalars q f) e ∙ at o' h

@@ -17,7 +17,8 @@ use Rattle.monad_lang.specs.Names.{is_free, is_captured, is_in_start, is_in_plac
 use Rattle.monad_lang.specs.Run.{start_names}
 use Rattle.program_facts.specs.Substituted.{starts_substituted, program_substituted}
 use Rattle.monad_lang.specs.Sorted.{scalars_given, start_scalars, one_for_each, are_scalars, and_then_scalars, where_fits}
-use Rattle.rule_eq.proofs.AgreeingSorts.{AgreeOn, in_scope, sort_agrees, program_agrees}
+use Rattle.monad_lang.specs.Agree.{AgreeOn}
+use Rattle.monad_lang.proofs.AgreeingSorts.{in_scope, sort_agrees, program_agrees}
 use Rattle.rule_eq.proofs.SubstitutedSorts.{Fits, program_put, each_put, starts_put, place_put}
 use Rattle.rule_eq.proofs.SubstitutedRuns.{right_false, left_false, other_one, start_names_put}
 use Rattle.rule_eq.proofs.GivenAgrees.{then_same, fits_same, names_alike, one_for_start, setting_at, given_agrees}

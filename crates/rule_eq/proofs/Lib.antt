@@ -10,7 +10,6 @@ pub mod UnitsKeep
 pub mod SubstitutionLaw
 pub mod Worked
 pub mod Captured
-pub mod AgreeingSorts
 pub mod GivenAgrees
 pub mod SubstitutedSorts
 pub mod GivenSubstituted
@@ -18,3 +17,4 @@ pub mod SimplerSorts
 pub mod SimplerKept
 pub mod SimplerForms
 pub mod FormsKept
+pub mod TidyPlaces

@@ -21,7 +21,7 @@ use Rattle.rule_eq.specs.Table.{Taken, before, taken_at, CanStand, with_values}
 use Rattle.program_facts.proofs.Sorts.{none_is, some_is, then_parts, fits_parts, given_there}
 use Rattle.rule_eq.proofs.Bound.{no_zero, one_less}
 use Rattle.rule_eq.proofs.PutIn.{unnamed_apart, kept_names, some_taken}
-use Rattle.rule_eq.proofs.AgreeingSorts.{in_scope, sort_agrees}
+use Rattle.monad_lang.proofs.AgreeingSorts.{in_scope, sort_agrees}
 use Rattle.rule_eq.proofs.GivenAgrees.{names_alike, setting_at, given_agrees}
 use Rattle.rule_eq.proofs.GivenSubstituted.{names_stay, names_still, given_substituted}
 

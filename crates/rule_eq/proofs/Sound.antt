@@ -5,10 +5,10 @@ use Rattle.std.proofs.Common.{◌≡◌, ℕ, Bool, true, false, not, List, [], 
 use Rattle.std.proofs.lemmas.Bool.{not_from_false, true≢false}
 use Rattle.correspondence.specs.Outcome.{Done, Ends, done, fault, Then, goes_on, choose}
 use Rattle.correspondence.specs.Corresponds.{Corresponds}
-use Rattle.phase_relations.specs.Related.{Same, BothFail}
+use Rattle.correspondence.specs.Related.{Same, BothFail}
 use Rattle.correspondence.proofs.Corresponds.{done_corresponds, then_corresponds, corresponds_after, corresponds_weaker}
 use Rattle.correspondence.proofs.Steps.{same_on_left, same_on_right, after_done, in_brackets, left_goes_on}
-use Rattle.phase_relations.proofs.Turning.{Reached, reached}
+use Rattle.correspondence.proofs.Turning.{Reached, reached}
 use Rattle.c_values.specs.Name.{Name}
 use Rattle.c_values.specs.Value.{truth_in}
 use Rattle.c_values.specs.Layout.{Layout, IsLayout, GlobalVar}
@@ -20,7 +20,7 @@ use Rattle.expression_lang.specs.Sort.{Scalar, is_truth, sort_of_kind}
 use Rattle.expression_lang.specs.Sorted.{names_with, program_sort, scalars_of, fits_place}
 use Rattle.expression_lang.specs.Signature.{Signature, signature, values_of, bound}
 use Rattle.expression_lang.specs.States.{IsEnvironment, IsState}
-use Rattle.ac_expr.proofs.AgreeingValues.{value_agrees}
+use Rattle.monad_lang.proofs.AgreeingValues.{value_agrees}
 use Rattle.ac_expr.specs.Fact.{Fact, Whole, NotTrue, AllSay}
 use Rattle.ac_expr.specs.Known.{IsKnown}
 use Rattle.ac_expr.specs.Step.{OneStepApart, OneOfThem, at_each}
@@ -194,7 +194,7 @@ module _ (l : Layout) (laid : IsLayout l) (p : Choice) (vs : List GlobalVar) (si
       let inner = bound xs (values_of l env s es) env in
       let outer = bound k.names (values_of l env s k.exps) env in
       let w = (behind l laid p vs sigs P respects left (M.Ret es) xs m cs j env depth before after s (on_the_left left right fs env before after s b) (record { values = values_of l env s es; state = s }) refl).0 in
-      let there : value l outer s k.exp ≡ value l env s k.exp = value_agrees l env outer s k.exp (λ y n. bound_stays y k.names (values_of l env s k.exps) env (unnamed_apart k.names k.exp can.others y n)) in
+      let there : value l outer s k.exp ≡ value l env s k.exp = value_agrees l outer env s k.exp (λ y n. bound_stays y k.names (values_of l env s k.exps) env (unnamed_apart k.names k.exp can.others y n)) in
       values_left es xs m (with_values k.exps k.names (program_substituted k.name k.exp m)) env env depth before after s
       (others_right k.exps k.names m (program_substituted k.name k.exp m) inner env depth before after s
       (substituted_does l laid p vs sigs P respects k.name k.exp m (names_with xs j.given left) cs j.second outer inner depth before after s (t.others env)

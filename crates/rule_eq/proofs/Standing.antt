@@ -3,7 +3,7 @@
 use Rattle.std.proofs.Common.{◌≡◌, ℕ, Bool, true, false, cond, List, [], ◌∷◌, map, Option, Some, None, sym, ap, subst}
 use Rattle.correspondence.specs.Outcome.{Done, Ends}
 use Rattle.correspondence.specs.Corresponds.{Corresponds, Paired}
-use Rattle.phase_relations.specs.Related.{Same, BothFail}
+use Rattle.correspondence.specs.Related.{Same, BothFail}
 use Rattle.c_values.specs.Name.{Name, same_name}
 use Rattle.c_values.specs.Types.{CType}
 use Rattle.c_values.specs.Value.{Value, word_in}

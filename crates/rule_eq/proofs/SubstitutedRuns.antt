@@ -18,7 +18,8 @@ use Rattle.ac_expr.specs.Substituted.{substituted, path_substituted}
 use Rattle.expression_lang.specs.Sort.{Scalar}
 use Rattle.expression_lang.specs.Sorted.{names_with}
 use Rattle.expression_lang.specs.Signature.{Signature, values_of, bound}
-use Rattle.ac_expr.proofs.AgreeingValues.{Agree, value_agrees}
+use Rattle.monad_lang.specs.Agree.{AgreeOn}
+use Rattle.monad_lang.proofs.AgreeingValues.{value_agrees}
 use Rattle.ac_expr.proofs.SubstitutedValues.{held_left, held_right, value_put}
 use Rattle.ac_expr.specs.Heads.{hole, path_children, path_head}
 use Rattle.ac_expr.proofs.SameValues.{unread_same}
@@ -132,7 +133,7 @@ module _ (l : Layout) (laid : IsLayout l) (p : Choice) (vs : List GlobalVar) (si
       let w = h k in
       record {
         unread = w.unread;
-        held = bound_stays x xs us env' away ∙ w.held ∙ unread_same l env s t tags e w.unread ∙ sym (value_agrees l env (bound xs us env) t e (λ y i. bound_stays y xs us env (apart k y i)));
+        held = bound_stays x xs us env' away ∙ w.held ∙ unread_same l env s t tags e w.unread ∙ sym (value_agrees l (bound xs us env) env t e (λ y i. bound_stays y xs us env (apart k y i)));
       }
 
   abbrev NotCaptured : Mon → Type 0
@@ -155,7 +156,7 @@ module _ (l : Layout) (laid : IsLayout l) (p : Choice) (vs : List GlobalVar) (si
   within xs b env env' s away h k = h (ap (λ a. not a && b) away ∙ k)
 
   -- inside a binder of the name both are the same
-  same_inside : (test : Name → Bool) (xs : List Name) (us : List Value) (env env' : Env) → AsMany xs us → is_among x xs ≡ true → Others env env' → Agree test (bound xs us env') (bound xs us env)
+  same_inside : (test : Name → Bool) (xs : List Name) (us : List Value) (env env' : Env) → AsMany xs us → is_among x xs ≡ true → Others env env' → AgreeOn test (bound xs us env) (bound xs us env')
   same_inside test xs us env env' many here others y i = bound_alike y xs us env' env many (λ n. sym (others y (other_one x y xs here n)))
 
   still : (xs : List Name) (us : List Value) (env env' : Env) → Others env env' → Others (bound xs us env) (bound xs us env')
@@ -216,8 +217,8 @@ module _ (l : Layout) (laid : IsLayout l) (p : Choice) (vs : List GlobalVar) (si
     bound_does : is_among x xs ≡ true → DoesSame (M.Loop starts guard test m) (M.Loop (starts_substituted x e starts) guard test m) env' env depth fs gs s
     bound_does i =
         loop_does l p vs sigs P respects starts (starts_substituted x e starts) guard guard test test m m env' env depth (TurningWith k.given s)
-        (λ a t. ap truth_in (value_agrees l (bound xs a.values env') (bound xs a.values env) a.state guard (same_inside (λ y. X.names y guard) xs a.values env env' (many a t) i others)))
-        (λ a t j. ap truth_in (value_agrees l (bound xs a.values env') (bound xs a.values env) a.state test (same_inside (λ y. X.names y test) xs a.values env env' (many a t) i others)))
+        (λ a t. ap truth_in (value_agrees l (bound xs a.values env) (bound xs a.values env') a.state guard (same_inside (λ y. X.names y guard) xs a.values env env' (many a t) i others)))
+        (λ a t j. ap truth_in (value_agrees l (bound xs a.values env) (bound xs a.values env') a.state test (same_inside (λ y. X.names y test) xs a.values env env' (many a t) i others)))
         (λ hs js paired a t j. agrees l laid p vs sigs P respects m loop_names k.given k.body (bound xs a.values env') (bound xs a.values env) (same_inside (λ y. is_free y m) xs a.values env env' (many a t) i others) depth hs js a.state (starts_there hs js paired a t))
         (λ hs js paired a t b r r'. next guard test hs js paired a t b r)
         fs gs w.functions s (start_names_put x e starts) begins begins_with

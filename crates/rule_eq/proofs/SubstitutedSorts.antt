@@ -15,7 +15,7 @@ use Rattle.monad_lang.specs.Program.{Place, Stored, Written, Global as GlobalPla
 use Rattle.monad_lang.specs.Names.{is_in_some, is_in_start, is_in_place}
 use Rattle.monad_lang.specs.Sorted.{place_sort, start_scalars}
 use Rattle.program_facts.specs.Substituted.{each_substituted, starts_substituted, place_substituted}
-use Rattle.rule_eq.proofs.AgreeingSorts.{in_scope, same_along, same_global, same_member}
+use Rattle.monad_lang.proofs.AgreeingSorts.{in_scope, same_along, same_global, same_member}
 
 one_step : (x : Name) (e : Exp) (path : Path) → is_one_step (path_substituted x e path) ≡ is_one_step path
 one_step x e Here = refl

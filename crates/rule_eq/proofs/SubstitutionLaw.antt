@@ -2,7 +2,7 @@
 use Rattle.std.proofs.Common.{◌≡◌, ℕ, true, false, List, [], ◌∷◌, map, Option, Some, ◌⊎◌, inl, inr, refl, sym, ◌∙◌, subst}
 use Rattle.std.proofs.lemmas.Bool.{cond-false, true≢false}
 use Rattle.correspondence.specs.Corresponds.{Corresponds, Paired}
-use Rattle.phase_relations.specs.Related.{Same, BothFail}
+use Rattle.correspondence.specs.Related.{Same, BothFail}
 use Rattle.c_values.specs.Name.{Name, same_name, with_name}
 use Rattle.c_values.specs.Layout.{Layout}
 use Rattle.c_values.specs.Choice.{Choice}

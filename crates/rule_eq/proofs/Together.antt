@@ -3,10 +3,10 @@
 use Rattle.std.proofs.Common.{◌≡◌, ℕ, Bool, true, false, List, [], ◌∷◌, Option, ◌⊎◌, inl, inr, refl, sym, ap, ◌∙◌, subst}
 use Rattle.correspondence.specs.Outcome.{Done, Ends, done, Then, choose, loop}
 use Rattle.correspondence.specs.Corresponds.{Corresponds, Either, Paired}
-use Rattle.phase_relations.specs.Related.{Related, Same, BothFail}
+use Rattle.correspondence.specs.Related.{Related, Same, BothFail}
 use Rattle.correspondence.proofs.Corresponds.{done_corresponds, fault_corresponds, then_corresponds, choose_corresponds}
-use Rattle.phase_relations.proofs.Related.{called_related}
-use Rattle.phase_relations.proofs.Turning.{turning_corresponds, Reached, reached}
+use Rattle.correspondence.proofs.Related.{called_related}
+use Rattle.correspondence.proofs.Turning.{turning_corresponds, Reached, reached}
 use Rattle.c_values.specs.Name.{Name}
 use Rattle.c_values.specs.Value.{truth_in}
 use Rattle.c_values.specs.Layout.{Layout, GlobalVar}
@@ -20,8 +20,8 @@ use Rattle.monad_lang.specs.Program.{Mon, Place, Start}
 use Rattle.monad_lang.specs.Run.{Answer, Failure, Runs, runs, written, entered, start_names, start_values}
 use Rattle.monad_lang.specs.Reach.{AtEach, EachTurn, IsTurn, IfTrue, IfFalse}
 use Rattle.program_facts.specs.Places.{place_children, place_head}
-use Rattle.program_facts.specs.Lasting.{FunctionLasts, FunctionKeepsTags, AllLast, AllKeepTags}
-use Rattle.rule_eq.specs.Kept.{CanBeCalled, SameCall}
+use Rattle.program_facts.specs.Lasting.{FunctionLasts, FunctionKeepsTags, AllLast, AllKeepTags, CanBeCalled}
+use Rattle.rule_eq.specs.Kept.{SameCall}
 use Rattle.program_facts.proofs.PlacesAgree.{written_same}
 
 -- what holds at a write or a call hangs on its values alone

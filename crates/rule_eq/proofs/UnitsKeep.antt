@@ -2,7 +2,7 @@
 use Rattle.std.proofs.Common.{◌≡◌, ℕ, zero, suc, Bool, true, false, cond, List, [], ◌∷◌, map, Option, Some, None, refl, sym, ap, ap₂, ◌∙◌, subst}
 use Rattle.std.proofs.lemmas.Bool.{and_parts}
 use Rattle.correspondence.specs.Corresponds.{Corresponds, Paired}
-use Rattle.phase_relations.specs.Related.{Same, BothFail}
+use Rattle.correspondence.specs.Related.{Same, BothFail}
 use Rattle.c_values.specs.Name.{Name, same_name}
 use Rattle.c_values.specs.Layout.{Layout, GlobalVar, global_type}
 use Rattle.c_values.specs.Choice.{Choice}
@@ -14,10 +14,10 @@ use Rattle.expression_lang.specs.States.{IsEnvironment}
 use Rattle.monad_lang.specs.Program.{Mon, FinalFn, FinalUnit, final_fn}
 use Rattle.monad_lang.specs.Run.{runs, function_runs, functions_below, program_runs}
 use Rattle.monad_lang.specs.Sorted.{Setting, signature_of, scalars_given, are_scalars, has_few, IsWellFormed}
-use Rattle.program_facts.specs.Lasting.{AreOfSorts, setting_in, setting_for, is_sorted_for, are_sorted_for}
+use Rattle.program_facts.specs.Lasting.{AreOfSorts, setting_in, setting_for, is_sorted_for, are_sorted_for, CanBeCalled}
 use Rattle.program_facts.proofs.SortedValues.{bound_sorted}
 use Rattle.program_facts.proofs.RunsLast.{found, sorted_at_kinds}
-use Rattle.rule_eq.specs.Kept.{CanBeCalled, EqualKept}
+use Rattle.rule_eq.specs.Kept.{EqualKept}
 use Rattle.rule_eq.specs.Exact.{AreAlike, DoesSame}
 use Rattle.rule_eq.specs.Units.{parameters_of, IsTakenTo, AreTakenTo, IsUnitTakenTo, UnitsKeepEqual}
 use Rattle.program_facts.proofs.Sorts.{some_is, given_there}
@@ -61,6 +61,9 @@ same_signatures u (f ∷ fs) (g ∷ gs) h = ap₂ (λ s ss. s ∷ ss) (same_sign
 same_signatures u [] (g ∷ gs) h = absurd h
 same_signatures u (f ∷ fs) [] h = absurd h
 
+pub taken_alike : (u v : FinalUnit) → IsUnitTakenTo u v → AreAlike u v
+taken_alike u v h = record { layout = h.layout; globals = h.globals; functions = same_signatures u u.functions v.functions h.functions }
+
 abbrev setting_with : Layout → List GlobalVar → List Signature → List Binder → Setting
 setting_with l vs fs bs = record {
   scope = record { layout = l; names = names_with (names_of bs) (map sort_of_kind (kinds_of bs)) (λ x. None); globals = global_type vs };
@@ -70,7 +73,7 @@ setting_with l vs fs bs = record {
 
 module _ (u v : FinalUnit) (formed : IsWellFormed u) (formed' : IsWellFormed v) (taken : IsUnitTakenTo u v) where
   alike : AreAlike u v
-  alike = record { layout = taken.layout; globals = taken.globals; functions = same_signatures u u.functions v.functions taken.functions }
+  alike = taken_alike u v taken
 
   same_setting : (f g : FinalFn) → g.params ≡ f.params → setting_for sort_of_kind v g ≡ setting_for sort_of_kind u f
   same_setting f g h =

@@ -1,7 +1,7 @@
 -- What an accepted tree gives of two programs alone.
 use Rattle.std.specs.Prelude.{◌≡◌, ℕ, List, map, Option}
 use Rattle.correspondence.specs.Corresponds.{Corresponds}
-use Rattle.phase_relations.specs.Related.{Same, BothFail}
+use Rattle.correspondence.specs.Related.{Same, BothFail}
 use Rattle.c_values.specs.Name.{Name}
 use Rattle.c_values.specs.Value.{Value}
 use Rattle.c_values.specs.Choice.{Choice}

@@ -1,8 +1,8 @@
 //! Laws of the rules, as contracts of functions that do nothing.
 
-ghost use Rattle.std.specs.Prelude.{◌≡◌, ◌⊎◌, ℕ, true, false, List, Option, Some};
+ghost use Rattle.std.specs.Prelude.{◌≡◌, ◌⊎◌, ◌↔◌, ℕ, true, false, List, Option, Some};
 ghost use Rattle.correspondence.specs.Corresponds.{Corresponds, Paired};
-ghost use Rattle.phase_relations.specs.Related.{Same, BothFail};
+ghost use Rattle.correspondence.specs.Related.{Same, BothFail};
 ghost use Rattle.c_values.specs.Name.{Name, with_name};
 ghost use Rattle.c_values.specs.Layout.{Layout};
 ghost use Rattle.c_values.specs.Choice.{Choice};
@@ -14,6 +14,7 @@ ghost use Rattle.expression_lang.specs.States.{IsEnvironment, IsState};
 ghost use Rattle.ac_expr.specs.Substituted.{substituted};
 ghost use Rattle.ac_expr.specs.Fact.{Fact};
 ghost use Rattle.monad_lang.specs.Program.{Mon, FinalUnit};
+ghost use Rattle.monad_lang.specs.Form.{is_tidy};
 ghost use Rattle.monad_lang.specs.Names.{is_free, is_captured};
 ghost use Rattle.monad_lang.specs.Run.{runs, functions_below};
 ghost use Rattle.monad_lang.specs.Sorted.{scalars_given, IsWellFormed};
@@ -24,7 +25,7 @@ ghost use Rattle.rule_eq.specs.Rule.{Rule, Point};
 ghost use Rattle.rule_eq.specs.Table.{point, row, Takes};
 ghost use Rattle.rule_eq.specs.Kept.{EqualKept};
 ghost use Rattle.rule_eq.specs.Exact.{AreAlike, DoesSame};
-ghost use Rattle.rule_eq.specs.Tidy.{Simplifies, KeepsForms};
+ghost use Rattle.rule_eq.specs.Tidy.{Simplifies, KeepsForms, IsSimplified, AtSomePlace};
 ghost use Rattle.rule_eq.specs.Units.{IsUnitTakenTo, UnitsKeepEqual};
 
 /// An expression with another one in place of a name has the value that it has where the name holds the other's value. A well-sorted
@@ -71,4 +72,12 @@ pub fn simplifying_keeps_sorts()
         scalars_given at.setting m' ≡ Some given }
     ensures forms { (at : Point) (rule : Rule) (m m' : Mon) → Simplifies rule →
         (row at rule m m').holds → KeepsForms m m' }
+{}
+
+/// A program is tidy exactly where none of its places is the left side of a rule that makes
+/// programs simpler: a value that is given back or given to nobody, a Bind in first place, an If on
+/// a constant, a guard that is `#t`, a variable or a constant that can be put in. At whatever point:
+/// none of these rules looks at what is known there.
+pub fn tidy_is_exact()
+    ensures { (at : Point) (m : Mon) → (is_tidy m ≡ true) ↔ (AtSomePlace (IsSimplified at) m → ⊥) }
 {}

@@ -5,4 +5,5 @@ mod laws;
 
 pub use laws::{
     simplifying_keeps_sorts, substitution_is_exact, taken_is_exact, taken_units_keep_equal,
+    tidy_is_exact,
 };

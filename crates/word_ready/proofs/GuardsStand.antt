@@ -1,12 +1,11 @@
--- The guard of an operation gives what the operation stands for, wherever it stands behind the guard, under the conditions that the guard
--- names, and however many guards are between.
-use Rattle.std.proofs.Common.{◌≡◌, Bool, true, false, cond, ◌||◌, List, [], ◌∷◌, ◌++◌, map, Option, Some, None, ◌⊎◌, inl, inr, refl, sym, subst, ap, ap₂, ◌∙◌}
+-- The guard of an operation gives what the operation stands for, wherever it stands behind the guard, under the conditions that
+-- the guard names, and however many guards are between.
+use Rattle.std.proofs.Common.{◌≡◌, Bool, true, false, cond, ◌||◌, List, [], ◌∷◌, ◌++◌, map, Option, Some, None, ◌⊎◌, inl, inr, refl, ap, ◌∙◌}
 use Rattle.expression_lang.specs.Expression as X
 use Rattle.expression_lang.specs.Expression.{Exp}
 use Rattle.expression_lang.specs.Sort.{Scope}
 use Rattle.expression_lang.specs.Signature.{Binder}
 use Rattle.ac_expr.specs.Fact.{Fact, Whole, stands_for}
-use Rattle.rule_word.specs.Scopes.{own}
 use Rattle.rule_word.specs.Table.{truth}
 use Rattle.rule_word.specs.Bases.{Surroundings, under, among, Base, Naturals, Integers, or_else, gives_at_once, some_gives, range_given, first_range, oldest_range}
 use Rattle.rule_word.specs.WordsAbstracted.{abstracted}

@@ -1,7 +1,7 @@
--- A sum, a difference, a product, a negation or a signed quotient is of numbers wherever its guard stands in front of it, under the
--- conditions that the guard names, where its operands were ready at the guard.
-use Rattle.std.proofs.Common.{◌≡◌, ℕ, Bool, true, false, cond, ◌&&◌, ◌||◌, not, List, [], ◌∷◌, ◌++◌, map, Option, Some, None, ◌⊎◌, inl, inr, refl, sym, subst, ap, ap₂, ◌∙◌}
-use Rattle.c_values.specs.Word.{WordOp, Wsdiv, UnaryOp, Wneg}
+-- A sum, a difference, a product, a negation or a signed quotient is of numbers wherever its guard stands in front of it, under
+-- the conditions that the guard names, where its operands were ready at the guard.
+use Rattle.std.proofs.Common.{◌≡◌, ℕ, Bool, true, false, cond, List, [], ◌∷◌, ◌++◌, map, Option, Some, None, inl, inr, refl, sym, subst, ap, ap₂, ◌∙◌}
+use Rattle.c_values.specs.Word.{WordOp, Wsdiv, Wneg}
 use Rattle.c_values.specs.Number as N
 use Rattle.c_values.specs.Number.{least, greatest}
 use Rattle.expression_lang.specs.Expression as X
@@ -11,7 +11,7 @@ use Rattle.expression_lang.specs.Signature.{Binder}
 use Rattle.ac_expr.specs.Fact.{Fact, Whole, stands_for}
 use Rattle.rule_word.specs.Rule.{View, Unsigned, Signed}
 use Rattle.rule_word.specs.Scopes.{own, width_in}
-use Rattle.rule_word.specs.Bases.{Surroundings, under, among, Base, Words, Naturals, Integers, natural_range, integer_range, or_else, some_gives, range_given, first_range, oldest_range, or_words, base_in, signed_or_words}
+use Rattle.rule_word.specs.Bases.{Surroundings, under, among, Base, Naturals, Integers, natural_range, integer_range, or_else, some_gives, range_given, first_range, oldest_range, or_words, base_in, signed_or_words}
 use Rattle.rule_word.specs.WordsAbstracted.{Abstracted, Operands, operands, or_zero, binary_base, negation_base, abstracted}
 use Rattle.rule_word.specs.Ready.{is_no_word, ready}
 use Rattle.rule_word.proofs.AbstractedStays.{IsLater, stays}

@@ -1,11 +1,10 @@
 -- Programs whose sums are guarded at one place and stand at another, as they are generated for some C functions: each is ready. In all of
 -- them a sum of two words is guarded as signed and as unsigned.
-use Rattle.std.proofs.Common.{◌≡◌, ℕ, ◌==◌, Bool, true, false, ◌&&◌, List, [], ◌∷◌, Option, Some, None, ℤ, pos, negsuc, refl}
+use Rattle.std.proofs.Common.{◌≡◌, ◌==◌, Bool, true, false, ◌&&◌, List, [], ◌∷◌, None, ℤ, pos, refl}
 use Rattle.std.specs.Prelude.{int_le}
-use Rattle.c_values.specs.Name.{Name, same_name}
-use Rattle.c_values.specs.Types.{Target, Lp64}
-use Rattle.c_values.specs.Layout.{Layout}
-use Rattle.c_values.specs.Word.{Word, WordOp, Wadd, Wsdiv, WordTest, Wult, Wule, Wslt, Wsle, word}
+use Rattle.c_values.specs.Name.{same_name}
+use Rattle.c_values.specs.Types.{Lp64}
+use Rattle.c_values.specs.Word.{Wadd, Wsdiv, word}
 use Rattle.c_values.specs.Number as N
 use Rattle.c_values.specs.Number.{least, greatest}
 use Rattle.expression_lang.specs.Expression as X
