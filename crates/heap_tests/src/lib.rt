@@ -1,5 +1,0 @@
-//! The tests of what lifts programs to typed heaps.
-#![tactic(auto)]
-
-#[cfg(test)]
-mod lifted;

@@ -1,0 +1,362 @@
+//! Expressions and programs from words, heads before their parts (Polish notation). The words are read from the last to the first,
+//! with a stack for what has been read. Words are of 32 bits where nothing else is said, and objects of type `int`.
+
+use c_values::{
+    CType, IntType, Number, NumberOp, ShiftOp, UnaryOp, Word, WordOp, WordTest, copy_of,
+};
+use expression_lang::{CastOp, Exp, Kind, Path};
+use monad_lang::{Mon, Place, Start};
+use std::alloc::{AllocError, Global};
+use std::test::Fail;
+
+/// What a word with its parts spells.
+#[derive(Drop)]
+enum Spelled {
+    Exp(Exp),
+    Program(Mon),
+}
+
+// What has been read: what stands before comes last.
+type Stack = Vec<Spelled>;
+
+fn exp(stack: &mut Stack) -> Result<Exp, Fail> {
+    match stack.pop() {
+        Some(Spelled::Exp(e)) => Ok(e),
+        _ => Err(Fail::from("an expression is wanted")),
+    }
+}
+
+fn boxed(alloc: Global, stack: &mut Stack) -> Result<Box<Exp>, Fail> {
+    Ok(Box::new(alloc, exp(stack)?)?)
+}
+
+fn program(alloc: Global, stack: &mut Stack) -> Result<Box<Mon>, Fail> {
+    match stack.pop() {
+        Some(Spelled::Program(m)) => Ok(Box::new(alloc, m)?),
+        _ => Err(Fail::from("a program is wanted")),
+    }
+}
+
+fn name(stack: &mut Stack) -> Result<String, Fail> {
+    match &exp(stack)? {
+        Exp::Var(name) => Ok(name.clone()?),
+        _ => Err(Fail::from("a name is wanted")),
+    }
+}
+
+fn names(alloc: Global, stack: &mut Stack, count: u32) -> Result<Vec<String>, Fail> {
+    let mut names = Vec::new(alloc);
+    for _ in 0..count {
+        names.push(name(stack)?)?;
+    }
+    Ok(names)
+}
+
+fn exps(alloc: Global, stack: &mut Stack, count: u32) -> Result<Vec<Exp>, Fail> {
+    let mut exps = Vec::new(alloc);
+    for _ in 0..count {
+        exps.push(exp(stack)?)?;
+    }
+    Ok(exps)
+}
+
+fn starts(alloc: Global, stack: &mut Stack, count: u32) -> Result<Vec<Start>, Fail> {
+    let mut starts = Vec::new(alloc);
+    for _ in 0..count {
+        let name = name(stack)?;
+        starts.push(Start {
+            name,
+            exp: exp(stack)?,
+        })?;
+    }
+    Ok(starts)
+}
+
+/// The type of objects.
+pub(crate) fn int() -> CType {
+    CType::Int(IntType::Int)
+}
+
+// Four of them.
+fn row(alloc: Global) -> Result<CType, AllocError> {
+    Ok(CType::Array(Box::new(alloc, int())?, 4))
+}
+
+// The element of an index.
+fn element(alloc: Global, index: Box<Exp>) -> Result<Path, AllocError> {
+    Ok(Path::Index(index, Box::new(alloc, Path::Here)?))
+}
+
+/// A word with a number in front, and without one.
+pub(crate) fn counted(word: &str) -> (u32, &str) {
+    for (digit, count) in [('1', 1u32), ('2', 2), ('3', 3), ('4', 4)] {
+        if let Some(name) = word.strip_prefix(digit) {
+            return (count, name);
+        }
+    }
+    (0, word)
+}
+
+// Constants.
+fn constant(word: &str) -> Option<Exp> {
+    match word {
+        "true" => Some(Exp::Truth(true)),
+        "false" => Some(Exp::Truth(false)),
+        "one" => Some(Exp::Word(Word::new(32, 1))),
+        "two" => Some(Exp::Word(Word::new(32, 2))),
+        "minus" => Some(Exp::Word(Word::new(32, 4_294_967_295))),
+        "byte" => Some(Exp::Word(Word::new(8, 200))),
+        "n1" => Some(Exp::Number(Number::new(false, 1))),
+        "n2" => Some(Exp::Number(Number::new(false, 2))),
+        "n200" => Some(Exp::Number(Number::new(false, 200))),
+        "nmax" => Some(Exp::Number(Number::new(false, 4_294_967_295))),
+        "m1" => Some(Exp::Number(Number::new(true, 1))),
+        _ => None,
+    }
+}
+
+// An operation on words.
+fn word_op(word: &str) -> Option<WordOp> {
+    Some(match word {
+        "wadd" => WordOp::Wadd,
+        "wsub" => WordOp::Wsub,
+        "wmul" => WordOp::Wmul,
+        "wudiv" => WordOp::Wudiv,
+        "wumod" => WordOp::Wumod,
+        "wsdiv" => WordOp::Wsdiv,
+        "wsmod" => WordOp::Wsmod,
+        "wand" => WordOp::Wand,
+        _ => return None,
+    })
+}
+
+// A test of words.
+fn word_test(word: &str) -> Option<WordTest> {
+    Some(match word {
+        "wult" => WordTest::Wult,
+        "wule" => WordTest::Wule,
+        "wslt" => WordTest::Wslt,
+        "wsle" => WordTest::Wsle,
+        _ => return None,
+    })
+}
+
+// An operation on numbers.
+fn number_op(word: &str) -> Option<NumberOp> {
+    Some(match word {
+        "add" => NumberOp::Add,
+        "sub" => NumberOp::Sub,
+        "mul" => NumberOp::Mul,
+        "div" => NumberOp::Div,
+        "mod" => NumberOp::Mod,
+        _ => return None,
+    })
+}
+
+// Whether a number is one that a word of 32 bits is, by its unsigned or its signed value.
+fn in_range(signed: bool, e: Box<Exp>) -> Exp {
+    if signed {
+        Exp::Between(
+            Number::new(true, 2_147_483_648),
+            e,
+            Number::new(false, 2_147_483_647),
+        )
+    } else {
+        Exp::Between(Number::new(false, 0), e, Number::new(false, 4_294_967_295))
+    }
+}
+
+// Whether a number is the index of one of four.
+fn index(e: Box<Exp>) -> Exp {
+    Exp::Between(Number::new(false, 0), e, Number::new(false, 3))
+}
+
+// An expression over one part.
+fn over_one(alloc: Global, word: &str, part: Box<Exp>) -> Result<Exp, Fail> {
+    Ok(match word {
+        "wneg" => Exp::WordUnary(UnaryOp::Wneg, part),
+        "wnot" => Exp::WordUnary(UnaryOp::Wnot, part),
+        "zext" => Exp::Cast(CastOp::Zext, 64, part),
+        "sext" => Exp::Cast(CastOp::Sext, 64, part),
+        "trunc" => Exp::Cast(CastOp::Trunc, 8, part),
+        "nat" => Exp::ToNat(part),
+        "int" => Exp::ToInt(part),
+        "word" => Exp::ToWord(32, part),
+        "long" => Exp::ToWord(64, part),
+        "neg" => Exp::Negate(part),
+        "not" => Exp::Not(part),
+        "natural" => in_range(false, part),
+        "integer" => in_range(true, part),
+        "index" => index(part),
+        "load" => Exp::Load(int(), part, Path::Here),
+        "read" => Exp::Read(int(), part, Path::Here),
+        "tagged" => Exp::Tagged(int(), part),
+        "ptrok" => Exp::PtrOk(int(), part),
+        "at" => Exp::At(int(), part, Path::Here),
+        "tagged_row" => Exp::Tagged(row(alloc)?, part),
+        "ptrok_row" => Exp::PtrOk(row(alloc)?, part),
+        _ => return Err(Fail::from("no such word over one part")),
+    })
+}
+
+// An expression over two parts.
+fn over_two(alloc: Global, word: &str, a: Box<Exp>, b: Box<Exp>) -> Result<Exp, Fail> {
+    if let Some(op) = word_op(word) {
+        return Ok(Exp::WordBinary(op, a, b));
+    }
+    if let Some(test) = word_test(word) {
+        return Ok(Exp::WordCompare(test, a, b));
+    }
+    if let Some(op) = number_op(word) {
+        return Ok(Exp::Arith(op, a, b));
+    }
+    Ok(match word {
+        "shl" => Exp::WordShift(ShiftOp::Wshl, a, b),
+        "lt" => Exp::Lt(a, b),
+        "le" => Exp::Le(a, b),
+        "eq" => Exp::Eq(a, b),
+        "and" => Exp::And(a, b),
+        "or" => Exp::Or(a, b),
+        "imp" => Exp::Imp(a, b),
+        "padd" => Exp::Padd(int(), a, b),
+        "load_at" => Exp::Load(row(alloc)?, a, element(alloc, b)?),
+        "read_at" => Exp::Read(row(alloc)?, a, element(alloc, b)?),
+        "at_at" => Exp::At(row(alloc)?, a, element(alloc, b)?),
+        _ => return Err(Fail::from("no such word over two parts")),
+    })
+}
+
+// A step of a program over expressions.
+fn step(alloc: Global, word: &str, count: u32, stack: &mut Stack) -> Result<Mon, Fail> {
+    Ok(match word {
+        "ret" => Mon::Ret(exps(alloc, stack, count)?),
+        "guard" => Mon::Guard(exp(stack)?),
+        "pick" => Mon::Pick(Kind::Word(32)),
+        "pick_nat" => Mon::Pick(Kind::Nat(32)),
+        "pick_int" => Mon::Pick(Kind::Int(32)),
+        "call" => Mon::Call(name(stack)?, exps(alloc, stack, count)?),
+        "store" => Mon::Write(Place::Stored(int(), exp(stack)?, Path::Here), exp(stack)?),
+        "write" => Mon::Write(Place::Written(int(), exp(stack)?, Path::Here), exp(stack)?),
+        "store_at" => {
+            let root = exp(stack)?;
+            let path = element(alloc, boxed(alloc, stack)?)?;
+            Mon::Write(Place::Stored(row(alloc)?, root, path), exp(stack)?)
+        }
+        "write_at" => {
+            let root = exp(stack)?;
+            let path = element(alloc, boxed(alloc, stack)?)?;
+            Mon::Write(Place::Written(row(alloc)?, root, path), exp(stack)?)
+        }
+        "set" => Mon::Write(Place::Global(name(stack)?, Path::Here), exp(stack)?),
+        _ => return Err(Fail::from("no such step")),
+    })
+}
+
+// A program over programs.
+fn whole(alloc: Global, word: &str, count: u32, stack: &mut Stack) -> Result<Mon, Fail> {
+    Ok(match word {
+        "bind" => {
+            let first = program(alloc, stack)?;
+            let names = names(alloc, stack, count)?;
+            Mon::Bind(first, names, program(alloc, stack)?)
+        }
+        "if" => {
+            let test = exp(stack)?;
+            let first = program(alloc, stack)?;
+            Mon::If(test, first, program(alloc, stack)?)
+        }
+        "loop" => {
+            let starts = starts(alloc, stack, count)?;
+            let guard = exp(stack)?;
+            let test = exp(stack)?;
+            Mon::Loop(starts, guard, test, program(alloc, stack)?)
+        }
+        _ => return Err(Fail::from("no such program")),
+    })
+}
+
+// One word more.
+fn read(alloc: Global, word: &str, stack: &mut Stack) -> Result<Spelled, Fail> {
+    if let Some(e) = constant(word) {
+        return Ok(Spelled::Exp(e));
+    }
+    let (count, head) = counted(word);
+    Ok(match head {
+        "ret"
+        | "guard"
+        | "pick"
+        | "pick_nat"
+        | "pick_int"
+        | "call"
+        | "store"
+        | "write"
+        | "store_at"
+        | "write_at"
+        | "set" => Spelled::Program(step(alloc, head, count, stack)?),
+        "bind" | "if" | "loop" => Spelled::Program(whole(alloc, head, count, stack)?),
+        "wneg"
+        | "wnot"
+        | "zext"
+        | "sext"
+        | "trunc"
+        | "nat"
+        | "int"
+        | "word"
+        | "long"
+        | "neg"
+        | "not"
+        | "natural"
+        | "integer"
+        | "index"
+        | "load"
+        | "read"
+        | "tagged"
+        | "ptrok"
+        | "at"
+        | "tagged_row"
+        | "ptrok_row" => Spelled::Exp(over_one(alloc, head, boxed(alloc, stack)?)?),
+        "choose" => {
+            let test = boxed(alloc, stack)?;
+            let first = boxed(alloc, stack)?;
+            Spelled::Exp(Exp::If(test, first, boxed(alloc, stack)?))
+        }
+        _ => {
+            if head.len() == 1 {
+                Spelled::Exp(Exp::Var(String::from_str(alloc, head)?))
+            } else {
+                let first = boxed(alloc, stack)?;
+                Spelled::Exp(over_two(alloc, head, first, boxed(alloc, stack)?)?)
+            }
+        }
+    })
+}
+
+// What words spell.
+fn read_words(alloc: Global, words: &str) -> Result<Spelled, Fail> {
+    let mut stack = Vec::new(alloc);
+    for word in words.rsplit(' ') {
+        let one = read(alloc, word, &mut stack)?;
+        stack.push(one)?;
+    }
+    match stack.pop() {
+        Some(one) => Ok(one),
+        None => Err(Fail::from("no words")),
+    }
+}
+
+/// The expression that words spell: names of one letter, constants, and heads before their parts.
+pub(crate) fn expression(alloc: Global, words: &str) -> Result<Exp, Fail> {
+    match read_words(alloc, words)? {
+        Spelled::Exp(e) => Ok(e),
+        Spelled::Program(_) => Err(Fail::from("an expression is wanted")),
+    }
+}
+
+/// The program that words spell. `2ret a b` gives two values, `1bind M x N` binds a name of M in N, `if e M N` asks e, `1loop x e g t M`
+/// begins with e under x, and `1call f a` calls f with a.
+pub(crate) fn program_of(alloc: Global, words: &str) -> Result<Mon, Fail> {
+    match read_words(alloc, words)? {
+        Spelled::Program(m) => Ok(m),
+        Spelled::Exp(_) => Err(Fail::from("a program is wanted")),
+    }
+}
