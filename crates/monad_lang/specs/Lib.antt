@@ -10,3 +10,4 @@ pub mod CodeFront
 pub mod CodeCompared
 pub mod CodeCopied
 pub mod Agree
+pub mod CodeWeight

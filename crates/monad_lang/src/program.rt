@@ -1,7 +1,11 @@
 //! Programs as plain data. `specs/Program` has the language, and `specs/Run` what programs do.
 
+ghost use Rattle.std.specs.Prelude.{◌≤◌, ◌+◌, ◌*◌, IfSome, IfNone};
+ghost use Rattle.monad_lang.specs.CodeWeight.{weight};
+
 use c_values::{CType, Program};
-use expression_lang::{Binder, Exp, Kind, Level, Path};
+use core::mem::replace_with;
+use expression_lang::{Binder, Exp, Kind, Level, Named, Path};
 
 /// What is written.
 #[derive(Debug, Drop)]
@@ -34,59 +38,68 @@ pub enum Mon {
     If(Exp, Box<Mon>, Box<Mon>),
     /// The place takes the value.
     Write(Place, Exp),
-    /// Names with their start expressions, a guard and a test before each turn, and a body that gives the next values.
+    /// Names with their start expressions, a guard and a test before each turn, and a body that
+    /// gives the next values.
     Loop(Vec<Start>, Exp, Exp, Box<Mon>),
     Call(String, Vec<Exp>),
     /// Any value of the kind.
     Pick(Kind),
 }
 
-// A derived drop would call itself once for each program of a sequence.
+// A derived drop would call itself once for each program inside another. This one takes no stack:
+// it turns the program to the right, step by step, until it is one sequence.
 impl Drop for Mon {
     fn drop(mut self) {
         loop {
             match self {
-                Mon::Ret(values) => return drop_exps(values),
-                Mon::Guard(condition) => return drop_exp(condition),
-                Mon::Write(place, value) => return drop_write(place, value),
-                Mon::Call(function, arguments) => return drop_call(function, arguments),
+                Mon::Ret(_values) => return,
+                Mon::Guard(_condition) => return,
+                Mon::Write(_place, _value) => return,
+                Mon::Call(_function, _arguments) => return,
                 Mon::Pick(_kind) => return,
-                Mon::Bind(_first, names, last) => {
-                    drop_names(names);
-                    self = Box::into_inner(last);
-                }
-                Mon::If(test, _first, last) => {
-                    drop_exp(test);
-                    self = Box::into_inner(last);
-                }
-                Mon::Loop(starts, guard, test, last) => {
-                    drop_turn(starts, guard, test);
-                    self = Box::into_inner(last);
-                }
+                Mon::Bind(first, _names, last) => self = turned(first, last),
+                Mon::If(_test, first, last) => self = turned(first, last),
+                Mon::Loop(_starts, _guard, _test, last) => self = Box::into_inner(last),
             }
         }
     }
 }
 
-// What a program holds beside programs is dropped in frames of its own, so that a nested program takes little of the stack.
+/// The two in sequence, with nothing left to drop beside its parts. It is made in the room that
+/// there is.
+fn turned(mut first: Box<Mon>, last: Box<Mon>) -> Mon
+    ensures { weight result ≤ 2 * weight first.value + weight last.value }
+{
+    match replace_with(&mut *first, last, Mon::turn) {
+        Some(front) => Mon::Bind(front, Vec::new(), first),
+        None => Box::into_inner(first),
+    }
+}
 
-#[inline(never)]
-fn drop_exp(_e: Exp) {}
-
-#[inline(never)]
-fn drop_exps(_es: Vec<Exp>) {}
-
-#[inline(never)]
-fn drop_names(_names: Vec<String>) {}
-
-#[inline(never)]
-fn drop_write(_place: Place, _value: Exp) {}
-
-#[inline(never)]
-fn drop_call(_function: String, _arguments: Vec<Exp>) {}
-
-#[inline(never)]
-fn drop_turn(_starts: Vec<Start>, _guard: Exp, _test: Exp) {}
+impl Mon {
+    /// What is left of this program before the other: one program, or a first and what comes behind
+    /// it.
+    fn turn(self, last: Box<Mon>) -> (Mon, Option<Box<Mon>>)
+        ensures front { IfSome result.1 (λ front. 1 + (2 * weight front.value + weight result.0)
+            ≤ 2 * weight self + weight last.value) }
+        ensures no_front { IfNone result.1 (weight result.0 ≤ 2 * weight self + weight last.value) }
+    {
+        match self {
+            Mon::Ret(_values) => (Box::into_inner(last), None),
+            Mon::Guard(_condition) => (Box::into_inner(last), None),
+            Mon::Write(_place, _value) => (Box::into_inner(last), None),
+            Mon::Call(_function, _arguments) => (Box::into_inner(last), None),
+            Mon::Pick(_kind) => (Box::into_inner(last), None),
+            Mon::Bind(first, _names, middle) => {
+                (Mon::Bind(middle, Vec::new(), last), Some(first))
+            }
+            Mon::If(_test, first, middle) => (Mon::Bind(middle, Vec::new(), last), Some(first)),
+            Mon::Loop(_starts, _guard, _test, middle) => {
+                (Mon::Bind(middle, Vec::new(), last), None)
+            }
+        }
+    }
+}
 
 /// A function's program.
 #[derive(Debug, Drop)]
@@ -100,3 +113,23 @@ pub struct FinalFn {
 
 /// The programs of a text.
 pub type FinalUnit = Program<FinalFn>;
+
+impl Named for Start {
+    ghost use Rattle.std.specs.Prelude.{string_bytes};
+
+    ghost named = { λ start. string_bytes start.name };
+
+    fn name(&self) -> &str {
+        self.name.as_str()
+    }
+}
+
+impl Named for FinalFn {
+    ghost use Rattle.std.specs.Prelude.{string_bytes};
+
+    ghost named = { λ f. string_bytes f.name };
+
+    fn name(&self) -> &str {
+        self.name.as_str()
+    }
+}

@@ -9,3 +9,4 @@ pub mod CodeForms
 pub mod CodeFront
 pub mod CodeCompared
 pub mod CodeCopied
+pub mod CodeWeight

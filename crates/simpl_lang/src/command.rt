@@ -1,9 +1,14 @@
 //! Commands.
 
+ghost use Rattle.std.specs.Prelude.{◌≤◌, ◌+◌, ◌*◌, IfSome, IfNone};
+ghost use Rattle.simpl_lang.specs.CodeWeight.{weight};
+
 use c_values::CType;
+use core::mem::replace_with;
 use expression_lang::{Exp, Path};
 
-/// Why a guard stands where it does. `Tag` and `Wrap` are watched by a function's level, the others always.
+/// Why a guard stands where it does. `Tag` and `Wrap` are watched by a function's level, the others
+/// always.
 #[derive(Clone, Copy, Debug, PartialEq, Eq)]
 pub enum GuardKind {
     /// A divisor isn't zero.
@@ -55,60 +60,59 @@ pub enum Simpl {
     Call(Option<String>, String, Vec<Exp>),
 }
 
-// A derived drop would call itself once for each command of a sequence.
+// A derived drop would call itself once for each command inside another. This one takes no stack:
+// it turns the command to the right, step by step, until it is one sequence.
 impl Drop for Simpl {
     fn drop(mut self) {
         loop {
             match self {
                 Simpl::Skip | Simpl::Throw => return,
-                Simpl::Set(name, value) => return drop_set(name, value),
-                Simpl::SetGlobal(name, path, value) => return drop_global(name, path, value),
-                Simpl::Store(ty, pointer, path, value) => {
-                    return drop_store(ty, pointer, path, value);
-                }
-                Simpl::Pick(name) => return drop_name(name),
-                Simpl::Call(target, function, arguments) => {
-                    return drop_call(target, function, arguments);
-                }
-                Simpl::Seq(_first, last) | Simpl::Catch(_first, last) => {
-                    self = Box::into_inner(last);
-                }
-                Simpl::Cond(test, _first, last) => {
-                    drop_exp(test);
-                    self = Box::into_inner(last);
-                }
-                Simpl::Guard(condition, last) => {
-                    drop_exp(condition.exp);
-                    self = Box::into_inner(last);
-                }
-                Simpl::While(conditions, test, last) => {
-                    drop_tests(conditions, test);
-                    self = Box::into_inner(last);
-                }
+                Simpl::Set(_name, _value) => return,
+                Simpl::SetGlobal(_name, _path, _value) => return,
+                Simpl::Store(_ty, _pointer, _path, _value) => return,
+                Simpl::Pick(_name) => return,
+                Simpl::Call(_target, _function, _arguments) => return,
+                Simpl::Seq(first, last) | Simpl::Catch(first, last) => self = turned(first, last),
+                Simpl::Cond(_test, first, last) => self = turned(first, last),
+                Simpl::Guard(_condition, last) => self = Box::into_inner(last),
+                Simpl::While(_conditions, _test, last) => self = Box::into_inner(last),
             }
         }
     }
 }
 
-// What a command holds beside commands is dropped in frames of its own, so that a nested command takes little of the stack.
+/// The two in sequence, with nothing left to drop beside its parts. It is made in the room that
+/// there is.
+fn turned(mut first: Box<Simpl>, last: Box<Simpl>) -> Simpl
+    ensures { weight result ≤ 2 * weight first.value + weight last.value }
+{
+    match replace_with(&mut *first, last, Simpl::turn) {
+        Some(front) => Simpl::Seq(front, first),
+        None => Box::into_inner(first),
+    }
+}
 
-#[inline(never)]
-fn drop_exp(_e: Exp) {}
-
-#[inline(never)]
-fn drop_name(_name: String) {}
-
-#[inline(never)]
-fn drop_set(_name: String, _value: Exp) {}
-
-#[inline(never)]
-fn drop_global(_name: String, _path: Path, _value: Exp) {}
-
-#[inline(never)]
-fn drop_store(_ty: CType, _pointer: Exp, _path: Path, _value: Exp) {}
-
-#[inline(never)]
-fn drop_call(_target: Option<String>, _function: String, _arguments: Vec<Exp>) {}
-
-#[inline(never)]
-fn drop_tests(_conditions: Vec<Condition>, _test: Exp) {}
+impl Simpl {
+    /// What is left of this command before the other: one command, or a first and what comes behind
+    /// it.
+    fn turn(self, last: Box<Simpl>) -> (Simpl, Option<Box<Simpl>>)
+        ensures front { IfSome result.1 (λ front. 1 + (2 * weight front.value + weight result.0)
+            ≤ 2 * weight self + weight last.value) }
+        ensures no_front { IfNone result.1 (weight result.0 ≤ 2 * weight self + weight last.value) }
+    {
+        match self {
+            Simpl::Skip | Simpl::Throw => (Box::into_inner(last), None),
+            Simpl::Set(_name, _value) => (Box::into_inner(last), None),
+            Simpl::SetGlobal(_name, _path, _value) => (Box::into_inner(last), None),
+            Simpl::Store(_ty, _pointer, _path, _value) => (Box::into_inner(last), None),
+            Simpl::Pick(_name) => (Box::into_inner(last), None),
+            Simpl::Call(_target, _function, _arguments) => (Box::into_inner(last), None),
+            Simpl::Seq(first, middle) | Simpl::Catch(first, middle) => {
+                (Simpl::Seq(middle, last), Some(first))
+            }
+            Simpl::Cond(_test, first, middle) => (Simpl::Seq(middle, last), Some(first)),
+            Simpl::Guard(_condition, middle) => (Simpl::Seq(middle, last), None),
+            Simpl::While(_conditions, _test, middle) => (Simpl::Seq(middle, last), None),
+        }
+    }
+}
