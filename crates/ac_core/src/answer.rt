@@ -1,4 +1,5 @@
-//! The answer to words: the status and the lines that go to the sink, made whole before the first byte is written.
+//! The answer to words: the status and the lines that go to the sink, made whole before the first
+//! byte is written.
 
 ghost use Rattle.std.specs.Prelude.{◌≡◌, ◌<◌, ◌≤◌, ◌^◌, ℕ, List, map, length, IfOk, None, Some, codes, string_bytes, ◌++◌};
 ghost use Rattle.ac_core.specs.Words.{command_of, plain_show};

@@ -1,5 +1,5 @@
-//! Which typed texts are shown: those without globals that have at most one function, which returns a sum of its unsigned
-//! parameters and of constants.
+//! Which typed texts are shown: those without globals that have at most one function, which returns
+//! a sum of its unsigned parameters and of constants.
 
 ghost use Rattle.std.specs.Prelude.{◌≡◌, map, IfOk, option_map, string_bytes};
 ghost use Rattle.c_values.specs.CodeTypes.{target_of, type_of};
@@ -90,7 +90,8 @@ fn sum_function(alloc: Global, function: &TypedFn) -> Result<Option<SumFunction>
     }))
 }
 
-// A function with an unsigned result that has nothing but its body: no local, and no conversion of pointers that is folded away.
+// A function with an unsigned result that has nothing but its body: no local, and no conversion of
+// pointers that is folded away.
 fn is_bare(function: &TypedFn) -> bool
     ensures { result ≡ shown.is_bare (function_of function.now) }
 {

@@ -276,7 +276,8 @@ pub(crate) fn push_path(out: &mut Vec<u8>, path: &Path) -> Result<(), AllocError
     }
 }
 
-// A path's steps, each after a space. It goes along the path by a loop, since a text may have long paths.
+// A path's steps, each after a space. It goes along the path by a loop, since a text may have long
+// paths.
 #[cycle(texts)]
 fn push_steps(out: &mut Vec<u8>, path: &Path) -> Result<(), AllocError>
     ensures { OnOk result

@@ -1,4 +1,5 @@
-//! What the Simpl that is generated for a text has of its C, as the contract of a function that does nothing.
+//! What the Simpl that is generated for a text has of its C, as the contract of a function that
+//! does nothing.
 
 ghost use Rattle.std.specs.Prelude.{◌≡◌, ℕ, ◌<◌, ◌^◌, List, length, Option, Some};
 ghost use Rattle.correspondence.specs.Corresponds.{Corresponds};
@@ -19,9 +20,10 @@ ghost use Rattle.generation.specs.Generate.{generated};
 ghost use Rattle.c_meaning.specs.Fitting.{AreOfTypes};
 ghost use Rattle.expression_lang.specs.States.{IsState};
 
-/// The Simpl program that is generated for a text of C has exactly the ends of its C functions, whatever the levels watch: at
-/// every bound and every limit of nested calls, from every well-tagged memory, globals of their types and arguments of the
-/// parameters' types. No text in a memory of 64 bits has more bytes.
+/// The Simpl program that is generated for a text of C has exactly the ends of its C functions,
+/// whatever the levels watch: at every bound and every limit of nested calls, from every
+/// well-tagged memory, globals of their types and arguments of the parameters' types. No text in a
+/// memory of 64 bits has more bytes.
 pub fn generated_texts_have_the_same_ends()
     ensures { (text : List ℕ) (ts : List Lexeme) (xs : List External) (t : Target) (u : TypedUnit) →
         length text < 2 ^ 64 → Tokens text ts → Spells xs ts → IsTyped t xs u →

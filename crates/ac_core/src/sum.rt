@@ -1,4 +1,5 @@
-//! Functions that return a sum of their unsigned parameters and constants, and the program of such a function.
+//! Functions that return a sum of their unsigned parameters and constants, and the program of such
+//! a function.
 
 ghost use Rattle.std.specs.Prelude.{◌≡◌, [], map, IfOk, string_bytes};
 ghost use Rattle.c_values.specs.Types.{Ilp32};

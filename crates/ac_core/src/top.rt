@@ -18,23 +18,25 @@ use crate::answer::answer_to;
 use ac_base::{Failed, Shelf, Sink, write_whole};
 use std::alloc::Global;
 
-/// Does what the words ask for: reads the files that they name from the shelf, and writes the answer, or the line of a
-/// fault, to the sink.
+/// Does what the words ask for: reads the files that they name from the shelf, and writes the
+/// answer, or the line of a fault, to the sink.
 ///
-/// So far `show FILE` is built, for a text without globals that has at most one function, of unsigned parameters, which returns a
-/// sum of them and of constants.
+/// So far `show FILE` is built, for a text without globals that has at most one function, of
+/// unsigned parameters, which returns a sum of them and of constants.
 pub fn autocorres<H: Shelf, K: Sink>(
     alloc: Global,
     words: &[String],
     shelf: &mut H,
     sink: &mut K,
 ) -> Status
-    // Each status with its cause, and what was written. Where programs were written, they are exact against the C.
+    // Each status with its cause, and what was written. Where programs were written, they are exact
+    // against the C.
     ensures ends { EndsWith (map string_bytes words.now) (H.contents shelf.old) (H.faults shelf.old)
         (H.faults shelf.new)
         (K.taken sink.old) (K.taken sink.new) (K.faults sink.old) (K.faults sink.new) result }
 
-    // A text that can be shown is shown, where neither its file nor the sink fails, unless memory runs out.
+    // A text that can be shown is shown, where neither its file nor the sink fails, unless memory
+    // runs out.
     ensures complete { (file text : List ℕ) (ts : List Lexeme) (tree : List External)
         (unit : TypedUnit) (functions : List SumFunction) →
         plain_show (command_of (map string_bytes words.now)) ≡ Some file →

@@ -13,3 +13,4 @@ pub mod PlacesHold
 pub mod ExactSteps
 pub mod Apart
 pub mod HeadShapes
+pub mod Itself

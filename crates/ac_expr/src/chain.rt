@@ -50,14 +50,16 @@ pub trait Sequence: Copy {
         ensures { result ≡ changes self.now };
 }
 
-/// Facts, with the names in scope, the layout and the globals: a chain, each link of which borrows the one before.
+/// Facts, with the names in scope, the layout and the globals: a chain, each link of which borrows
+/// the one before.
 #[derive(Drop)]
 pub enum Facts<'a, S: Sequence> {
     None(&'a Layout, &'a [GlobalVar], &'a Names<'a>),
     With(&'a Facts<'a, S>, &'a Fact<'a>),
     Bound(&'a Facts<'a, S>, &'a str, Scalar),
     WithoutReads(&'a Facts<'a, S>),
-    /// One link for any number of parts that were passed, since a chain with a link for each takes as much of the stack.
+    /// One link for any number of parts that were passed, since a chain with a link for each takes
+    /// as much of the stack.
     Passed(&'a Facts<'a, S>, S, u32),
 }
 
@@ -80,7 +82,8 @@ impl<'a, S: Sequence> Facts<'a, S> {
 
     /// A name comes into scope, and the facts that name it are forgotten.
     pub fn bind(&'a self, name: &'a str, scalar: Scalar) -> Facts<'a, S>
-        ensures facts { facts_of (S.parts) result ≡ without_name name.now (facts_of (S.parts) self.now) }
+        ensures facts { facts_of (S.parts) result
+            ≡ without_name name.now (facts_of (S.parts) self.now) }
         ensures scope { scope_of_facts result
             ≡ scope_with (name.now ∷ []) (scalar_of scalar ∷ []) (scope_of_facts self.now) }
     {
@@ -97,7 +100,8 @@ impl<'a, S: Sequence> Facts<'a, S> {
 
     /// What is known after the first so many parts.
     pub fn pass(&'a self, parts: S, count: u32) -> Facts<'a, S>
-        ensures facts { facts_of (S.parts) result ≡ passed count (S.parts parts) (facts_of (S.parts) self.now) }
+        ensures facts { facts_of (S.parts) result
+            ≡ passed count (S.parts parts) (facts_of (S.parts) self.now) }
         ensures scope { scope_of_facts result ≡ scope_of_facts self.now }
     {
         Facts::Passed(self, parts, count)

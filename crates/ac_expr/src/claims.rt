@@ -149,7 +149,8 @@ fn exp_gives_at_once(e: &Exp, claim: &Fact<'_>) -> bool
 
 /// Whether a fact gives the claim at once.
 pub(crate) fn gives_at_once(fact: &Fact<'_>, claim: &Fact<'_>) -> bool
-    ensures { IsTrue result ↔ GivesAtOnce (stands_for (fact_of fact.now)) (stands_for (fact_of claim.now)) }
+    ensures { IsTrue result
+        ↔ GivesAtOnce (stands_for (fact_of fact.now)) (stands_for (fact_of claim.now)) }
 {
     match fact {
         Fact::Whole(e) => exp_gives_at_once(e, claim),

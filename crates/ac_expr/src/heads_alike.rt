@@ -141,7 +141,8 @@ pub fn same_steps(p: &Path, q: &Path) -> bool
     }
 }
 
-/// Expressions one after the other, as the children of an expression are: the indexes of a path are among them.
+/// Expressions one after the other, as the children of an expression are: the indexes of a path are
+/// among them.
 #[derive(Clone, Copy)]
 pub enum Children<'a> {
     None,
@@ -178,7 +179,8 @@ pub fn children_of(e: &Exp) -> Children<'_>
 impl<'a> Children<'a> {
     /// The first, and those behind it.
     pub fn next(self) -> Option<(&'a Exp, Children<'a>)>
-        ensures some { IfSome result (λ (first, rest). children_in self.entry ≡ exp_of first.now ∷ children_in rest) }
+        ensures some { IfSome result (λ (first, rest). children_in self.entry
+            ≡ exp_of first.now ∷ children_in rest) }
         ensures none { IfNone result (children_in self.entry ≡ []) }
     {
         match self {

@@ -40,7 +40,8 @@ impl FactTest for AtOnce<'_> {
     }
 }
 
-// That a fact gives a claim, where the conditions of its implications are looked for among these facts.
+// That a fact gives a claim, where the conditions of its implications are looked for among these
+// facts.
 #[derive(Clone, Copy)]
 struct Among<'a, S: Sequence> {
     claim: &'a Fact<'a>,
@@ -88,7 +89,8 @@ fn some<'x, S: Sequence, T: FactTest>(
     }
 }
 
-// Whether a fact passes the test, and lasts through its part's names, so many parts behind it and what comes after.
+// Whether a fact passes the test, and lasts through its part's names, so many parts behind it and
+// what comes after.
 fn is_kept<S: Sequence, T: FactTest>(
     fact: &Fact<'_>,
     names: &[String],
@@ -160,7 +162,8 @@ fn some_gives_at_once<S: Sequence>(facts: &Facts<'_, S>, claim: &Fact<'_>) -> bo
     some(facts, &AtOnce { claim }, &After::Nothing)
 }
 
-// Whether an expression that holds gives the claim, where these facts are known. It goes along the last parts by a loop.
+// Whether an expression that holds gives the claim, where these facts are known. It goes along the
+// last parts by a loop.
 #[tactic(auto, using(crate::proofs::GivesLaws::gives_itself))]
 fn exp_gives<S: Sequence>(facts: &Facts<'_, S>, e: &Exp, claim: &Fact<'_>) -> bool
     ensures { IsTrue result
@@ -215,8 +218,9 @@ fn is_true(claim: &Fact<'_>) -> bool
     matches!(claim, Fact::Whole(Exp::Truth(true)))
 }
 
-/// Whether a claim is known from facts, as `specs/Known` has it: no more than one look at each fact, the newest first, but for the
-/// conditions of implications that would give it. It takes no memory.
+/// Whether a claim is known from facts, as `specs/Known` has it: no more than one look at each
+/// fact, the newest first, but for the conditions of implications that would give it. It takes no
+/// memory.
 pub fn known<S: Sequence>(facts: &Facts<'_, S>, claim: &Fact<'_>) -> bool
     ensures { IsTrue result
         ↔ IsKnown (facts_of (S.parts) facts.now) (stands_for (fact_of claim.now)) }

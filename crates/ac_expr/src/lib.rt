@@ -1,4 +1,5 @@
-//! What is known of expressions at a place of a program. The language of expressions itself is handed on.
+//! What is known of expressions at a place of a program. The language of expressions itself is
+//! handed on.
 #![tactic(auto)]
 
 mod chain;

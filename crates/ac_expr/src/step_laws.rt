@@ -10,8 +10,8 @@ ghost use Rattle.expression_lang.specs.States.{IsEnvironment, IsState};
 ghost use Rattle.ac_expr.specs.Fact.{Fact, AllSay};
 ghost use Rattle.ac_expr.specs.Step.{IsStep, OneStepApart};
 
-/// Where the facts hold, a step takes a well-sorted expression to one that has its value; and well-sorted expressions that are one
-/// step apart have one value.
+/// Where the facts hold, a step takes a well-sorted expression to one that has its value; and
+/// well-sorted expressions that are one step apart have one value.
 pub fn one_step_is_exact()
     ensures steps { (g : Scope) (vs : List GlobalVar) (fs : List Fact) (a b : Exp) (o : Sort)
         (env : Env) (s : State) → IsLayout g.layout → g.globals ≡ global_type vs →

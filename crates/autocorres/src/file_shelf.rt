@@ -7,7 +7,8 @@ use std::io::{Read, Seek, SeekFrom};
 use std::rt::Files;
 use std::{fs, io};
 
-/// The files that paths name. It tells no contents, and counts every error as a fault of every name.
+/// The files that paths name. It tells no contents, and counts every error as a fault of every
+/// name.
 #[derive(Drop)]
 pub struct FileShelf<'a, R: Files> {
     rt: &'a R,

@@ -1,7 +1,8 @@
-//! The program: it takes its words from the command line, files from the file system, and writes to standard output.
+//! The program: it takes its words from the command line, files from the file system, and writes to
+//! standard output.
 //!
-//! This is the trusted edge. What a real file gives and a real terminal takes is told by no contract; what the program
-//! does with it is the contract of `ac_core::autocorres`.
+//! This is the trusted edge. What a real file gives and a real terminal takes is told by no
+//! contract; what the program does with it is the contract of `ac_core::autocorres`.
 #![tactic(auto)]
 
 mod file_shelf;

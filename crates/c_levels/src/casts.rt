@@ -1,4 +1,5 @@
-//! Whether a function converts to a pointer to a type that isn't void, from another type, null pointer constants apart.
+//! Whether a function converts to a pointer to a type that isn't void, from another type, null
+//! pointer constants apart.
 
 ghost use Rattle.std.specs.Prelude.{◌≡◌, map};
 ghost use Rattle.c_values.specs.CodeTypes.{type_of};

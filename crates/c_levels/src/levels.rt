@@ -20,8 +20,9 @@ use expression_lang::Level;
 use std::alloc::{AllocError, Global};
 use std::collections::HashSet;
 
-/// The level of each function by default, and by the names for `bytes` and for `words`. It takes time in proportion to the
-/// unit: from each function that works on bytes its callers are marked once.
+/// The level of each function by default, and by the names for `bytes` and for `words`. It takes
+/// time in proportion to the unit: from each function that works on bytes its callers are marked
+/// once.
 pub fn default_modes(
     alloc: Global,
     u: &TypedUnit,

@@ -18,8 +18,8 @@ use crate::modes::{Modes, Reason};
 use c_lang::tree::{Groups, Statement, Statements, TypedFn, TypedUnit};
 use expression_lang::Level;
 
-/// The first of the reasons that holds of the function at a position. Of the functions that it calls, the first in its
-/// text that works on bytes counts.
+/// The first of the reasons that holds of the function at a position. Of the functions that it
+/// calls, the first in its text that works on bytes counts.
 pub fn reason(u: &TypedUnit, modes: &Modes, f: u32) -> Reason
     requires position { f < length u.now.functions.items }
     ensures { (levels : Name → sorts.Level) (g : C.TypedFn) →

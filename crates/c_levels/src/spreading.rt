@@ -68,8 +68,8 @@ fn leads<'a>(k: usize, functions: &[TypedFn], table: &'a HashMap<String, Vec<usi
     }
 }
 
-/// Marks that spread from each function to those that call it, by a table of the positions of callers. Each function is
-/// looked at once.
+/// Marks that spread from each function to those that call it, by a table of the positions of
+/// callers. Each function is looked at once.
 pub(crate) fn spread(
     alloc: Global,
     functions: &[TypedFn],

@@ -17,8 +17,9 @@ ghost use Rattle.c_lang.specs.Typed.{Expr, Statement, TypedUnit};
 ghost use Rattle.c_meaning.specs.CValue.{Context, value};
 ghost use Rattle.c_meaning.specs.CRun.{Setting, statement, functions_below, c_runs, plain};
 
-/// Under a fill number a call has exactly one end, and so has a statement that calls the functions of a unit: at every
-/// bound, every limit of nested calls, and from every machine, whatever the levels watch.
+/// Under a fill number a call has exactly one end, and so has a statement that calls the functions
+/// of a unit: at every bound, every limit of nested calls, and from every machine, whatever the
+/// levels watch.
 pub fn statements_end_once()
     ensures calls { (u : TypedUnit) (levels : Name → Level) (k n : ℕ) (depth : Option ℕ)
         (c : Invocation) → OneEnd (c_runs u levels (Fill k) n depth c) }
@@ -27,8 +28,9 @@ pub fn statements_end_once()
         OneEnd (statement t s depth (functions_below u levels (Fill k) n) m) }
 {}
 
-/// What a call, or a statement that calls the functions of a unit, does without being stopped it does at every larger
-/// bound and with every deeper limit of nested calls, and with none: a stop alone goes away.
+/// What a call, or a statement that calls the functions of a unit, does without being stopped it
+/// does at every larger bound and with every deeper limit of nested calls, and with none: a stop
+/// alone goes away.
 pub fn statements_continue()
     ensures calls { (u : TypedUnit) (levels : Name → Level) (p : Choice) (m n : ℕ) → m ≤ n →
         (d e : Option ℕ) → Deeper d e → (c : Invocation) →
@@ -39,10 +41,11 @@ pub fn statements_continue()
         (statement t s e (functions_below u levels p n) a) }
 {}
 
-/// What a function's level watches beside the six hard kinds changes nothing but that it is undefined: where the watched
-/// run meets neither an uncovered root nor an unsigned result that doesn't fit, it has exactly the ends of the plain run,
-/// stops and other faults included. So it is where the watched run isn't undefined at all. And an expression that has a
-/// value has that value plainly.
+/// What a function's level watches beside the six hard kinds changes nothing but that it is
+/// undefined: where the watched run meets neither an uncovered root nor an unsigned result that
+/// doesn't fit, it has exactly the ends of the plain run, stops and other faults included. So it is
+/// where the watched run isn't undefined at all. And an expression that has a value has that value
+/// plainly.
 pub fn watching_keeps_ends()
     ensures values { (c : Context) (e : Expr) (v : Value) → value c e ≡ Ok v →
         value (record { layout = c.layout; level = Bytes; locals = c.locals; state = c.state }) e
@@ -57,8 +60,9 @@ pub fn watching_keeps_ends()
         (λ f g. f ≡ g) (c_runs u levels p n depth c) (c_runs u plain p n depth c) }
 {}
 
-/// What a call, or a statement that calls the functions of a unit, does under a fill number it may do where any value is
-/// chosen: each end under the number is one of these, at the same bound and limit of nested calls.
+/// What a call, or a statement that calls the functions of a unit, does under a fill number it may
+/// do where any value is chosen: each end under the number is one of these, at the same bound and
+/// limit of nested calls.
 pub fn statements_under_any_choice()
     ensures calls { (u : TypedUnit) (levels : Name → Level) (k n : ℕ) (depth : Option ℕ)
         (c : Invocation) →

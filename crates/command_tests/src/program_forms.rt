@@ -400,8 +400,8 @@ fn names_of_kinds_are_words_before_words_become_numbers(rt: HostRuntime) -> Resu
     Ok(())
 }
 
-// So many parts, each of which binds `x`, every so many of them to the `x` before, and then the values of `x` and `y`, which
-// the first part binds.
+// So many parts, each of which binds `x`, every so many of them to the `x` before, and then the
+// values of `x` and `y`, which the first part binds.
 fn long_sequence(alloc: Global, count: u32, every: u32) -> Result<Mon, AllocError> {
     let sum = Exp::Arith(
         c_values::NumberOp::Add,

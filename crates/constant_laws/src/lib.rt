@@ -1,5 +1,5 @@
-//! The law that the two definitions of a constant expression's value are one: the number that a text asks for where it wants a
-//! constant, and what the expression gives where it is run.
+//! The law that the two definitions of a constant expression's value are one: the number that a
+//! text asks for where it wants a constant, and what the expression gives where it is run.
 #![tactic(auto)]
 
 mod laws;

@@ -13,7 +13,8 @@ const SUM_SHOWN: &str =
 
 const NO_FORM: &str = "words: no command of this form\n";
 
-// How a shelf and a sink behave: the numbers of their calls that fail, and how many bytes a call gives or takes.
+// How a shelf and a sink behave: the numbers of their calls that fail, and how many bytes a call
+// gives or takes.
 #[derive(Clone, Copy)]
 struct Outside<'a> {
     shelf_fails: &'a [u64],
@@ -58,7 +59,8 @@ fn run(
     Ok((status, taken))
 }
 
-/// Texts, each second part between the bars as often as the number says, and how their answers begin.
+/// Texts, each second part between the bars as often as the number says, and how their answers
+/// begin.
 static READ: [(&str, usize, Status, &str); 21] = [
     (
         "unsigned f(unsigned a){return a;}",

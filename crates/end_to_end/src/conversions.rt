@@ -38,7 +38,8 @@ fn class(ty: IntType) -> usize
     }
 }
 
-// The types at which int, unsigned, long, unsigned long, long long and unsigned long long meet each other, by C99 6.3.1.8.
+// The types at which int, unsigned, long, unsigned long, long long and unsigned long long meet each
+// other, by C99 6.3.1.8.
 fn table(target: Target) -> [[IntType; 6]; 6] {
     let int = IntType::Int;
     let uint = IntType::UInt;

@@ -1,4 +1,5 @@
-//! Tests of generation, from texts. `worked_rows::generation_rows` has a row for each form of an expression and of a statement.
+//! Tests of generation, from texts. `worked_rows::generation_rows` has a row for each form of an
+//! expression and of a statement.
 
 use c_lex::tokens;
 use c_parse::parse;
@@ -145,7 +146,8 @@ fn lifts_locals(
     Ok(rule_local::check(&tree, flat, &program, &outputs, context).is_ok() && program.is_bytes())
 }
 
-// Whether the rules take each body to its translation, in which nothing is thrown, and that to a program on bytes.
+// Whether the rules take each body to its translation, in which nothing is thrown, and that to a
+// program on bytes.
 fn become_programs(alloc: Global, u: &SimplUnit) -> Result<bool, Fail> {
     for (f, signature) in u.functions.iter().zip(&u.signatures) {
         let (flat, tree) = translate(alloc, &f.body)?;

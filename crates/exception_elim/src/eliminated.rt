@@ -10,7 +10,8 @@ use rule_trees::Tree;
 use simpl_lang::Simpl;
 use std::alloc::{AllocError, Global};
 
-/// A command in which nothing is thrown, the tree of rules that takes another command to it, and whether that one is quiet.
+/// A command in which nothing is thrown, the tree of rules that takes another command to it, and
+/// whether that one is quiet.
 #[derive(Drop)]
 pub(crate) struct Eliminated {
     pub(crate) right: Box<Simpl>,

@@ -60,7 +60,8 @@ pub(crate) fn test_unless_thrown(alloc: Global, test: Box<Exp>) -> Result<Box<Ex
 
 // A condition that is asked only where nothing was thrown.
 fn condition_unless_thrown(alloc: Global, condition: Condition) -> Result<Condition, AllocError>
-    ensures { IfOk result (λ c. condition_of c ≡ table.asked_unless_thrown (condition_of condition)) }
+    ensures { IfOk result (λ c. condition_of c
+        ≡ table.asked_unless_thrown (condition_of condition)) }
 {
     let Condition { kind, exp } = condition;
     let exp = boxed_exp(alloc, exp)?;

@@ -27,10 +27,10 @@ use rule_trees::Tree;
 use simpl_lang::{Condition, Simpl, boxed, copy_of_condition, copy_of_conditions};
 use std::alloc::{AllocError, Global};
 
-/// A command that does the same with a flag, `$thrown`, in place of exceptions, and the tree of rules that shows it. Of the
-/// rules for a sequence, a loop and a catch the plain one is taken where the first part or the body is quiet, else, for a
-/// catch whose handler is a skip, the one for that, else the one with a test. There is no answer only where memory is
-/// wanting.
+/// A command that does the same with a flag, `$thrown`, in place of exceptions, and the tree of
+/// rules that shows it. Of the rules for a sequence, a loop and a catch the plain one is taken
+/// where the first part or the body is quiet, else, for a catch whose handler is a skip, the one
+/// for that, else the one with a test. There is no answer only where memory is wanting.
 #[tactic(auto, using(crate::proofs::Translated::taken, crate::proofs::Translated::flat, crate::proofs::Translated::sorted))]
 pub fn translate(alloc: Global, left: &Simpl) -> Result<(Box<Simpl>, Tree<Rule>), AllocError>
     ensures taken { IfOk result (λ (right, tree).
@@ -45,8 +45,8 @@ pub fn translate(alloc: Global, left: &Simpl) -> Result<(Box<Simpl>, Tree<Rule>)
     Ok((right, tree))
 }
 
-// It goes along the last parts by a loop, since a text may have long sequences. What a nested command is taken to comes boxed, so
-// that each level takes little of the stack.
+// It goes along the last parts by a loop, since a text may have long sequences. What a nested
+// command is taken to comes boxed, so that each level takes little of the stack.
 #[cycle(eliminated)]
 #[tactic(auto, using(crate::proofs::WithFronts::with_fronts_push))]
 fn eliminated(alloc: Global, c: &Simpl) -> Result<Box<Eliminated>, AllocError>

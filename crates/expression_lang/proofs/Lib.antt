@@ -6,7 +6,7 @@ pub mod Good
 pub mod Fine
 pub mod Scoped
 pub mod AlongSteps
-pub mod Named
+pub mod NamesFound
 pub mod WholeShapes
 pub mod PartSorts
 pub mod ShapeLaws
@@ -19,3 +19,4 @@ pub mod Filled
 pub mod PartFaults
 pub mod ReadyParts
 pub mod OperandSorts
+pub mod BinderNames

@@ -13,7 +13,8 @@ use crate::shape::{Leaf, One, PlaceHead, RootTest, Shape, Two, shape_of};
 use c_values::{CType, Number, Word, same_number, same_truth};
 
 impl Exp {
-    /// Whether two expressions are the same. It goes along the last parts by a loop, since a text may have long chains.
+    /// Whether two expressions are the same. It goes along the last parts by a loop, since a text
+    /// may have long chains.
     #[cycle(comparison)]
     pub fn same(&self, other: &Exp) -> bool
         ensures { IsTrue result ↔ (exp_of self.now ≡ exp_of other.now) }
@@ -105,7 +106,8 @@ fn look<'a>(a: &'a Exp, b: &'a Exp) -> Compared<'a>
 }
 
 impl Path {
-    /// Whether two paths are the same. It goes along them by a loop, since a text may have long ones.
+    /// Whether two paths are the same. It goes along them by a loop, since a text may have long
+    /// ones.
     #[cycle(comparison)]
     pub fn same(&self, other: &Path) -> bool
         ensures { IsTrue result ↔ (path_of self.now ≡ path_of other.now) }

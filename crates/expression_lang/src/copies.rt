@@ -22,7 +22,8 @@ impl Exp {
         Ok(Box::into_inner(copy))
     }
 
-    /// A copy on the heap. It goes along the last parts by a loop, since a text may have long chains.
+    /// A copy on the heap. It goes along the last parts by a loop, since a text may have long
+    /// chains.
     #[cycle(copy)]
     #[tactic(auto, using(crate::proofs::Fronts::with_fronts_push))]
     pub fn boxed_copy(&self, alloc: Global) -> Result<Box<Exp>, AllocError>

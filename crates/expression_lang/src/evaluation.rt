@@ -18,8 +18,9 @@ use c_memory::{Heap, Step};
 use c_values::Value;
 
 impl<H: Heap> Scene<'_, H> {
-    /// The value of an expression, or none at a fault, which is then told. Each arity has a function of its own, which isn't
-    /// inlined, and none of them knows more of its parts than their values: so few bytes of the stack are taken at each level.
+    /// The value of an expression, or none at a fault, which is then told. Each arity has a
+    /// function of its own, which isn't inlined, and none of them knows more of its parts than
+    /// their values: so few bytes of the stack are taken at each level.
     #[cycle(values)]
     #[inline(never)]
     pub(crate) fn value(&self, e: &Exp, fault: &mut EvalFault) -> Option<Value>
@@ -140,7 +141,8 @@ impl<H: Heap> Scene<'_, H> {
         )
     }
 
-    // Whether an expression holds. It goes along the right sides of `and`, `or` and `imp` by a loop, since the test of a switch is an
+    // Whether an expression holds. It goes along the right sides of `and`, `or` and `imp` by a
+    // loop, since the test of a switch is an
     // `or` of as many equations as there are labels.
     #[cycle(values)]
     #[inline(never)]
@@ -160,7 +162,8 @@ impl<H: Heap> Scene<'_, H> {
         truth_of(self.value(rest, fault))
     }
 
-    // The steps that a path takes. It goes along the path by a loop, since a text may have long paths.
+    // The steps that a path takes. It goes along the path by a loop, since a text may have long
+    // paths.
     #[cycle(values)]
     #[inline(never)]
     fn steps(&self, path: &Path, fault: &mut EvalFault) -> Option<Vec<Step>>

@@ -18,16 +18,17 @@ use c_memory::Heap;
 use c_values::{GlobalVar, Layout, Value};
 use std::alloc::Global;
 
-/// The value of an expression in an environment, a heap and the values of the globals, in their order. The values of the
-/// environment are words, numbers and truth values, the expression is well-sorted for them and for the globals, and
-/// each global's value is of its type.
+/// The value of an expression in an environment, a heap and the values of the globals, in their
+/// order. The values of the environment are words, numbers and truth values, the expression is
+/// well-sorted for them and for the globals, and each global's value is of its type.
 ///
-/// - `Wide` exactly where evaluation meets an operation on numbers whose exact result has a magnitude of 2^128 or more.
-///   `and`, `or`, `imp` and `if` evaluate only the operands that those before leave open.
+/// - `Wide` exactly where evaluation meets an operation on numbers whose exact result has a
+/// magnitude of 2^128 or more.   `and`, `or`, `imp` and `if` evaluate only the operands that those
+/// before leave open.
 /// - `Memory` where there is no room for a value.
 ///
-/// At each level of the expression it takes up to 480 bytes of the stack. So the 4,096 levels that a text may nest take less than
-/// 2 MiB.
+/// At each level of the expression it takes up to 480 bytes of the stack. So the 4,096 levels that
+/// a text may nest take less than 2 MiB.
 #[tactic(auto, using(crate::proofs::Scoped::sorted_ready))]
 pub fn eval<H: Heap>(
     alloc: Global,

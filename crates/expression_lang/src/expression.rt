@@ -11,8 +11,8 @@ pub enum CastOp {
     Trunc,
 }
 
-/// An expression. Each has one value in an environment and a state (`specs/Evaluation`), and a sort where it is well-sorted
-/// (`specs/Sort`).
+/// An expression. Each has one value in an environment and a state (`specs/Evaluation`), and a sort
+/// where it is well-sorted (`specs/Sort`).
 #[derive(Debug)]
 #[cycle(exp)]
 pub enum Exp {
@@ -71,7 +71,8 @@ pub enum Exp {
     Upd(Box<Exp>, Path, Box<Exp>),
 }
 
-// A derived drop would call itself once for each last part, and a text may have long chains of these.
+// A derived drop would call itself once for each last part, and a text may have long chains of
+// these.
 impl Drop for Exp {
     #[cycle(drop_expression)]
     fn drop(mut self) {

@@ -6,6 +6,7 @@ mod arity;
 mod changing;
 mod comparison;
 mod copies;
+mod distinct_names;
 mod environments;
 mod evaluation;
 mod evaluator;
@@ -29,6 +30,7 @@ mod sorts;
 
 pub use changing::Change;
 pub use comparison::equal_types;
+pub use distinct_names::{Named, are_binders_distinct, are_distinct, are_globals_distinct};
 pub use environments::Env;
 pub use evaluator::eval;
 pub use expression::{CastOp, Exp};

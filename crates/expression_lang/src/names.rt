@@ -18,13 +18,14 @@ pub trait Scope {
         ensures { option_map scalar_of result ≡ scalars self.now name.now };
 }
 
-/// Names with what their values are: a chain, each link of which borrows the one before. The last of two with one name
-/// counts.
+/// Names with what their values are: a chain, each link of which borrows the one before. The last
+/// of two with one name counts.
 #[derive(Drop)]
 pub enum Names<'a> {
     Empty,
     Named(&'a Names<'a>, &'a str, Scalar),
-    /// One link for any number of binders, since a chain with a link for each takes as much of the stack.
+    /// One link for any number of binders, since a chain with a link for each takes as much of the
+    /// stack.
     AllOf(&'a Names<'a>, &'a [Binder]),
 }
 
@@ -44,7 +45,8 @@ impl<'a> Names<'a> {
         Names::Named(self, name, scalar)
     }
 
-    /// The same names, and those of binders in their order, whose values are words or truth values by their kinds.
+    /// The same names, and those of binders in their order, whose values are words or truth values
+    /// by their kinds.
     pub fn push_all(&'a self, binders: &'a [Binder]) -> Names<'a>
         ensures { names_of result ≡ names_with_all binders.now (names_of self.now) }
     {

@@ -11,7 +11,7 @@ ghost use Rattle.expression_lang.specs.CodeAlong.{shape_at, element_in};
 use c_values::{CType, GlobalVar, Layout};
 
 /// The type of a member.
-pub(crate) fn member<'a>(l: &'a Layout, t: &'a CType, k: u32) -> Option<&'a CType>
+pub fn member<'a>(l: &'a Layout, t: &'a CType, k: u32) -> Option<&'a CType>
     ensures { option_map (λ u. shape_of l.now (type_of u.now)) result
         ≡ shape_at (step_spot (shape_of l.now (type_of t.now)) (Field k)) }
 {
@@ -25,7 +25,7 @@ pub(crate) fn member<'a>(l: &'a Layout, t: &'a CType, k: u32) -> Option<&'a CTyp
 }
 
 /// The type of the elements.
-pub(crate) fn element<'a>(l: &Layout, t: &'a CType) -> Option<&'a CType>
+pub fn element<'a>(l: &Layout, t: &'a CType) -> Option<&'a CType>
     ensures { option_map (λ u. shape_of l.now (type_of u.now)) result
         ≡ element_in (shape_of l.now (type_of t.now)) }
 {

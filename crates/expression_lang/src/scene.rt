@@ -4,7 +4,8 @@ use crate::environments::Env;
 use c_values::{GlobalVar, Layout, Value};
 use std::alloc::Global;
 
-/// Where expressions are evaluated: an environment, a heap and the globals with their values, under a layout.
+/// Where expressions are evaluated: an environment, a heap and the globals with their values, under
+/// a layout.
 #[derive(Drop)]
 pub(crate) struct Scene<'a, H> {
     pub(crate) alloc: Global,

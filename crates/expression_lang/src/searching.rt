@@ -19,7 +19,8 @@ pub trait Test {
 }
 
 impl Exp {
-    /// Whether some part passes a test, the expression itself included. It goes along the last parts by a loop.
+    /// Whether some part passes a test, the expression itself included. It goes along the last
+    /// parts by a loop.
     #[cycle(any)]
     #[tactic(auto, using(crate::proofs::HasShape::has_shape, crate::proofs::HasShape::has_itself))]
     pub fn any<T: Test>(&self, test: &T) -> bool

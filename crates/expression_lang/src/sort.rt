@@ -34,7 +34,8 @@ pub enum Level {
     Numbers,
 }
 
-/// How a word of so many bits is seen: as itself, by its unsigned or by its signed value; or a truth value.
+/// How a word of so many bits is seen: as itself, by its unsigned or by its signed value; or a
+/// truth value.
 #[derive(Clone, Copy, Debug, PartialEq, Eq)]
 pub enum Kind {
     Word(u8),

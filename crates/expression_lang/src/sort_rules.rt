@@ -220,7 +220,8 @@ fn sort_at<'a>(l: &Layout, t: &'a CType) -> Option<Sort<'a>>
     }
 }
 
-/// Whether a root can be of a type: it is a complete object type, and the address has a pointer's width.
+/// Whether a root can be of a type: it is a complete object type, and the address has a pointer's
+/// width.
 pub fn is_root(l: &Layout, t: &CType, address: Option<Sort<'_>>) -> bool
     ensures { result ≡ (is_object l.now (type_of t.now) && is_word_of (address_width l.now.target)
         (option_map sort_value address.entry)) }

@@ -24,8 +24,8 @@ use crate::sort_rules::{
 };
 use c_values::{CType, GlobalVar, Layout, is_object};
 
-/// The sort of an expression. There is none exactly where it isn't well-sorted. Its types may be any types. At each level of
-/// the expression it takes up to 440 bytes of the stack.
+/// The sort of an expression. There is none exactly where it isn't well-sorted. Its types may be
+/// any types. At each level of the expression it takes up to 440 bytes of the stack.
 #[cycle(sorts)]
 #[tactic(auto, using(crate::proofs::OperandSorts::leaf_sorted, crate::proofs::OperandSorts::unary_sorted, crate::proofs::OperandSorts::binary_sorted, crate::proofs::OperandSorts::connective_sorted))]
 pub fn sort_of<'a, N: Scope>(
@@ -34,7 +34,8 @@ pub fn sort_of<'a, N: Scope>(
     l: &'a Layout,
     globals: &'a [GlobalVar],
 ) -> Option<Sort<'a>>
-    ensures { option_map sort_value result ≡ sort_of (scope_by l.now (N.scalars names.now) globals.now)
+    ensures { option_map sort_value result
+        ≡ sort_of (scope_by l.now (N.scalars names.now) globals.now)
         (exp_of e.now) }
 {
     match arity_in(e) {
@@ -84,7 +85,8 @@ fn choice_sort_of<'a, N: Scope>(
     globals: &'a [GlobalVar],
 ) -> Option<Sort<'a>>
     requires { arity_of (exp_of e.now) ≡ Choice }
-    ensures { option_map sort_value result ≡ sort_of (scope_by l.now (N.scalars names.now) globals.now)
+    ensures { option_map sort_value result
+        ≡ sort_of (scope_by l.now (N.scalars names.now) globals.now)
         (exp_of e.now) }
 {
     match e {
@@ -107,7 +109,8 @@ fn place_sort<'a, N: Scope>(
     globals: &'a [GlobalVar],
 ) -> Option<Sort<'a>>
     requires { arity_of (exp_of e.now) ≡ Place }
-    ensures { option_map sort_value result ≡ sort_of (scope_by l.now (N.scalars names.now) globals.now)
+    ensures { option_map sort_value result
+        ≡ sort_of (scope_by l.now (N.scalars names.now) globals.now)
         (exp_of e.now) }
 {
     let root = sort_of(first(e), names, l, globals);
@@ -139,7 +142,8 @@ fn global_sort<'a, N: Scope>(
     globals: &'a [GlobalVar],
 ) -> Option<Sort<'a>>
     requires { arity_of (exp_of e.now) ≡ Part }
-    ensures { option_map sort_value result ≡ sort_of (scope_by l.now (N.scalars names.now) globals.now)
+    ensures { option_map sort_value result
+        ≡ sort_of (scope_by l.now (N.scalars names.now) globals.now)
         (exp_of e.now) }
 {
     match e {
@@ -161,7 +165,8 @@ fn update_sort<'a, N: Scope>(
     globals: &'a [GlobalVar],
 ) -> Option<Sort<'a>>
     requires { arity_of (exp_of e.now) ≡ Update }
-    ensures { option_map sort_value result ≡ sort_of (scope_by l.now (N.scalars names.now) globals.now)
+    ensures { option_map sort_value result
+        ≡ sort_of (scope_by l.now (N.scalars names.now) globals.now)
         (exp_of e.now) }
 {
     let whole = sort_of(first(e), names, l, globals);
@@ -177,8 +182,8 @@ fn update_sort<'a, N: Scope>(
     }
 }
 
-// Whether an expression is a truth value. It goes along the right sides of `and`, `or` and `imp` by a loop, since the test of a
-// switch is an `or` of as many equations as there are labels.
+// Whether an expression is a truth value. It goes along the right sides of `and`, `or` and `imp` by
+// a loop, since the test of a switch is an `or` of as many equations as there are labels.
 #[cycle(sorts)]
 #[inline(never)]
 #[tactic(auto, using(crate::proofs::OperandSorts::rest_decides, crate::proofs::OperandSorts::first_decides))]
@@ -188,7 +193,8 @@ fn is_truth_value<'a, N: Scope>(
     l: &'a Layout,
     globals: &'a [GlobalVar],
 ) -> bool
-    ensures { result ≡ is_truth (sort_of (scope_by l.now (N.scalars names.now) globals.now) (exp_of e.now)) }
+    ensures { result
+        ≡ is_truth (sort_of (scope_by l.now (N.scalars names.now) globals.now) (exp_of e.now)) }
 {
     let mut rest = e;
     'operands: while let Arity::Connective = arity_in(rest) {
@@ -200,7 +206,8 @@ fn is_truth_value<'a, N: Scope>(
     is_truth(sort_of(rest, names, l, globals))
 }
 
-/// The type at the end of a path. It goes along the path by a loop, since a text may have long paths.
+/// The type at the end of a path. It goes along the path by a loop, since a text may have long
+/// paths.
 #[cycle(sorts)]
 #[tactic(auto, using(crate::proofs::AlongSteps::next_field, crate::proofs::AlongSteps::no_field, crate::proofs::AlongSteps::next_element, crate::proofs::AlongSteps::no_element, crate::proofs::AlongSteps::no_number,))]
 pub fn along<'a, N: Scope>(

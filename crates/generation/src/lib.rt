@@ -1,4 +1,5 @@
-//! The Simpl that stands for a typed unit, as a definition, and the laws that it has exactly the ends of the C and is well-formed.
+//! The Simpl that stands for a typed unit, as a definition, and the laws that it has exactly the
+//! ends of the C and is well-formed.
 #![tactic(auto)]
 
 mod laws;

@@ -2,7 +2,6 @@ pub mod TreeLists
 pub mod LiftedShape
 pub mod ExpFronts
 pub mod ListLaws
-pub mod Itself
 pub mod PlainLaws
 pub mod PairLaws
 pub mod ProgramLaws

@@ -13,7 +13,7 @@ use Rattle.monad_lang.specs.Program as M
 use Rattle.monad_lang.specs.Program.{Mon}
 use Rattle.rule_heap.specs.HeapLifted.{is_pair}
 use Rattle.heap_lift.specs.CodeLifted.{IsNoPointerTest, IsNoTagTest}
-use Rattle.heap_lift.proofs.Itself.{exp_itself}
+use Rattle.ac_expr.proofs.Itself.{exp_itself}
 
 pub names_no_pair : (m : Mon) (xs : List Name) (n : Mon) → (length xs ≡ 0 → ⊥) → is_pair m xs n ≡ false
 names_no_pair m [] n h = absurd (h refl)

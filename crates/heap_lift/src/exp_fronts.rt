@@ -37,7 +37,8 @@ pub(crate) struct LiftedPath {
     pub(crate) trees: Vec<Tree<Rule>>,
 }
 
-/// All but the last part of an expression; the rule, and the trees that stand before and after that of the last part.
+/// All but the last part of an expression; the rule, and the trees that stand before and after that
+/// of the last part.
 #[derive(Drop)]
 pub(crate) struct ExpFront<'a> {
     pub(crate) exp: Front<'a>,

@@ -25,8 +25,8 @@ use rule_heap::Rule;
 use rule_trees::Tree;
 use std::alloc::{AllocError, Global};
 
-/// An expression with each load made a read, and the tree of rules for it. It goes along the last parts by a loop, since a text
-/// may have long chains.
+/// An expression with each load made a read, and the tree of rules for it. It goes along the last
+/// parts by a loop, since a text may have long chains.
 #[cycle(lifted)]
 #[tactic(auto, using(crate::proofs::ExpFronts::with_fronts_push))]
 pub(crate) fn lifted_exp(alloc: Global, e: &Exp) -> Result<Box<LiftedExp>, AllocError>

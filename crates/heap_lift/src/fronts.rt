@@ -23,8 +23,8 @@ use rule_heap::Rule;
 use rule_trees::Tree;
 use std::alloc::{AllocError, Global};
 
-/// All but the last program of a program; the rule, the trees before that of the last program, and whether nothing was to be done
-/// so far.
+/// All but the last program of a program; the rule, the trees before that of the last program, and
+/// whether nothing was to be done so far.
 #[derive(Drop)]
 pub(crate) struct Front {
     pub(crate) program: Program,

@@ -26,7 +26,8 @@ pub(crate) struct LiftedExps {
 /// Expressions with each load made a read.
 #[tactic(auto, using(crate::proofs::ListLaws::mapped_push, crate::proofs::TreeLists::with_trees_push))]
 pub(crate) fn lifted_exps(alloc: Global, exps: &[Exp]) -> Result<LiftedExps, AllocError>
-    ensures exps { IfOk result (λ new. map exp_of new.exps.items ≡ exps_lifted (map exp_of exps.now)) }
+    ensures exps { IfOk result (λ new. map exp_of new.exps.items
+        ≡ exps_lifted (map exp_of exps.now)) }
     ensures trees { IfOk result (λ new. (more : Trees Named) →
         with_trees new.trees.items more ≡ exp_trees (map exp_of exps.now) more) }
 {

@@ -22,7 +22,8 @@ pub(crate) struct Pair<'a> {
     pub(crate) rest: &'a Mon,
 }
 
-/// The pair of tests that the first part of a Bind and the beginning of its second are, if they are one.
+/// The pair of tests that the first part of a Bind and the beginning of its second are, if they are
+/// one.
 #[tactic(auto, using(crate::proofs::PairLaws::names_no_pair, crate::proofs::PairLaws::no_pointer_no_pair, crate::proofs::PairLaws::no_tag_no_pair))]
 pub(crate) fn pair_of<'a>(first: &'a Mon, names: &[String], last: &'a Mon) -> Option<Pair<'a>>
     ensures some { IfSome result (λ pair.

@@ -26,7 +26,8 @@ use rule_heap::Rule;
 use rule_trees::Tree;
 use std::alloc::{AllocError, Global};
 
-/// A program on typed heaps, the tree of rules that takes another to it, and whether nothing was to be done.
+/// A program on typed heaps, the tree of rules that takes another to it, and whether nothing was to
+/// be done.
 #[derive(Drop)]
 pub(crate) struct Lifted {
     pub(crate) right: Box<Mon>,
@@ -34,7 +35,8 @@ pub(crate) struct Lifted {
     pub(crate) is_plain: bool,
 }
 
-/// A program by this rule and the trees of its parts; where nothing was to be done, by the rule for that.
+/// A program by this rule and the trees of its parts; where nothing was to be done, by the rule for
+/// that.
 pub(crate) fn made(
     alloc: Global,
     right: Mon,

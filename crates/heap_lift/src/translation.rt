@@ -21,9 +21,10 @@ use rule_heap::Rule;
 use rule_trees::Tree;
 use std::alloc::{AllocError, Global};
 
-/// A program that does the same on typed heaps, and the tree of rules that shows it: each load becomes a read, each store a write,
-/// and of a test that a pointer may point, directly before that of its tag, the tag's stays. The rules take the program to it
-/// under every facts under which it is ready. There is no answer only where memory is wanting.
+/// A program that does the same on typed heaps, and the tree of rules that shows it: each load
+/// becomes a read, each store a write, and of a test that a pointer may point, directly before that
+/// of its tag, the tag's stays. The rules take the program to it under every facts under which it
+/// is ready. There is no answer only where memory is wanting.
 #[tactic(auto, using(crate::proofs::Translated::taken, crate::proofs::Translated::form, crate::proofs::Translated::sorts))]
 pub fn translate(alloc: Global, left: &Mon) -> Result<(Box<Mon>, Tree<Rule>), AllocError>
     ensures right { IfOk result (λ (right, tree).
@@ -40,8 +41,8 @@ pub fn translate(alloc: Global, left: &Mon) -> Result<(Box<Mon>, Tree<Rule>), Al
     Ok((right, tree))
 }
 
-// It goes along the last programs by a loop, since a text may have long sequences. What a nested program is lifted to comes boxed,
-// so that each level takes little of the stack.
+// It goes along the last programs by a loop, since a text may have long sequences. What a nested
+// program is lifted to comes boxed, so that each level takes little of the stack.
 #[cycle(lifted)]
 #[tactic(auto, using(crate::proofs::ProgramLaws::with_fronts_push))]
 fn lifted(alloc: Global, m: &Mon) -> Result<Box<Lifted>, AllocError>
@@ -97,14 +98,16 @@ fn peeled(alloc: Global, m: &Mon) -> Result<Peel<'_>, AllocError>
     }
 }
 
-// What the whole is lifted to, where its last program is lifted to this; the first front is outermost.
+// What the whole is lifted to, where its last program is lifted to this; the first front is
+// outermost.
 #[tactic(auto, using(crate::proofs::ProgramLaws::with_fronts_push))]
 fn closed(
     alloc: Global,
     mut fronts: Vec<Front>,
     last: Box<Lifted>,
 ) -> Result<Box<Lifted>, AllocError>
-    ensures { IfOk result (λ l. lifted_in l.value ≡ with_fronts fronts.items (lifted_in last.value)) }
+    ensures { IfOk result (λ l. lifted_in l.value
+        ≡ with_fronts fronts.items (lifted_in last.value)) }
 {
     let mut whole = last;
     'back: while let Some(front) = fronts.pop() {

@@ -1,4 +1,5 @@
-//! That generated programs are ready, as contracts of functions that do nothing: three steps, and units.
+//! That generated programs are ready, as contracts of functions that do nothing: three steps, and
+//! units.
 
 ghost use Rattle.std.specs.Prelude.{◌≡◌, true, List, [], Option};
 ghost use Rattle.c_values.specs.Name.{Name};
@@ -21,8 +22,8 @@ ghost use Rattle.generation.specs.Generate.{commands, whole_body};
 ghost use Rattle.heap_ready.specs.CommandReady.{AllGiven, IsCommandReady};
 ghost use Rattle.heap_ready.specs.Ready.{CallsLifted, GeneratesReady};
 
-/// On typed heaps, what well-typed statements are generated to is ready: the conditions of each statement give what its
-/// loads and its store need.
+/// On typed heaps, what well-typed statements are generated to is ready: the conditions of each
+/// statement give what its loads and its store need.
 pub fn generated_commands_are_ready()
     ensures { (g : Scope) (level : Level) → is_lifted level ≡ true →
         (around : Around) (ss : Statements) (result : Option CType) →
@@ -36,8 +37,8 @@ pub fn exceptions_leave_commands_ready()
         IsCommandReady l around a → IsCommandReady l around (exceptions_eliminated a).right }
 {}
 
-/// A ready command is lifted to a ready program: a part of a body under any facts that give the conditions around it, and
-/// a body from none.
+/// A ready command is lifted to a ready program: a part of a body under any facts that give the
+/// conditions around it, and a body from none.
 pub fn ready_commands_are_lifted_ready()
     ensures part { (l : Layout) (locals : List Binder) (around : List Condition) (a : Simpl)
         (outputs : List Name) → IsCommandReady l around a →
@@ -53,14 +54,16 @@ pub fn ready_programs_are_on_bytes()
         is_bytes m ≡ true }
 {}
 
-/// What a well-typed unit is generated to, with its exceptions eliminated and its locals lifted, is ready for typed heaps
-/// at whatever levels, where a function on typed heaps calls such functions alone: each of these is a program on bytes,
-/// in which each load and each store stands where it is known that its root is covered and its indices are in range.
+/// What a well-typed unit is generated to, with its exceptions eliminated and its locals lifted, is
+/// ready for typed heaps at whatever levels, where a function on typed heaps calls such functions
+/// alone: each of these is a program on bytes, in which each load and each store stands where it is
+/// known that its root is covered and its indices are in range.
 pub fn generated_units_are_ready_for_heaps()
     ensures { (u : TypedUnit) → IsWellTyped u → GeneratesReady u }
 {}
 
-/// At the levels that functions have by default, a function on typed heaps calls such functions alone.
+/// At the levels that functions have by default, a function on typed heaps calls such functions
+/// alone.
 pub fn default_levels_call_lifted()
     ensures { (u : TypedUnit) (bytes words : List Name) (levels : Name → Level) → IsWellTyped u →
         AreDefaultLevels u bytes words levels → CallsLifted levels u.functions }

@@ -160,7 +160,8 @@ fn copy_at(alloc: Global, rows: &[Row], k: usize) -> Result<Row, AllocError>
 
 // Rows, those that mean the local at a position with what it leads to.
 fn all_by_way(alloc: Global, k: usize, way: &Row, rows: Vec<Row>) -> Result<Vec<Row>, AllocError>
-    ensures { IfOk result (λ after. (bs : List B.Binder) (x : Name) (w : Name → Bool) → IsAt k bs x →
+    ensures { IfOk result (λ after. (bs : List B.Binder) (x : Name) (w : Name → Bool) →
+        IsAt k bs x →
         way.now.flags.items ≡ marks w bs → Moves bs (by_way x w) rows.items after.items) }
 {
     let mut after = Vec::new(alloc);
@@ -171,8 +172,10 @@ fn all_by_way(alloc: Global, k: usize, way: &Row, rows: Vec<Row>) -> Result<Vec<
 }
 
 fn with_way(alloc: Global, k: usize, way: &Row, row: Row) -> Result<Row, AllocError>
-    ensures { IfOk result (λ after. (bs : List B.Binder) (x : Name) (w : Name → Bool) → IsAt k bs x →
-        way.now.flags.items ≡ marks w bs → RowMoves bs (by_way x w) row.flags.items after.flags.items) }
+    ensures { IfOk result (λ after. (bs : List B.Binder) (x : Name) (w : Name → Bool) →
+        IsAt k bs x →
+        way.now.flags.items ≡ marks w bs →
+        RowMoves bs (by_way x w) row.flags.items after.flags.items) }
 {
     if !flag_at(&row, k) {
         return Ok(row);
@@ -226,7 +229,8 @@ pub(crate) fn spread(
     own: &Row,
     row: &Row,
 ) -> Result<Row, AllocError>
-    ensures { IfOk result (λ after. (bs : List B.Binder) (leads : Name → Name → Bool) (g : Name → Bool) →
+    ensures { IfOk result (λ after. (bs : List B.Binder) (leads : Name → Name → Bool) (g : Name →
+        Bool) →
         Matrix bs leads bs reached.now → own.now.flags.items ≡ marks g bs →
         RowMoves bs (spreading (names bs) leads g) row.now.flags.items after.flags.items) }
 {
@@ -241,7 +245,8 @@ pub(crate) fn all_spread(
     own: &Row,
     rows: Vec<Row>,
 ) -> Result<Vec<Row>, AllocError>
-    ensures { IfOk result (λ after. (bs : List B.Binder) (leads : Name → Name → Bool) (g : Name → Bool) →
+    ensures { IfOk result (λ after. (bs : List B.Binder) (leads : Name → Name → Bool) (g : Name →
+        Bool) →
         Matrix bs leads bs reached.now → own.now.flags.items ≡ marks g bs →
         Moves bs (spreading (names bs) leads g) rows.items after.items) }
 {

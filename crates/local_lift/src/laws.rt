@@ -11,8 +11,8 @@ ghost use Rattle.rule_local.specs.Lifted.{lifted, locals_lifted};
 ghost use Rattle.local_lift.specs.Live.{live};
 ghost use Rattle.local_lift.specs.LiftedByLive.{among, whole_by_live};
 
-/// What is live before a command is what the lifted command looks at, and so what is lifted by what is live is what is lifted
-/// by what programs look at: where the command assigns locals alone.
+/// What is live before a command is what the lifted command looks at, and so what is lifted by what
+/// is live is what is lifted by what programs look at: where the command assigns locals alone.
 pub fn lifted_by_live()
     ensures free { (locals : List Binder) (a : Simpl) (outputs : List Name) →
         ((y : Name) → assigns y a ≡ true → is_among y (names_of locals) ≡ true) →

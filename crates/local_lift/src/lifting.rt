@@ -62,7 +62,8 @@ fn row_before_exp(alloc: Global, locals: &[Binder], exp: &Exp, row: &Row) -> Res
     Ok(before)
 }
 
-/// What a command is lifted to. It goes back along the first parts by a loop, since a text may have long sequences.
+/// What a command is lifted to. It goes back along the first parts by a loop, since a text may have
+/// long sequences.
 #[cycle(lift)]
 pub(crate) fn lift(
     alloc: Global,

@@ -187,7 +187,8 @@ pub(crate) fn lived_alone(
     }
 }
 
-/// Rows before a command. It doesn't go into the bodies of loops, and goes back along the first parts by a loop.
+/// Rows before a command. It doesn't go into the bodies of loops, and goes back along the first
+/// parts by a loop.
 #[cycle(lived)]
 pub(crate) fn lived(
     alloc: Global,

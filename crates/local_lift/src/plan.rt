@@ -1,4 +1,5 @@
-//! Plans: commands with what is found of their parts, so that no level of nesting looks for it again.
+//! Plans: commands with what is found of their parts, so that no level of nesting looks for it
+//! again.
 
 ghost use Rattle.std.specs.Prelude.{◌≡◌, IfOk};
 
@@ -7,8 +8,8 @@ use expression_lang::Exp;
 use simpl_lang::{Condition, Simpl};
 use std::alloc::{AllocError, Global};
 
-/// What is found of a loop: what each local leads to in turns of it, and the locals that are live before it whatever is live
-/// after it.
+/// What is found of a loop: what each local leads to in turns of it, and the locals that are live
+/// before it whatever is live after it.
 #[derive(Drop)]
 pub(crate) struct Turns {
     pub(crate) steps: Vec<Row>,
@@ -41,7 +42,8 @@ impl Drop for Plan<'_> {
     }
 }
 
-/// What stands before a last part: first parts, each with the locals that it assigns, and guards, the last of them first.
+/// What stands before a last part: first parts, each with the locals that it assigns, and guards,
+/// the last of them first.
 #[cycle(plan)]
 pub(crate) enum Fronts<'a> {
     None,

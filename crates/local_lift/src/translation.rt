@@ -36,10 +36,11 @@ use rule_trees::Tree;
 use simpl_lang::{Simpl, is_bound, kind_in};
 use std::alloc::{AllocError, Global};
 
-/// Locals lifted out of the body of a function, for these outputs, and the tree of rules that shows it: what
-/// `specs/Lifted` of the rules has, where the function is ready for it, as in a well-formed unit. There is no answer only where
-/// memory is wanting. It takes the commands times the locals; a command in a loop takes the
-/// square of the locals, and a loop their cube.
+/// Locals lifted out of the body of a function, for these outputs, and the tree of rules that shows
+/// it: what
+/// `specs/Lifted` of the rules has, where the function is ready for it, as in a well-formed unit.
+/// There is no answer only where memory is wanting. It takes the commands times the locals; a
+/// command in a loop takes the square of the locals, and a loop their cube.
 pub fn translate(
     alloc: Global,
     left: &Simpl,
@@ -69,7 +70,8 @@ fn lifted_body(
     context: Context<'_>,
     outputs: &[String],
 ) -> Result<Lifted, AllocError>
-    ensures { IfOk result (λ l. are_kinds (kinds_of (map binder_of context.entry.locals.now)) ≡ true →
+    ensures { IfOk result (λ l. are_kinds (kinds_of (map binder_of context.entry.locals.now))
+        ≡ true →
         lifted_of l
         ≡ whole_by_live (context_of context.entry) (simpl_of left.now) (map string_bytes outputs.now)) }
 {

@@ -12,7 +12,8 @@ use crate::starts::same_starts;
 use expression_lang::{Kind, equal_types, same_exps, same_names};
 
 impl Mon {
-    /// Whether two programs are the same. It goes along the last parts by a loop, since a text may have long sequences.
+    /// Whether two programs are the same. It goes along the last parts by a loop, since a text may
+    /// have long sequences.
     #[cycle(comparison)]
     pub fn same(&self, other: &Mon) -> bool
         ensures { IsTrue result ↔ (mon_of self.now ≡ mon_of other.now) }

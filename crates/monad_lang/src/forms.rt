@@ -55,8 +55,8 @@ impl PlaceTest for NoPlace {
 }
 
 impl Mon {
-    /// Whether some expression has a part that passes the one test, or some write's place passes the other. It goes along the
-    /// last parts by a loop, since a text may have long sequences.
+    /// Whether some expression has a part that passes the one test, or some write's place passes
+    /// the other. It goes along the last parts by a loop, since a text may have long sequences.
     pub fn any<T: Test, P: PlaceTest>(&self, test: &T, places: &P) -> bool
         ensures { result ≡ program_has (T.holds test.now) (P.holds places.now) (mon_of self.now) }
     {
@@ -104,8 +104,8 @@ impl Mon {
         !self.any(&IsLoad, &IsStored)
     }
 
-    /// Whether the program is on typed heaps, and has no sum, difference, product, quotient, remainder, negation or order test of
-    /// words.
+    /// Whether the program is on typed heaps, and has no sum, difference, product, quotient,
+    /// remainder, negation or order test of words.
     pub fn is_numbers(&self) -> bool
         ensures { result ≡ is_numbers (mon_of self.now) }
     {

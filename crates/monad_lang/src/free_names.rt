@@ -99,7 +99,8 @@ fn is_in_place(name: &str, place: &Place) -> bool
     }
 }
 
-/// Whether the name is free in a program. It goes along the last parts by a loop, since a text may have long sequences.
+/// Whether the name is free in a program. It goes along the last parts by a loop, since a text may
+/// have long sequences.
 pub fn is_free(name: &str, m: &Mon) -> bool
     ensures { result ≡ is_free name.now (mon_of m.now) }
 {

@@ -14,11 +14,13 @@ use expression_lang::{Binder, Scalar, Scope};
 use monad_lang::Mon;
 use program_sorts::Phase;
 
-/// What is in scope: a function's parameters, or what is in scope in a program with the names of so many last parts of it.
+/// What is in scope: a function's parameters, or what is in scope in a program with the names of so
+/// many last parts of it.
 #[derive(Drop)]
 pub(crate) enum Inside<'a> {
     Parameters(&'a [Binder], Phase),
-    /// One link for any number of parts, since a chain with a link for each takes as much of the stack.
+    /// One link for any number of parts, since a chain with a link for each takes as much of the
+    /// stack.
     Passed(&'a Inside<'a>, Setting<'a>, &'a Mon, usize),
 }
 

@@ -1,9 +1,10 @@
 //! Which monadic programs are well-sorted, and which units are well-formed.
 //!
-//! Nothing here takes memory. So what is in scope is no table: a scope says how far into a program the place lies, and a name
-//! is found again in the program whenever it is asked for. One look goes over what was passed of the program, halving it again
-//! and again: for n parts it takes n times the logarithm of n steps at most, and n where the last of them binds the name to a
-//! value whose sort is plain.
+//! Nothing here takes memory. So what is in scope is no table: a scope says how far into a program
+//! the place lies, and a name is found again in the program whenever it is asked for. One look goes
+//! over what was passed of the program, halving it again and again: for n parts it takes n times
+//! the logarithm of n steps at most, and n where the last of them binds the name to a value whose
+//! sort is plain.
 #![tactic(auto)]
 
 mod counts;

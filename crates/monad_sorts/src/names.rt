@@ -1,53 +1,13 @@
 //! Names in order: whether they are distinct, and where one of them stands.
 
 ghost use Rattle.std.specs.Prelude.{◌≡◌, map, IfSome, IfNone};
-ghost use Rattle.c_values.specs.Name.{is_among, are_distinct};
+ghost use Rattle.c_values.specs.Name.{are_distinct};
 ghost use Rattle.monad_lang.specs.Run.{start_names};
 ghost use Rattle.monad_lang.specs.CodeProgram.{start_of, final_fn_of};
 ghost use Rattle.monad_sorts.specs.CodeInside.{IsAt, IsNowhere};
 
+use expression_lang::{Named, are_distinct};
 use monad_lang::{FinalFn, Start};
-
-/// What has a name.
-pub(crate) trait HasName {
-    ghost use Rattle.c_values.specs.Name.{Name};
-
-    ghost named: { Self → Name };
-
-    /// The name.
-    fn name(&self) -> &str
-        ensures { result.now ≡ named self.now };
-}
-
-impl HasName for String {
-    ghost use Rattle.std.specs.Prelude.{string_bytes};
-
-    ghost named = { λ name. string_bytes name };
-
-    fn name(&self) -> &str {
-        self.as_str()
-    }
-}
-
-impl HasName for Start {
-    ghost use Rattle.std.specs.Prelude.{string_bytes};
-
-    ghost named = { λ start. string_bytes start.name };
-
-    fn name(&self) -> &str {
-        self.name.as_str()
-    }
-}
-
-impl HasName for FinalFn {
-    ghost use Rattle.std.specs.Prelude.{string_bytes};
-
-    ghost named = { λ f. string_bytes f.name };
-
-    fn name(&self) -> &str {
-        self.name.as_str()
-    }
-}
 
 /// Whether no two functions have one name.
 pub(crate) fn are_functions_distinct(functions: &[FinalFn]) -> bool
@@ -63,32 +23,6 @@ pub(crate) fn are_starts_distinct(starts: &[Start]) -> bool
     are_distinct(starts)
 }
 
-/// Whether no two have one name.
-pub(crate) fn are_distinct<T: HasName>(items: &[T]) -> bool
-    ensures { result ≡ are_distinct (map T.named items.now) }
-{
-    let mut rest = items;
-    'items: while let Some((first, others)) = rest.split_first() {
-        if is_among(first.name(), others) {
-            return false;
-        }
-        rest = others;
-    }
-    true
-}
-
-// Whether one of them has the name.
-fn is_among<T: HasName>(name: &str, items: &[T]) -> bool
-    ensures { result ≡ is_among name.now (map T.named items.now) }
-{
-    'items: for item in items {
-        if name == item.name() {
-            return true;
-        }
-    }
-    false
-}
-
 /// The position of the last of the names of a loop that is this one.
 pub(crate) fn start_position(starts: &[Start], name: &str) -> Option<usize>
     ensures some { IfSome result (λ k. IsAt (start_names (map start_of starts.now)) name.now k) }
@@ -98,7 +32,7 @@ pub(crate) fn start_position(starts: &[Start], name: &str) -> Option<usize>
 }
 
 /// The position of the last that has the name.
-pub(crate) fn position<T: HasName>(items: &[T], name: &str) -> Option<usize>
+pub(crate) fn position<T: Named>(items: &[T], name: &str) -> Option<usize>
     ensures some { IfSome result (λ k. IsAt (map T.named items.now) name.now k) }
     ensures none { IfNone result (IsNowhere (map T.named items.now) name.now) }
 {

@@ -3,16 +3,14 @@
 ghost use Rattle.std.specs.Prelude.{◌≡◌, Some, map};
 ghost use Rattle.std.specs.Option.{option_map};
 ghost use Rattle.c_values.specs.Layout.{shape_of, global_type};
-ghost use Rattle.c_values.specs.Path.{Field, step_spot};
 ghost use Rattle.c_values.specs.CodeTypes.{type_of};
 ghost use Rattle.c_values.specs.CodeValue.{global_of};
-ghost use Rattle.expression_lang.specs.CodeAlong.{shape_at, element_in};
 ghost use Rattle.expression_lang.specs.CodeExpression.{path_of};
 ghost use Rattle.expression_lang.specs.CodeSort.{scalar_of};
 ghost use Rattle.monad_sorts.specs.CodeTold.{shape_through, scalar_at, part_told, global_told, address_told};
 
 use c_values::{CType, GlobalVar, Layout, address_width, width_of};
-use expression_lang::parts::global;
+use expression_lang::parts::{element, global, member};
 use expression_lang::{Path, Scalar};
 
 /// The scalar of an address.
@@ -62,7 +60,8 @@ fn scalar_of_type(l: &Layout, t: &CType) -> Option<Scalar>
     }
 }
 
-// The type at the end of a path. It goes along the path by a loop, since a text may have long paths.
+// The type at the end of a path. It goes along the path by a loop, since a text may have long
+// paths.
 #[tactic(auto, using(crate::proofs::Through::next_field, crate::proofs::Through::no_field, crate::proofs::Through::next_element, crate::proofs::Through::no_element))]
 fn part_type<'a>(l: &'a Layout, t: &'a CType, path: &Path) -> Option<&'a CType>
     ensures { option_map (λ u. shape_of l.now (type_of u.now)) result
@@ -88,33 +87,5 @@ fn part_type<'a>(l: &'a Layout, t: &'a CType, path: &Path) -> Option<&'a CType>
                 rest = &**next;
             }
         }
-    }
-}
-
-// The type of a member.
-fn member<'a>(l: &'a Layout, t: &'a CType, k: u32) -> Option<&'a CType>
-    ensures { option_map (λ u. shape_of l.now (type_of u.now)) result
-        ≡ shape_at (step_spot (shape_of l.now (type_of t.now)) (Field k)) }
-{
-    let CType::Struct(name) = t else {
-        return None;
-    };
-    match l.member(name.as_str(), k) {
-        Some((_, ty)) => Some(ty),
-        None => None,
-    }
-}
-
-// The type of the elements.
-fn element<'a>(l: &Layout, t: &'a CType) -> Option<&'a CType>
-    ensures { option_map (λ u. shape_of l.now (type_of u.now)) result
-        ≡ element_in (shape_of l.now (type_of t.now)) }
-{
-    // Its structs are no arrays.
-    let _ = l.target();
-    match t {
-        CType::Array(element, _) => Some(&**element),
-        CType::Struct(_) => None,
-        CType::Int(_) | CType::Void | CType::Ptr(_) => None,
     }
 }

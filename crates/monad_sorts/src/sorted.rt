@@ -16,15 +16,16 @@ ghost use Rattle.monad_sorts.specs.CodeInside.{setting_in, scalars_in, IsLoop};
 
 use crate::counts::{count_of, function};
 use crate::inside::Inside;
-use crate::names::{are_distinct, are_starts_distinct};
+use crate::names::are_starts_distinct;
 use crate::parts::last_of;
 use crate::scoped::{fits_global_in, fits_object_in, has_scalar, is_test_in, may_take_in};
 use crate::settings::Setting;
-use expression_lang::{Exp, Kind, Scalar};
+use expression_lang::{Exp, Kind, Scalar, are_distinct};
 use monad_lang::{Mon, Place, Start};
 use program_sorts::is_kind;
 
-/// Whether a program is well-sorted there. It goes along the last parts by a loop, since a text may have long sequences.
+/// Whether a program is well-sorted there. It goes along the last parts by a loop, since a text may
+/// have long sequences.
 #[cycle(sorted)]
 pub(crate) fn is_sorted(m: &Mon, inside: &Inside<'_>, setting: Setting<'_>) -> bool
     ensures { let t = setting_in setting.entry (scalars_in inside.now) in
@@ -206,7 +207,8 @@ fn is_same(scalar: Option<Scalar>, other: Option<Scalar>) -> bool
     }
 }
 
-/// Whether a program is well-sorted there, and gives values of these kinds, of which there is at most one.
+/// Whether a program is well-sorted there, and gives values of these kinds, of which there is at
+/// most one.
 pub(crate) fn gives(m: &Mon, kinds: &[Kind], inside: &Inside<'_>, setting: Setting<'_>) -> bool
     ensures { let t = setting_in setting.entry (scalars_in inside.now) in
         result ≡ (has_few (map kind_of kinds.now)

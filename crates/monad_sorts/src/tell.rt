@@ -24,8 +24,8 @@ pub(crate) enum Told<'a> {
     AsName(&'a str),
 }
 
-/// The scalar of an expression, if it is well-sorted. It goes from operand to operand by a loop, since a text may have long
-/// expressions.
+/// The scalar of an expression, if it is well-sorted. It goes from operand to operand by a loop,
+/// since a text may have long expressions.
 pub(crate) fn tell<'a>(e: &'a Exp, setting: Setting<'_>) -> Told<'a>
     ensures { (names : Name → Option plain.Scalar) →
         scalar_by names result ≡ told (setting_in setting.entry names).scope (exp_of e.now) }

@@ -15,8 +15,9 @@ use crate::tell::{Told, tell_exp, tell_start};
 use monad_lang::Mon;
 use program_sorts::Phase;
 
-/// The scalar of one of a program's values, if it is well-sorted. It goes along the sequence by a loop, and then back over the
-/// parts whose names it leads to. It takes some 200 bytes of the stack at each level of the program.
+/// The scalar of one of a program's values, if it is well-sorted. It goes along the sequence by a
+/// loop, and then back over the parts whose names it leads to. It takes some 200 bytes of the stack
+/// at each level of the program.
 #[cycle(told)]
 pub(crate) fn tell_value<'a>(m: &'a Mon, position: usize, setting: Setting<'_>) -> Told<'a>
     ensures { (names : Name → Option plain.Scalar) → scalar_by names result
@@ -56,8 +57,9 @@ fn tell_own<'a>(m: &'a Mon, position: usize, setting: Setting<'_>) -> Told<'a>
     }
 }
 
-/// What is told where so many last parts of a program were passed, told where it begins. It looks at the later half of them
-/// first, so it takes some 250 bytes of the stack for each halving of their number.
+/// What is told where so many last parts of a program were passed, told where it begins. It looks
+/// at the later half of them first, so it takes some 250 bytes of the stack for each halving of
+/// their number.
 #[cycle(told)]
 pub(crate) fn look_back<'a>(
     m: &'a Mon,

@@ -12,12 +12,13 @@ use crate::inside::Inside;
 use crate::names::are_functions_distinct;
 use crate::settings::Setting;
 use crate::sorted::gives;
-use expression_lang::Kind;
+use expression_lang::{Kind, are_binders_distinct, are_globals_distinct};
 use monad_lang::{FinalFn, FinalUnit};
-use program_sorts::{Phase, are_binders_distinct, are_globals_distinct, are_kinds, is_kind};
+use program_sorts::{Phase, are_kinds, is_kind};
 
-/// Whether a unit is well-formed. It takes no memory, and of the stack no more for longer programs. A look-up of a name takes
-/// time that grows as the length of the program, so the whole takes time that grows as its square.
+/// Whether a unit is well-formed. It takes no memory, and of the stack no more for longer programs.
+/// A look-up of a name takes time that grows as the length of the program, so the whole takes time
+/// that grows as its square.
 #[tactic(auto, using(crate::proofs::Formed::formed_sound, crate::proofs::Formed::formed_complete))]
 pub fn is_well_formed(u: &FinalUnit) -> bool
     ensures sound { result ≡ true → IsWellFormed (final_unit_of u.now) }
@@ -28,7 +29,8 @@ pub fn is_well_formed(u: &FinalUnit) -> bool
     is_formed(u)
 }
 
-/// Whether a function's program is well-sorted in a phase, and gives at most one value, of its result's kind.
+/// Whether a function's program is well-sorted in a phase, and gives at most one value, of its
+/// result's kind.
 pub fn is_program_sorted(u: &FinalUnit, phase: Phase, f: &FinalFn) -> bool
     ensures { result ≡ is_program_sorted (sort_for phase) (final_unit_of u.now)
         (final_fn_of f.now) }

@@ -16,8 +16,9 @@ ghost use Rattle.pipeline.specs.Whole.{IsWhole};
 ghost use Rattle.pipeline.specs.Taken.{AreTaken};
 ghost use Rattle.pipeline.specs.Translated.{unit_translated};
 
-/// The last programs of a whole chain are exact: what the six laws keep, one after the other, is all that exactness asks,
-/// from the heap of a function's level and, where that is a typed heap, from the bytes themselves.
+/// The last programs of a whole chain are exact: what the six laws keep, one after the other, is
+/// all that exactness asks, from the heap of a function's level and, where that is a typed heap,
+/// from the bytes themselves.
 pub fn chains_are_exact()
     ensures { (u : TypedUnit) (levels : Name → Level) (generated flat : SimplUnit)
         (local heap word last : FinalUnit) →
@@ -25,8 +26,9 @@ pub fn chains_are_exact()
         IsWhole u levels flat local word last → IsExact u levels last }
 {}
 
-/// Units that the kernels' rules take to each other, from what generation makes of a well-typed unit, are a whole chain. So
-/// the last programs are exact, by whatever trees the rules took them there.
+/// Units that the kernels' rules take to each other, from what generation makes of a well-typed
+/// unit, are a whole chain. So the last programs are exact, by whatever trees the rules took them
+/// there.
 pub fn taken_units_are_exact()
     ensures chain { (u : TypedUnit) (levels : Name → Level) (generated flat : SimplUnit)
         (local heap word last : FinalUnit) →
@@ -41,9 +43,9 @@ pub fn taken_units_are_exact()
         AreTaken u levels generated flat local heap word last → IsExact u levels last }
 {}
 
-/// The translations make exact programs of every well-typed unit, whatever its levels, where a function on typed heaps calls
-/// such functions alone: so at the levels that functions have by default. Expressions are compared by any test that holds of
-/// none but equal ones.
+/// The translations make exact programs of every well-typed unit, whatever its levels, where a
+/// function on typed heaps calls such functions alone: so at the levels that functions have by
+/// default. Expressions are compared by any test that holds of none but equal ones.
 pub fn translated_units_are_exact()
     ensures programs { (same : Exp → Exp → Bool) (u : TypedUnit) (levels : Name → Level) →
         AreProgramsOf u levels (unit_translated same u levels) }

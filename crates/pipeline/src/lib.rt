@@ -1,4 +1,5 @@
-//! The chain from a C unit to its last programs: what each phase keeps, as definitions, and that the last programs are exact.
+//! The chain from a C unit to its last programs: what each phase keeps, as definitions, and that
+//! the last programs are exact.
 #![tactic(auto)]
 
 mod laws;

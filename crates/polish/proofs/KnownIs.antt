@@ -7,7 +7,7 @@ use Rattle.ac_expr.specs.SameExp.{same_exp}
 use Rattle.ac_expr.specs.Known.{SomeFact, GivesAtOnce, Gives, IsKnown}
 use Rattle.ac_expr.proofs.SameExps.{exp_is}
 use Rattle.polish.specs.Known.{some_fact, gives_at_once, gives, is_known}
-use Rattle.polish.proofs.Itself.{exp_itself}
+use Rattle.ac_expr.proofs.Itself.{exp_itself}
 
 found_same : (a b : Exp) → a ≡ b → same_exp a b ≡ true
 found_same a b e = subst (λ x. same_exp a x ≡ true) e (exp_itself a)

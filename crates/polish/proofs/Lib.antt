@@ -11,7 +11,6 @@ pub mod Folds
 pub mod MadeTidy
 pub mod FormsMade
 pub mod Fixed
-pub mod Itself
 pub mod KnownIs
 pub mod PrunedReached
 pub mod FormsPruned

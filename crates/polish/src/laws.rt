@@ -9,8 +9,9 @@ ghost use Rattle.rule_eq.specs.Rule.{Point};
 ghost use Rattle.polish.specs.Polished.{polished};
 ghost use Rattle.polish.specs.Translation.{translation, IsTidyOf};
 
-/// The rules take every program that is well-sorted at a point to what it is made there, which is tidy, gives the same scalars
-/// and keeps its forms: by the steps that look at no facts, and with those that drop what is known.
+/// The rules take every program that is well-sorted at a point to what it is made there, which is
+/// tidy, gives the same scalars and keeps its forms: by the steps that look at no facts, and with
+/// those that drop what is known.
 pub fn programs_are_made_tidy()
     ensures polished { (l : Layout) → IsLayout l → (at : Point) → at.setting.scope.layout ≡ l →
         (m : Mon) (given : List Scalar) → scalars_given at.setting m ≡ Some given →

@@ -11,8 +11,8 @@ ghost use Rattle.monad_lang.specs.Program.{Mon, FinalUnit};
 ghost use Rattle.monad_lang.specs.Run.{Answer, runs, functions_below};
 ghost use Rattle.program_facts.specs.Flow.{facts_after};
 
-/// The facts that are kept after a program hold wherever a run of it is done, with its values bound to their names, if the facts
-/// before it held where it began.
+/// The facts that are kept after a program hold wherever a run of it is done, with its values bound
+/// to their names, if the facts before it held where it began.
 pub fn facts_hold_after()
     ensures { (u : FinalUnit) (p : Choice) (n : ℕ) (m : Mon) (xs : List Name) (fs : List Fact)
         (env : Env) (depth : Option ℕ) (s : State) → AllSay u.layout env s fs →

@@ -14,7 +14,8 @@ ghost use Rattle.monad_lang.specs.Run.{runs, functions_below, program_runs};
 ghost use Rattle.monad_lang.specs.Sorted.{scalars_given, IsWellFormed};
 ghost use Rattle.program_facts.specs.Lasting.{KeepsTags, Lasts, UnitLasts, setting_in, are_sorted_for};
 
-/// A run leaves the tags as they were: whatever a function is called with, and from every environment and state.
+/// A run leaves the tags as they were: whatever a function is called with, and from every
+/// environment and state.
 pub fn runs_keep_tags()
     ensures calls { (u : FinalUnit) (p : Choice) (n : ℕ) (depth : Option ℕ) (c : Invocation) →
         Always (KeepsTags c.state) (program_runs u p n depth c) }
@@ -23,8 +24,9 @@ pub fn runs_keep_tags()
         Always (KeepsTags s) (runs u.layout p m env depth (functions_below u p n) s) }
 {}
 
-/// The functions of a unit whose programs are well-sorted give values of their results' sorts and leave states that can be: of a
-/// well-formed unit, and at any sorts for the kinds. So do well-sorted programs that call them.
+/// The functions of a unit whose programs are well-sorted give values of their results' sorts and
+/// leave states that can be: of a well-formed unit, and at any sorts for the kinds. So do
+/// well-sorted programs that call them.
 pub fn sorted_units_last()
     ensures formed { (u : FinalUnit) → IsWellFormed u → UnitLasts sort_of_kind u }
     ensures sorted { (sort_for : Kind → Scalar) (u : FinalUnit) → IsLayout u.layout →

@@ -8,8 +8,8 @@ ghost use Rattle.program_facts.specs.CodeParts.{sequence};
 use ac_expr::{Exp, Sequence, Split};
 use monad_lang::Mon;
 
-/// A program, by its parts that come one after the other. It points at boxes alone: facts with a larger type in them are more than
-/// the language's types may reach.
+/// A program, by its parts that come one after the other. It points at boxes alone: facts with a
+/// larger type in them are more than the language's types may reach.
 #[derive(Clone, Copy)]
 pub enum Parts<'a> {
     /// No part.
@@ -79,7 +79,8 @@ impl Sequence for Parts<'_> {
     }
 }
 
-/// Whether a write or a call stands in a program. It goes along the last parts by a loop, since a text may have long sequences.
+/// Whether a write or a call stands in a program. It goes along the last parts by a loop, since a
+/// text may have long sequences.
 pub fn changes_state(m: &Mon) -> bool
     ensures { result ≡ changes_state (mon_of m.now) }
 {

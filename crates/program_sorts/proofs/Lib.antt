@@ -1,4 +1,3 @@
 pub mod PlaceTypes
 pub mod WholeParts
 pub mod Arguments
-pub mod BinderNames

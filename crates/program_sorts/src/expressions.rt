@@ -12,7 +12,8 @@ use c_values::{GlobalVar, Layout};
 use expression_lang::sort_rules::is_truth;
 use expression_lang::{Exp, IsPartOfValue, Scope, Sort, sort_of};
 
-/// The sort of an expression of a program. There is none where a part of a value is taken or replaced.
+/// The sort of an expression of a program. There is none where a part of a value is taken or
+/// replaced.
 pub fn program_sort<'a, N: Scope>(
     e: &'a Exp,
     names: &N,

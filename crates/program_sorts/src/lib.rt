@@ -1,16 +1,14 @@
-//! The sorts of what commands and monadic programs hold: their expressions, the places that they write to, and the
-//! arguments of their calls.
+//! The sorts of what commands and monadic programs hold: their expressions, the places that they
+//! write to, and the arguments of their calls.
 #![tactic(auto)]
 
 mod calls;
-mod distinct_names;
 mod expressions;
 mod phases;
 mod places;
 mod scalars;
 
 pub use calls::{may_take, signature};
-pub use distinct_names::{Named, are_binders_distinct, are_distinct, are_globals_distinct};
 pub use expressions::{is_test, program_sort};
 pub use phases::Phase;
 pub use places::{fits_global, fits_object};

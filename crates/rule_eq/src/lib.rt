@@ -1,4 +1,5 @@
-//! The rules that take programs to programs that mean the same: their table, and that what they take a program to is exact.
+//! The rules that take programs to programs that mean the same: their table, and that what they
+//! take a program to is exact.
 #![tactic(auto)]
 
 mod laws;

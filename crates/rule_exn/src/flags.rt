@@ -64,7 +64,8 @@ pub(crate) fn is_skipped_where_thrown(c: &Simpl) -> bool
     }
 }
 
-/// Whether a command clears the flag where something was thrown and goes on then, and does nothing else.
+/// Whether a command clears the flag where something was thrown and goes on then, and does nothing
+/// else.
 pub(crate) fn is_handled(c: &Simpl) -> bool
     ensures { IsTrue result ↔ IsHandled (simpl_of c.now) }
 {

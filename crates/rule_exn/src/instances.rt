@@ -1,4 +1,5 @@
-//! Which two commands are an instance of a rule. One function for each rule that asks more than that the sides are the same.
+//! Which two commands are an instance of a rule. One function for each rule that asks more than
+//! that the sides are the same.
 
 ghost use Rattle.std.specs.Prelude.{◌≡◌, ◌↔◌, true, IsTrue};
 ghost use Rattle.simpl_lang.specs.CodeCommand.{simpl_of};

@@ -16,8 +16,9 @@ use crate::rule::{Parts, Rule};
 use rule_trees::{At, Tree, both, next, only};
 use simpl_lang::Simpl;
 
-/// Whether the rules of a tree take a left side to a right side: yes exactly where each node is an instance of its rule, else
-/// the first node that isn't. Both sides are looked at once, and no memory is taken.
+/// Whether the rules of a tree take a left side to a right side: yes exactly where each node is an
+/// instance of its rule, else the first node that isn't. Both sides are looked at once, and no
+/// memory is taken.
 #[tactic(auto, using(rule_trees::proofs::Checking::checked_accepts))]
 pub fn check(tree: &Tree<Rule>, left: &Simpl, right: &Simpl) -> Result<(), At>
     ensures { IsVerdict table (tree_of tree.now) (simpl_of left.now to simpl_of right.now)
@@ -29,8 +30,9 @@ pub fn check(tree: &Tree<Rule>, left: &Simpl, right: &Simpl) -> Result<(), At>
     }
 }
 
-// The number behind the last node of a tree whose first has the number `at`, or the number of the first bad node. It goes
-// along the last parts by a loop, since a text may have long sequences. It may be known that the left side is quiet.
+// The number behind the last node of a tree whose first has the number `at`, or the number of the
+// first bad node. It goes along the last parts by a loop, since a text may have long sequences. It
+// may be known that the left side is quiet.
 fn checked(
     tree: &Tree<Rule>,
     left: &Simpl,

@@ -1,5 +1,5 @@
-//! The rules that take exceptions out of commands: their table, that what they take a command to is exact, and the kernel that
-//! decides whether a tree of rules takes one command to another.
+//! The rules that take exceptions out of commands: their table, that what they take a command to is
+//! exact, and the kernel that decides whether a tree of rules takes one command to another.
 #![tactic(auto)]
 
 mod flags;

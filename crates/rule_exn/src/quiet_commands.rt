@@ -6,8 +6,9 @@ ghost use Rattle.rule_exn.specs.Quiet.{quiet};
 
 use simpl_lang::Simpl;
 
-/// Whether a command is quiet: it ends without an exception whenever it ends, by the look of it. It goes along the last
-/// parts by a loop. Of a catch the handler is looked at first, which most often is a skip.
+/// Whether a command is quiet: it ends without an exception whenever it ends, by the look of it. It
+/// goes along the last parts by a loop. Of a catch the handler is looked at first, which most often
+/// is a skip.
 pub fn quiet(c: &Simpl) -> bool
     ensures { result ≡ quiet (simpl_of c.now) }
 {

@@ -1,4 +1,5 @@
-//! What the two sides leave to the parts: expressions in pairs, and then claims under more or under other facts.
+//! What the two sides leave to the parts: expressions in pairs, and then claims under more or under
+//! other facts.
 
 ghost use Rattle.std.specs.Prelude.{◌≡◌, [], ◌∷◌, List, IfSome, IfNone};
 ghost use Rattle.expression_lang.specs.CodeExpression.{exp_of};
@@ -21,7 +22,8 @@ pub(crate) enum Exps<'a> {
 impl<'a> Exps<'a> {
     /// The first, and those behind it.
     pub(crate) fn next(self) -> Option<(&'a Exp, Exps<'a>)>
-        ensures some { IfSome result (λ (first, rest). exps_in self.entry ≡ exp_of first.now ∷ exps_in rest) }
+        ensures some { IfSome result (λ (first, rest). exps_in self.entry
+            ≡ exp_of first.now ∷ exps_in rest) }
         ensures none { IfNone result (exps_in self.entry ≡ []) }
     {
         match self {
@@ -140,7 +142,8 @@ impl<'a> Then<'a> {
 /// What two expressions leave behind the pairs.
 #[inline(never)]
 pub(crate) fn exp_thens<'a>(left: &'a Exp, right: &'a Exp) -> Then<'a>
-    ensures { (fs : List Fact) → then_in fs result ≡ exp_thens fs (exp_of left.now) (exp_of right.now) }
+    ensures { (fs : List Fact) → then_in fs result
+        ≡ exp_thens fs (exp_of left.now) (exp_of right.now) }
 {
     match left {
         Exp::And(_, b) => match right {
@@ -166,7 +169,8 @@ pub(crate) fn exp_thens<'a>(left: &'a Exp, right: &'a Exp) -> Then<'a>
 /// What two programs leave behind the pairs.
 #[inline(never)]
 pub(crate) fn program_thens<'a>(left: &'a Mon, right: &'a Mon) -> Then<'a>
-    ensures { (fs : List Fact) → then_in fs result ≡ program_thens fs (mon_of left.now) (mon_of right.now) }
+    ensures { (fs : List Fact) → then_in fs result
+        ≡ program_thens fs (mon_of left.now) (mon_of right.now) }
 {
     match left {
         Mon::If(_, m, n) => match right {

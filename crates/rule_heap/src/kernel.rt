@@ -37,7 +37,8 @@ fn rights<'a>(rule: &'a Rule, right: &'a Exp) -> Exps<'a>
 
 // Whether there is a tree for each of the claims behind the pairs.
 fn is_matched_then(parts: &[Tree<Rule>], then: Then<'_>) -> bool
-    ensures { (fs : List Known) → IsTrue result ↔ (length parts.now ≡ length (then_in fs then.entry)) }
+    ensures { (fs : List Known) → IsTrue result
+        ↔ (length parts.now ≡ length (then_in fs then.entry)) }
 {
     match then {
         Then::Nothing => parts.is_empty(),
@@ -102,7 +103,8 @@ fn given_of<'a>(claim: Claim<'a>) -> Given<'a>
 
 fn is_same(rule: &Rule) -> bool
     ensures yes { result ≡ true → rule_of rule.now ≡ names.Same }
-    ensures no { result ≡ false → is_step (rule_of rule.now) ≡ false → is_flat (rule_of rule.now) ≡ true }
+    ensures no { result ≡ false → is_step (rule_of rule.now) ≡ false → is_flat (rule_of rule.now)
+        ≡ true }
 {
     matches!(rule, Rule::Same)
 }
@@ -172,8 +174,8 @@ fn address(m: &Mon) -> Option<&Exp>
     }
 }
 
-// What is checked of an expression: the number behind the last node of a tree whose first has the number `at`, or the number of
-// the first bad node.
+// What is checked of an expression: the number behind the last node of a tree whose first has the
+// number `at`, or the number of the first bad node.
 #[cycle(checking)]
 fn checked_exp(
     tree: &Tree<Rule>,
@@ -418,8 +420,8 @@ fn checked_step(
     }
 }
 
-// The same of two programs. It goes along a sequence by a loop, with one link of facts for all of the parts that were passed, since
-// a text may have long sequences.
+// The same of two programs. It goes along a sequence by a loop, with one link of facts for all of
+// the parts that were passed, since a text may have long sequences.
 #[cycle(checking)]
 fn checked(
     tree: &Tree<Rule>,
@@ -474,8 +476,9 @@ fn checked(
     }
 }
 
-/// Whether the rules of a tree take a program on bytes to one on typed heaps, where these facts are known: yes exactly where each
-/// node is an instance of its rule, else the first node that isn't. Both sides are looked at, and no memory is taken.
+/// Whether the rules of a tree take a program on bytes to one on typed heaps, where these facts are
+/// known: yes exactly where each node is an instance of its rule, else the first node that isn't.
+/// Both sides are looked at, and no memory is taken.
 #[tactic(auto, using(rule_trees::proofs::Checking::checked_accepts))]
 pub fn check(tree: &Tree<Rule>, left: &Mon, right: &Mon, context: Context<'_>) -> Result<(), At>
     ensures { IsVerdict (table_at context.entry) (tree_of tree.now)

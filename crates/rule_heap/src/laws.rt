@@ -17,8 +17,9 @@ ghost use Rattle.rule_heap.specs.Exact.{StandsFor};
 ghost use Rattle.rule_heap.specs.HeapLifted.{on_heaps, heap_tree, IsHeapReady, unit_on_heaps, AreFunctionsReady};
 ghost use Rattle.rule_heap.specs.Units.{IsUnitTakenTo, UnitsKeepHeaps};
 
-/// What the rules take a well-sorted program on bytes of a well-formed unit to stands for it, where it calls lifted functions
-/// alone: from the view of the bytes and from one heap, where the facts hold; and it is steady.
+/// What the rules take a well-sorted program on bytes of a well-formed unit to stands for it, where
+/// it calls lifted functions alone: from the view of the bytes and from one heap, where the facts
+/// hold; and it is steady.
 pub fn taken_stands_for()
     ensures { (u : FinalUnit) (levels : Name → Level) → IsWellFormed u →
         (facts : List Fact) (names : Name → Option Scalar) (given : List Scalar) (t : Tree Rule)
@@ -28,16 +29,17 @@ pub fn taken_stands_for()
         StandsFor u levels facts names left right }
 {}
 
-/// The functions of a well-formed unit of programs on bytes and of a unit of programs on typed heaps have the same results on
-/// the heaps of their levels, fail alike and stop alike, where the rules take each lifted body of the one to that of the other.
+/// The functions of a well-formed unit of programs on bytes and of a unit of programs on typed
+/// heaps have the same results on the heaps of their levels, fail alike and stop alike, where the
+/// rules take each lifted body of the one to that of the other.
 pub fn units_taken_keep_heaps()
     ensures { (levels : Name → Level) (u v : FinalUnit) → IsWellFormed u →
         IsUnitTakenTo levels u v → UnitsKeepHeaps levels u v }
 {}
 
-/// Loads become reads and stores writes in every ready program: the rules take it to what it is lifted to, under its facts. Every
-/// lifted program is in heaps form and gives the scalars that it gave. What a well-formed ready unit is lifted to is well-formed,
-/// and does the same.
+/// Loads become reads and stores writes in every ready program: the rules take it to what it is
+/// lifted to, under its facts. Every lifted program is in heaps form and gives the scalars that it
+/// gave. What a well-formed ready unit is lifted to is well-formed, and does the same.
 pub fn programs_are_lifted_to_heaps()
     ensures taken { (l : Layout) (m : Mon) (facts : List Fact) → IsHeapReady l facts m →
         Takes l facts (heap_tree m) m (on_heaps m) }

@@ -1,5 +1,6 @@
-//! The rules that take programs on bytes to programs on typed heaps: their table, that what they take a program to is exact, and the
-//! kernel that decides whether a tree of rules takes the one to the other.
+//! The rules that take programs on bytes to programs on typed heaps: their table, that what they
+//! take a program to is exact, and the kernel that decides whether a tree of rules takes the one to
+//! the other.
 #![tactic(auto)]
 
 mod claims;

@@ -27,7 +27,8 @@ pub(crate) fn is_place(t: &CType, p: &Exp, path: &Path, context: Context<'_>) ->
 
 /// Whether a root is known to be covered.
 pub(crate) fn is_covered(t: &CType, p: &Exp, context: Context<'_>) -> bool
-    ensures { IsTrue result ↔ IsKnown (facts_at context.entry) (plain.Tagged (type_of t.now) (exp_of p.now)) }
+    ensures { IsTrue result
+        ↔ IsKnown (facts_at context.entry) (plain.Tagged (type_of t.now) (exp_of p.now)) }
 {
     known(context.facts, &Fact::Tagged(t, p))
 }
@@ -75,8 +76,8 @@ fn member<'a>(t: &'a CType, k: u32, context: Context<'a>) -> Option<&'a CType>
     }
 }
 
-// Whether each member of a path into an object is there, and each index is known to be of an element that is. It goes along the
-// path by a loop, since a type may nest deeply.
+// Whether each member of a path into an object is there, and each index is known to be of an
+// element that is. It goes along the path by a loop, since a type may nest deeply.
 fn are_in_range(path: &Path, t: &CType, context: Context<'_>) -> bool
     ensures { IsTrue result ↔ AreInRange (facts_at context.entry) (path_of path.now)
         (shape_of context.entry.layout.now (type_of t.now)) }

@@ -1,4 +1,5 @@
-//! The rules that take programs on bytes to programs on typed heaps, by name, and where they are taken.
+//! The rules that take programs on bytes to programs on typed heaps, by name, and where they are
+//! taken.
 
 use ac_expr::Facts;
 use c_values::Layout;

@@ -62,7 +62,8 @@ impl NameTest for IsLostInTurns<'_> {
     }
 }
 
-// Whether a loop looks at a name again: in its guard, its test and its body, or whether it is looked at afterwards.
+// Whether a loop looks at a name again: in its guard, its test and its body, or whether it is
+// looked at afterwards.
 fn is_needed(name: &str, guard: &Exp, turn: &Exp, body: &Mon, outputs: &[String]) -> bool
     ensures { result ≡ is_needed (exp_of guard.now) (exp_of turn.now) (mon_of body.now)
         (map string_bytes outputs.now) name.now }
@@ -70,8 +71,8 @@ fn is_needed(name: &str, guard: &Exp, turn: &Exp, body: &Mon, outputs: &[String]
     is_in(name, guard) || is_in(name, turn) || is_free(name, body) || is_among(name, outputs)
 }
 
-// Whether some local that a command assigns passes a test. It goes along the last parts by a loop, since a text may have long
-// sequences.
+// Whether some local that a command assigns passes a test. It goes along the last parts by a loop,
+// since a text may have long sequences.
 fn assigns_some<T: NameTest>(c: &Simpl, test: &T) -> bool
     ensures { result ≡ assigns_some (T.holds test.now) (simpl_of c.now) }
 {
@@ -102,7 +103,8 @@ fn target_passes<T: NameTest>(target: &Option<String>, test: &T) -> bool
     }
 }
 
-/// Whether each local that a command assigns and that is free in the program is among those handed on.
+/// Whether each local that a command assigns and that is free in the program is among those handed
+/// on.
 pub(crate) fn carries_free(handed_on: &[String], c: &Simpl, program: &Mon) -> bool
     ensures { IsTrue result ↔ Carries (map string_bytes handed_on.now) (simpl_of c.now)
         (λ y. is_free y (mon_of program.now)) }
@@ -110,7 +112,8 @@ pub(crate) fn carries_free(handed_on: &[String], c: &Simpl, program: &Mon) -> bo
     !assigns_some(c, &IsLostAfterwards { handed_on, program })
 }
 
-/// Whether each local that a loop's body assigns and that is looked at again or afterwards is among those handed on.
+/// Whether each local that a loop's body assigns and that is looked at again or afterwards is among
+/// those handed on.
 pub(crate) fn carries_needed(
     handed_on: &[String],
     c: &Simpl,

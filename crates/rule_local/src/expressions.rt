@@ -80,7 +80,8 @@ pub(crate) fn are_vars_with(exps: &[Exp], taking: &str, value: &Exp, names: &[St
 
 // Whether a start is of the name, with what it holds.
 fn is_start_of(start: &Start, name: &str) -> bool
-    ensures { IsTrue result ↔ (start_of start.now ≡ record { name = name.now; exp = Var name.now }) }
+    ensures { IsTrue result
+        ↔ (start_of start.now ≡ record { name = name.now; exp = Var name.now }) }
 {
     start.name.as_str() == name && is_var(&start.exp, name)
 }

@@ -21,8 +21,8 @@ use expression_lang::{Exp, Kind, Path, equal_types, same_exps};
 use monad_lang::{Mon, Place, is_among};
 use simpl_lang::{Condition, Simpl, kind_in};
 
-/// Whether what a rule asks of a command, of a program and of what this gives holds: of the whole body of a function, or of a
-/// part of one.
+/// Whether what a rule asks of a command, of a program and of what this gives holds: of the whole
+/// body of a function, or of a part of one.
 pub(crate) fn is_asked(
     rule: Rule,
     left: &Simpl,
@@ -349,8 +349,8 @@ fn is_word(width: u8, kind: Kind) -> bool
     }
 }
 
-// Whether a program is the loop of the conditions and the test over the names, which are among all that its body assigns and
-// that is looked at again or afterwards.
+// Whether a program is the loop of the conditions and the test over the names, which are among all
+// that its body assigns and that is looked at again or afterwards.
 fn is_loop_of(
     m: &Mon,
     names: &[String],

@@ -19,8 +19,9 @@ use monad_lang::Mon;
 use rule_trees::{At, Tree, both, next, only};
 use simpl_lang::Simpl;
 
-/// Whether the rules of a tree take the body of a function to a program that gives the outputs: yes exactly where each node is an
-/// instance of its rule, else the first node that isn't. Both sides are looked at, and no memory is taken.
+/// Whether the rules of a tree take the body of a function to a program that gives the outputs: yes
+/// exactly where each node is an instance of its rule, else the first node that isn't. Both sides
+/// are looked at, and no memory is taken.
 #[tactic(auto, using(rule_trees::proofs::Checking::checked_accepts))]
 pub fn check(
     tree: &Tree<Rule>,
@@ -39,8 +40,8 @@ pub fn check(
     }
 }
 
-// The number behind the last node of a tree whose first has the number `at`, or the number of the first bad node. It goes
-// along the last parts by a loop, since a text may have long sequences.
+// The number behind the last node of a tree whose first has the number `at`, or the number of the
+// first bad node. It goes along the last parts by a loop, since a text may have long sequences.
 fn checked(
     tree: &Tree<Rule>,
     left: &Simpl,
@@ -106,8 +107,8 @@ fn checked(
     }
 }
 
-// Whether two sides are an instance of a rule: what the rule asks holds, and the free names of a whole function's program are
-// parameters.
+// Whether two sides are an instance of a rule: what the rule asks holds, and the free names of a
+// whole function's program are parameters.
 fn is_instance(
     rule: Rule,
     left: &Simpl,

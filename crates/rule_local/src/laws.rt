@@ -20,8 +20,8 @@ ghost use Rattle.rule_local.specs.Lifted.{AllFlat, handed_on, lifted, locals_lif
 ghost use Rattle.rule_local.specs.Exact.{StandsFor, StandsForWhole};
 ghost use Rattle.rule_local.specs.Units.{IsUnitLiftedTo, UnitsKeepLocals};
 
-/// What the rules take a command to stands for the command: a part from wherever both sides agree on what the right side looks
-/// at, and the body of a function from its start.
+/// What the rules take a command to stands for the command: a part from wherever both sides agree
+/// on what the right side looks at, and the body of a function from its start.
 pub fn taken_is_exact()
     ensures part { (ctx : Context) (t : Tree Rule) (left : Simpl) (right : Mon) (outputs : List Name) →
         Takes ctx t left right outputs → StandsFor ctx left right outputs }
@@ -29,16 +29,18 @@ pub fn taken_is_exact()
         TakesWhole ctx t left right outputs → StandsForWhole ctx left right outputs }
 {}
 
-/// The functions of a well-formed unit of commands and of a unit of programs have the same results and states, fail alike and
-/// stop alike, where the rules take each body of the one to that of the other.
+/// The functions of a well-formed unit of commands and of a unit of programs have the same results
+/// and states, fail alike and stop alike, where the rules take each body of the one to that of the
+/// other.
 pub fn lifted_units_keep_locals()
     ensures { (u : SimplUnit) (v : FinalUnit) → IsWellFormed u → IsUnitLiftedTo u v →
         UnitsKeepLocals u v }
 {}
 
-/// Locals can be lifted out of every flat command: the rules take the body of a function to what it is lifted to, where its
-/// names and its outputs are locals, as in a well-formed unit; and that is in bytes form where the command is. What a
-/// well-formed flat unit is lifted to is well-formed, and does the same.
+/// Locals can be lifted out of every flat command: the rules take the body of a function to what it
+/// is lifted to, where its names and its outputs are locals, as in a well-formed unit; and that is
+/// in bytes form where the command is. What a well-formed flat unit is lifted to is well-formed,
+/// and does the same.
 pub fn locals_are_lifted()
     ensures taken { (ctx : Context) (a : Simpl) (outputs : List Name) → is_flat a ≡ true →
         ((x : Name) → command_names x a ≡ true → is_among x (names_of ctx.locals) ≡ true) →
@@ -46,9 +48,11 @@ pub fn locals_are_lifted()
         TakesWhole ctx (locals_lifted ctx a outputs).tree a (locals_lifted ctx a outputs).right outputs }
     ensures bytes { (ctx : Context) (a : Simpl) (outputs : List Name) → is_bytes_command a ≡ true →
         is_bytes (locals_lifted ctx a outputs).right ≡ true }
-    ensures unit { (u : SimplUnit) → IsWellFormed u → AllFlat u.functions → IsUnitLiftedTo u (unit_lifted u) }
+    ensures unit { (u : SimplUnit) → IsWellFormed u → AllFlat u.functions →
+        IsUnitLiftedTo u (unit_lifted u) }
     ensures formed { (u : SimplUnit) → IsWellFormed u → Mon.IsWellFormed (unit_lifted u) }
-    ensures kept { (u : SimplUnit) → IsWellFormed u → AllFlat u.functions → UnitsKeepLocals u (unit_lifted u) }
+    ensures kept { (u : SimplUnit) → IsWellFormed u → AllFlat u.functions →
+        UnitsKeepLocals u (unit_lifted u) }
 {}
 
 /// A loop hands on the least names that meet its condition: whatever meets it has them all.

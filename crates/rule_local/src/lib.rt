@@ -1,5 +1,5 @@
-//! The rules that lift locals into bound names: their table, that what they take a command to is exact, and the kernel that
-//! decides whether a tree of rules takes a command to a program.
+//! The rules that lift locals into bound names: their table, that what they take a command to is
+//! exact, and the kernel that decides whether a tree of rules takes a command to a program.
 #![tactic(auto)]
 
 mod carried;

@@ -38,8 +38,8 @@ impl Test for IsStray<'_> {
     }
 }
 
-/// Whether the free names of a program are parameters. Each name in the program is looked at, since there is no memory to keep
-/// names in.
+/// Whether the free names of a program are parameters. Each name in the program is looked at, since
+/// there is no memory to keep names in.
 pub(crate) fn are_free_parameters(m: &Mon, parameters: &[Binder]) -> bool
     ensures { IsTrue result
         ↔ AllFreeAmong (names_of (map binder_of parameters.now)) (mon_of m.now) }

@@ -1,5 +1,6 @@
-//! Tests of the rules that take exceptions out of commands. Each row has a tree of rules, two commands, and the first node that
-//! is no instance of its rule; `notation` says what the words are.
+//! Tests of the rules that take exceptions out of commands. Each row has a tree of rules, two
+//! commands, and the first node that is no instance of its rule; `notation` says what the words
+//! are.
 
 use crate::notation::{command, tree};
 use crate::sizes::{nested, within};
@@ -208,7 +209,8 @@ fn deep_nesting_is_translated_and_checked(rt: HostRuntime) -> Result<(), Fail> {
     Ok(())
 }
 
-// A straight line, nested loops that are left, and nested choices, of 100, 200, 400 and 800 commands.
+// A straight line, nested loops that are left, and nested choices, of 100, 200, 400 and 800
+// commands.
 #[test]
 fn commands_of_many_sizes(rt: HostRuntime) -> Result<(), Fail> {
     let alloc = rt.alloc();

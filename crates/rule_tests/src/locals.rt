@@ -1,5 +1,6 @@
-//! Tests of the rules that lift locals. Each row has a tree of rules, a command, a program that gives the outputs, and the first node
-//! that is no instance of its rule; `notation` says what the words are.
+//! Tests of the rules that lift locals. Each row has a tree of rules, a command, a program that
+//! gives the outputs, and the first node that is no instance of its rule; `notation` says what the
+//! words are.
 
 use crate::notation::{command, program, tree};
 use crate::sizes::{nested, within};

@@ -1,5 +1,5 @@
-//! Commands, programs and trees of rules from words, heads before their parts (Polish notation). The words are read from the last to
-//! the first, with a stack for what has been read.
+//! Commands, programs and trees of rules from words, heads before their parts (Polish notation).
+//! The words are read from the last to the first, with a stack for what has been read.
 
 use c_values::{CType, IntType, Word};
 use expression_lang::{Exp, Kind, Path};
@@ -45,7 +45,8 @@ fn popped<T: Drop>(stack: &mut Vec<T>) -> Result<T, Fail> {
     }
 }
 
-// A loop with the conditions `g` and the test `e`, each asked only where nothing was thrown if the word says so.
+// A loop with the conditions `g` and the test `e`, each asked only where nothing was thrown if the
+// word says so.
 fn repeat(alloc: Global, guards: bool, test: bool, body: Simpl) -> Result<Simpl, AllocError> {
     let conditions = conditions(alloc, guards)?;
     let e = var(alloc, "e")?;
@@ -153,7 +154,8 @@ pub(crate) fn command(alloc: Global, words: &str) -> Result<Simpl, Fail> {
     popped(&mut stack)
 }
 
-/// The tree that words spell, whose rules have these names: a rule, and in front of one with parts how many, as
+/// The tree that words spell, whose rules have these names: a rule, and in front of one with parts
+/// how many, as
 /// `2seq_plain set throw`.
 pub(crate) fn tree<R: Copy>(
     alloc: Global,
@@ -244,8 +246,9 @@ fn both_guards(alloc: Global) -> Result<Exp, AllocError> {
     Ok(Exp::And(first, last))
 }
 
-/// The program that words spell. `2ret x one` gives two values, `2bind M x y N` binds two names of M in N, `2loop M x y` goes on
-/// with two names, `if M N` asks `e`, and other words are names and constants.
+/// The program that words spell. `2ret x one` gives two values, `2bind M x y N` binds two names of
+/// M in N, `2loop M x y` goes on with two names, `if M N` asks `e`, and other words are names and
+/// constants.
 pub(crate) fn program(alloc: Global, spelled: &str) -> Result<Mon, Fail> {
     let mut stack = Vec::new(alloc);
     let mut words = Vec::new(alloc);

@@ -3,8 +3,8 @@
 ghost use Rattle.std.specs.Prelude.{◌≡◌};
 ghost use Rattle.rule_trees.specs.RuleTree as trees;
 
-/// The number of a node that is no instance of its rule, in preorder from 0. Past the last number of 32 bits every node has
-/// that number.
+/// The number of a node that is no instance of its rule, in preorder from 0. Past the last number
+/// of 32 bits every node has that number.
 #[derive(Clone, Copy, Debug, PartialEq, Eq)]
 pub struct At(pub u32);
 

@@ -1,4 +1,5 @@
-//! What the two sides leave to the parts: expressions in pairs, each seen in a way, and then claims under more facts.
+//! What the two sides leave to the parts: expressions in pairs, each seen in a way, and then claims
+//! under more facts.
 
 ghost use Rattle.std.specs.Prelude.{◌≡◌, [], ◌∷◌, List, map, IfSome, IfNone};
 ghost use Rattle.expression_lang.specs.Expression as plain;
@@ -28,7 +29,8 @@ pub(crate) enum Exps<'a> {
 impl<'a> Exps<'a> {
     /// The first, and those behind it.
     pub(crate) fn next(self) -> Option<(&'a Exp, Exps<'a>)>
-        ensures some { IfSome result (λ (first, rest). exps_in self.entry ≡ exp_of first.now ∷ exps_in rest) }
+        ensures some { IfSome result (λ (first, rest). exps_in self.entry
+            ≡ exp_of first.now ∷ exps_in rest) }
         ensures none { IfNone result (exps_in self.entry ≡ []) }
     {
         match self {
@@ -66,11 +68,13 @@ pub(crate) enum Views<'a> {
 impl<'a> Views<'a> {
     /// How the first is seen, and those behind it.
     pub(crate) fn next(self) -> Option<(Seen, Views<'a>)>
-        ensures some { (g : Scope) (e : plain.Exp) (es : List plain.Exp) → IfSome result (λ (first, rest).
+        ensures some { (g : Scope) (e : plain.Exp) (es : List plain.Exp) →
+            IfSome result (λ (first, rest).
             views_in g (e ∷ es) self.entry ≡ seen_in g e first ∷ views_in g es rest) }
         ensures looks { IfSome result (λ (first, rest).
             (looks_in rest ≡ looks_in self.entry) × (looks_at first ≡ looks_in self.entry)) }
-        ensures none { (g : Scope) (es : List plain.Exp) → IfNone result (views_in g es self.entry ≡ []) }
+        ensures none { (g : Scope) (es : List plain.Exp) →
+            IfNone result (views_in g es self.entry ≡ []) }
     {
         match self {
             Views::Each(seen) => Some((seen, self)),
@@ -185,7 +189,8 @@ impl<'a> Then<'a> {
     pub(crate) fn next(&mut self) -> Option<Claim<'a>>
         ensures some { (ctx : names.Context) (at : names.Point) → IfSome result (λ first.
             thens_at ctx at self.old ≡ claim_in ctx at first ∷ thens_at ctx at self.new) }
-        ensures none { (ctx : names.Context) (at : names.Point) → IfNone result (thens_at ctx at self.old ≡ []) }
+        ensures none { (ctx : names.Context) (at : names.Point) →
+            IfNone result (thens_at ctx at self.old ≡ []) }
     {
         match *self {
             Then::Nothing => None,
@@ -294,7 +299,8 @@ fn branches<'a>(left: &'a Mon, right: &'a Mon, kinds: &'a [Kind]) -> Then<'a>
 }
 
 fn turn<'a>(left: &'a Mon, right: &'a Mon, js: &'a [Kind]) -> Then<'a>
-    ensures { (ctx : names.Context) (at : names.Point) (ks : List sorts.Kind) → thens_at ctx at result
+    ensures { (ctx : names.Context) (at : names.Point) (ks : List sorts.Kind) →
+        thens_at ctx at result
         ≡ program_thens at (names.Loop (map kind_of js.now)) (mon_of left.now) (mon_of right.now) ks }
 {
     match left {

@@ -1,4 +1,5 @@
-//! What a rule asks of two expressions, the left of which is well-sorted and of the sort that is seen. One function for each rule.
+//! What a rule asks of two expressions, the left of which is well-sorted and of the sort that is
+//! seen. One function for each rule.
 
 ghost use Rattle.std.specs.Prelude.{◌≡◌, ◌↔◌, true, Some, None, IsTrue};
 ghost use Rattle.expression_lang.specs.Sort.{word_sort_of, scalar_sort};
@@ -65,7 +66,8 @@ pub(crate) fn is_exp_asked(
 // Whether a name of a kind is seen so.
 fn is_view_for(kind: Kind, view: View) -> bool
     ensures { IsTrue result
-        ↔ (view_for (kind_of kind) ≡ view_of (scalar_sort (Some (word_sort_of (kind_of kind)))) view) }
+        ↔ (view_for (kind_of kind)
+        ≡ view_of (scalar_sort (Some (word_sort_of (kind_of kind)))) view) }
 {
     match kind {
         Kind::Word(_) | Kind::Bool => matches!(view, View::AsIs),
@@ -108,7 +110,8 @@ fn is_var(left: &Exp, view: View, right: &Exp, context: Context<'_>, point: Poin
 
 // Whether a constant is the same one.
 fn is_same_constant(left: &Exp, right: &Exp) -> bool
-    ensures { IsTrue result ↔ (constant (names.AsIs None) (exp_of left.now) ≡ Some (exp_of right.now)) }
+    ensures { IsTrue result
+        ↔ (constant (names.AsIs None) (exp_of left.now) ≡ Some (exp_of right.now)) }
 {
     match left {
         Exp::Word(_) | Exp::Number(_) | Exp::Truth(_) => right.same(left),

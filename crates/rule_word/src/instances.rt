@@ -19,9 +19,9 @@ ghost use Rattle.rule_word.specs.CodeRows.{program_row_at};
 
 use crate::rule::{Context, Point, Rule};
 use ac_expr::same_steps;
-use expression_lang::{Binder, Exp, Kind, equal_types, same_names};
+use expression_lang::{Binder, Exp, Kind, are_distinct, equal_types, same_names};
 use monad_lang::{Mon, Place, Start};
-use program_sorts::{are_distinct, signature};
+use program_sorts::signature;
 
 /// Whether what a rule asks of two programs holds.
 #[inline(never)]
@@ -77,7 +77,8 @@ fn are_arguments(exps: &[Exp], params: &[Binder], others: &[Exp]) -> bool
 // The same of the starts of a loop.
 #[tactic(auto, using(crate::proofs::AskedPrograms::matched_lengths))]
 fn are_starts(starts: &[Start], kinds: &[Kind], others: &[Start]) -> bool
-    ensures { IsTrue result ↔ AreMatched (start_exps (map start_of starts.now)) (map kind_of kinds.now)
+    ensures { IsTrue result
+        ↔ AreMatched (start_exps (map start_of starts.now)) (map kind_of kinds.now)
         (start_exps (map start_of others.now)) }
 {
     starts.len() == kinds.len() && others.len() == kinds.len()
@@ -374,7 +375,8 @@ fn is_call(left: &Mon, right: &Mon, kinds: &[Kind], context: Context<'_>, point:
 
 // Whether an expression is a name, recast from one kind to another.
 fn is_name_recast(from: Kind, to: Kind, name: &str, e: &Exp) -> bool
-    ensures { IsTrue result ↔ (recast (kind_of from) (kind_of to) (Var name.now) ≡ Some (exp_of e.now)) }
+    ensures { IsTrue result
+        ↔ (recast (kind_of from) (kind_of to) (Var name.now) ≡ Some (exp_of e.now)) }
 {
     match from {
         Kind::Word(width) => match to {

@@ -51,7 +51,8 @@ pub(crate) enum Front<'a> {
 
 // Whether there is a tree for each of the claims behind the pairs.
 fn is_matched_then(parts: &[Tree<Rule>], then: Then<'_>) -> bool
-    ensures { (ctx : names.Context) (at : names.Point) → IsTrue result ↔ (length parts.now ≡ length (thens_at ctx at then.entry)) }
+    ensures { (ctx : names.Context) (at : names.Point) → IsTrue result
+        ↔ (length parts.now ≡ length (thens_at ctx at then.entry)) }
 {
     match then {
         Then::Nothing => parts.is_empty(),
@@ -72,7 +73,8 @@ fn is_matched(
     then: Then<'_>,
 ) -> bool
     ensures { (ctx : names.Context) (at there : names.Point) → IsTrue result ↔ (length parts.now
-        ≡ length (pairs_at ctx at left.entry views.entry right.entry ++ thens_at ctx there then.entry)) }
+        ≡ length (pairs_at ctx at left.entry views.entry right.entry
+        ++ thens_at ctx there then.entry)) }
 {
     let mut rest = parts;
     let mut left = left;
@@ -147,7 +149,8 @@ fn given_of<'a>(claim: Claim<'a>) -> Given<'a>
 
 // The view of the left side of a claim.
 fn view_of(sight: Sight) -> View
-    ensures { (g : Scope) (e : plain.Exp) → Fits g e (sight_in g e sight) → view_at g e result ≡ sight_in g e sight }
+    ensures { (g : Scope) (e : plain.Exp) → Fits g e (sight_in g e sight) → view_at g e result
+        ≡ sight_in g e sight }
 {
     match sight {
         Sight::As(view) => view,
@@ -170,7 +173,8 @@ fn is_and(rule: &Rule, left: &Exp, right: &Exp) -> bool
 
 // The sides of an `and`.
 fn sides(e: &Exp) -> Option<(&Exp, &Exp)>
-    ensures some { IfSome result (λ (a, b). exp_of e.now ≡ plain.And (exp_of a.now) (exp_of b.now)) }
+    ensures some { IfSome result (λ (a, b). exp_of e.now
+        ≡ plain.And (exp_of a.now) (exp_of b.now)) }
     ensures none { (a b : plain.Exp) → IfNone result (exp_of e.now ≡ plain.And a b → ⊥) }
 {
     match e {
@@ -179,8 +183,8 @@ fn sides(e: &Exp) -> Option<(&Exp, &Exp)>
     }
 }
 
-// What is checked of an expression: the number behind the last node of a tree whose first has the number `at`, or the number of
-// the first bad node. It goes along last parts by a loop.
+// What is checked of an expression: the number behind the last node of a tree whose first has the
+// number `at`, or the number of the first bad node. It goes along last parts by a loop.
 #[cycle(checking)]
 fn checked_exp(
     tree: &Tree<Rule>,
@@ -245,7 +249,8 @@ fn checked_pairs<'a>(
     requires ready { AreReadyAt context point left views right }
     requires kinds { HasKinds point.names.now }
     requires results { are_results (context_in context).functions ≡ true }
-    requires enough { length (pairs_at (context_in context) (point_in point) left views right) ≤ length parts.now }
+    requires enough { length (pairs_at (context_in context) (point_in point) left views right)
+        ≤ length parts.now }
     ensures { Leaves context.entry point.entry parts.now
         (pairs_at (context_in context.entry) (point_in point.entry) left.entry views.entry right.entry) at result }
 {
@@ -281,7 +286,8 @@ fn checked_pairs<'a>(
     }
 }
 
-// The same of two `and`s. It goes along their right sides by a loop, with one link of facts for all of the first sides.
+// The same of two `and`s. It goes along their right sides by a loop, with one link of facts for all
+// of the first sides.
 #[cycle(checking)]
 fn checked_ands(
     tree: &Tree<Rule>,
@@ -345,7 +351,8 @@ fn checked_then(
     point: Point<'_>,
     at: u32,
 ) -> Result<u32, u32>
-    requires count { length parts.now ≡ length (thens_at (context_in context) (point_in point) then) }
+    requires count { length parts.now
+        ≡ length (thens_at (context_in context) (point_in point) then) }
     requires fit { FitInTurn (context_in context) (thens_at (context_in context) (point_in point) then) }
     requires kinds { HasKinds point.names.now }
     requires results { are_results (context_in context).functions ≡ true }
@@ -493,7 +500,8 @@ fn checked_flat(
     }
 }
 
-// The same of the parts behind the pairs, in a loop where its names are in scope and nothing is known before.
+// The same of the parts behind the pairs, in a loop where its names are in scope and nothing is
+// known before.
 #[cycle(checking)]
 fn checked_inside(
     rule: &Rule,
@@ -604,8 +612,8 @@ fn behind(m: &Mon) -> &Mon
     }
 }
 
-// The same of two programs. It goes along a sequence by a loop, with one link of facts and one of names for all of the parts that
-// were passed, since a text may have long sequences.
+// The same of two programs. It goes along a sequence by a loop, with one link of facts and one of
+// names for all of the parts that were passed, since a text may have long sequences.
 #[cycle(checking)]
 fn checked(
     tree: &Tree<Rule>,
@@ -673,9 +681,10 @@ fn checked(
     }
 }
 
-/// Whether the rules of a tree take a program on words to one on what stands for them, which gives its values at these kinds: yes
-/// exactly where each node is an instance of its rule, else the first node that isn't. The left side is well-sorted, with words
-/// under its names, and names and what functions give are of kinds that can be. No memory is taken.
+/// Whether the rules of a tree take a program on words to one on what stands for them, which gives
+/// its values at these kinds: yes exactly where each node is an instance of its rule, else the
+/// first node that isn't. The left side is well-sorted, with words under its names, and names and
+/// what functions give are of kinds that can be. No memory is taken.
 #[tactic(auto, using(rule_trees::proofs::Checking::checked_accepts))]
 pub fn check(
     tree: &Tree<Rule>,
@@ -685,7 +694,8 @@ pub fn check(
     context: Context<'_>,
     point: Point<'_>,
 ) -> Result<(), At>
-    requires sorted { (given : List Scalar) × (scalars_given (words (context_in context) (binders_in point.names.now))
+    requires sorted { (given : List Scalar)
+        × (scalars_given (words (context_in context) (binders_in point.names.now))
         (mon_of left.now) ≡ Some given) }
     requires kinds { are_binders (binders_in point.names.now) ≡ true }
     requires results { are_results (map signature_of context.functions.now) ≡ true }

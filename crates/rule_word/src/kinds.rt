@@ -22,8 +22,8 @@ use expression_lang::{Binder, Kind, Scalar, Scope, scalar_of_kind};
 use monad_lang::{Mon, Start};
 use rule_trees::{Tree, both};
 
-/// Names with the kinds that they have on the right: a chain, each link of which borrows the one before. The last of two with one
-/// name counts.
+/// Names with the kinds that they have on the right: a chain, each link of which borrows the one
+/// before. The last of two with one name counts.
 #[derive(Drop)]
 pub enum Kinds<'a> {
     None,
@@ -31,8 +31,8 @@ pub enum Kinds<'a> {
     /// A kind for each name.
     Named(&'a Kinds<'a>, &'a [String], &'a [Kind]),
     Started(&'a Kinds<'a>, &'a [Start], &'a [Kind]),
-    /// One link for the names of any number of parts of a sequence, at the kinds of their rules, since a chain with a link for each
-    /// takes as much of the stack.
+    /// One link for the names of any number of parts of a sequence, at the kinds of their rules,
+    /// since a chain with a link for each takes as much of the stack.
     Passed(&'a Kinds<'a>, &'a Tree<Rule>, &'a Mon, u32),
 }
 
@@ -69,7 +69,8 @@ impl<'a> Kinds<'a> {
         Kinds::Started(self, starts, kinds)
     }
 
-    /// The same names, and those that the first so many parts of a sequence bind, at the kinds of the tree's rules.
+    /// The same names, and those that the first so many parts of a sequence bind, at the kinds of
+    /// the tree's rules.
     pub fn pass(&'a self, tree: &'a Tree<Rule>, parts: &'a Mon, count: u32) -> Kinds<'a>
         ensures { binders_in result
             ≡ with_passed count (tree_of tree.now) (mon_of parts.now) (binders_in self.now) }
@@ -189,7 +190,8 @@ fn among_starts(starts: &[Start], kinds: &[Kind], name: &str) -> Option<Kind>
     found
 }
 
-// A part of a sequence that is passed: its names and their kinds, and the tree and the program behind it.
+// A part of a sequence that is passed: its names and their kinds, and the tree and the program
+// behind it.
 #[derive(Clone, Copy)]
 pub(crate) struct Step<'a> {
     pub(crate) names: &'a [String],
@@ -237,8 +239,10 @@ pub(crate) fn bound(rule: &Rule) -> Option<&[Kind]>
 // A first part, its names, and what is behind it.
 fn named(parts: &Mon) -> Option<(&Mon, &[String], &Mon)>
     ensures some { IfSome result (λ (first, xs, rest).
-        mon_of parts.now ≡ programs.Bind (mon_of first.now) (map string_bytes xs.now) (mon_of rest.now)) }
-    ensures none { (l r : programs.Mon) (xs : List Name) → IfNone result (mon_of parts.now ≡ programs.Bind l xs r → ⊥) }
+        mon_of parts.now
+        ≡ programs.Bind (mon_of first.now) (map string_bytes xs.now) (mon_of rest.now)) }
+    ensures none { (l r : programs.Mon) (xs : List Name) →
+        IfNone result (mon_of parts.now ≡ programs.Bind l xs r → ⊥) }
 {
     match parts {
         Mon::Bind(first, names, rest) => Some((&**first, names, &**rest)),

@@ -1,5 +1,5 @@
-//! The rules that make numbers of words: their table, that what they take a program to is exact, and the kernel that decides whether a
-//! tree of rules takes the one to the other.
+//! The rules that make numbers of words: their table, that what they take a program to is exact,
+//! and the kernel that decides whether a tree of rules takes the one to the other.
 #![tactic(auto)]
 
 mod claims;

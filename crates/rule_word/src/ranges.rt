@@ -26,7 +26,8 @@ pub(crate) fn laid_out(l: &Layout)
     let _ = l.target();
 }
 
-/// Whether a number is known to be one that a word which is seen so has: the left side, whose width it has.
+/// Whether a number is known to be one that a word which is seen so has: the left side, whose width
+/// it has.
 pub(crate) fn is_in_range(
     left: &Exp,
     view: View,

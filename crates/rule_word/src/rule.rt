@@ -61,7 +61,8 @@ pub enum View {
     Signed(u8),
 }
 
-/// What is the same all over a unit: its functions are told with the kinds that they have on the right.
+/// What is the same all over a unit: its functions are told with the kinds that they have on the
+/// right.
 #[derive(Clone, Copy)]
 pub struct Context<'a> {
     pub layout: &'a Layout,

@@ -26,7 +26,8 @@ use expression_lang::{Exp, Kind, Path, Scalar, Scope, Sort, sort_of};
 pub(crate) fn is_of_kind(e: &Exp, kind: Kind, context: Context<'_>, names: &Kinds<'_>) -> bool
     requires { IsSorted (scope_in context names.now) (exp_of e.now) }
     ensures { IsTrue result
-        ↔ (sort_of (scope_in context.entry names.now) (exp_of e.now) ≡ sort_seen (view_for (kind_of kind))) }
+        ↔ (sort_of (scope_in context.entry names.now) (exp_of e.now)
+        ≡ sort_seen (view_for (kind_of kind))) }
 {
     has_left_kind(e, kind, context, names)
 }
@@ -45,7 +46,8 @@ fn has_left_kind(e: &Exp, kind: Kind, context: Context<'_>, names: &Kinds<'_>) -
 
 // Whether a word has this width.
 fn has_width(e: &Exp, width: u8, context: Context<'_>, names: &Kinds<'_>) -> bool
-    ensures { result ≡ is_this width (left_width (scope_in context.entry names.now) (exp_of e.now)) }
+    ensures { result
+        ≡ is_this width (left_width (scope_in context.entry names.now) (exp_of e.now)) }
 {
     match left_width(e, context, names) {
         Some(own) => own == width,
@@ -155,7 +157,8 @@ fn width_of(sort: Option<Sort<'_>>) -> Option<u8>
 
 // The width of a part of a global.
 fn global_width(name: &str, path: &Path, context: Context<'_>) -> Option<u8>
-    ensures { result ≡ word_width (of_type (global_type (map global_of context.entry.globals.now) name.now)
+    ensures { result
+        ≡ word_width (of_type (global_type (map global_of context.entry.globals.now) name.now)
         (λ t. of_shape (shape_there (path_of path.now) (shape_of context.entry.layout.now t)) sort_at)) }
 {
     match global(context.globals, name) {
@@ -188,7 +191,8 @@ fn width_at(l: &Layout, t: &CType) -> Option<u8>
     }
 }
 
-// The type at the end of a path, whatever its indexes. It goes along the path by a loop, since a text may have long paths.
+// The type at the end of a path, whatever its indexes. It goes along the path by a loop, since a
+// text may have long paths.
 #[tactic(auto, using(crate::proofs::StepsThere::next_field, crate::proofs::StepsThere::no_field, crate::proofs::StepsThere::next_element, crate::proofs::StepsThere::no_element))]
 fn type_there<'a>(path: &'a Path, t: &'a CType, l: &'a Layout) -> Option<&'a CType>
     ensures { option_map (λ u. shape_of l.now (type_of u.now)) result

@@ -63,7 +63,8 @@ fn part_seen(rule: &Rule, left: &Exp, view: View, context: Context<'_>, names: &
 
 /// How a part is seen where the whole is seen at a kind.
 pub(crate) fn view_of_kind(kind: Kind) -> View
-    ensures { (g : Scope) (d : plain.Exp) → view_at g d result ≡ again g (view_for (kind_of kind)) d }
+    ensures { (g : Scope) (d : plain.Exp) → view_at g d result
+        ≡ again g (view_for (kind_of kind)) d }
 {
     match kind {
         Kind::Word(_) | Kind::Bool => View::AsIs,
@@ -174,7 +175,8 @@ pub(crate) fn program_views<'a>(
 
 // At the kinds of a function's parameters.
 fn call_views<'a>(left: &'a Mon, context: Context<'a>) -> Views<'a>
-    ensures views { (g : Scope) (ks : List sorts.Kind) → views_in g (program_exps (mon_of left.now)) result
+    ensures views { (g : Scope) (ks : List sorts.Kind) →
+        views_in g (program_exps (mon_of left.now)) result
         ≡ program_views (context_in context.entry) g rules.Call (mon_of left.now) ks }
     ensures looks { looks_in result ≡ true }
 {

@@ -1,5 +1,5 @@
-//! The conditions of operations: what has to hold of operands that have values. Each function adds its conditions, in
-//! order, behind those that are there.
+//! The conditions of operations: what has to hold of operands that have values. Each function adds
+//! its conditions, in order, behind those that are there.
 
 ghost use Rattle.std.specs.Prelude.{◌≡◌, ◌++◌, ◌∷◌, [], map, pos, OnOk, IfOk, IfNone, IfSome};
 ghost use Rattle.c_values.specs.Types.{Target, Integer};

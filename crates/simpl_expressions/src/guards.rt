@@ -1,5 +1,5 @@
-//! What has to hold before an expression has a value: its conditions in order, those of operands before those of the
-//! operation. Each function adds them behind those that are there.
+//! What has to hold before an expression has a value: its conditions in order, those of operands
+//! before those of the operation. Each function adds them behind those that are there.
 
 ghost use Rattle.std.specs.Prelude.{◌≡◌, ◌++◌, map, OnOk, IfOk};
 ghost use Rattle.c_lang.specs.CodeTyped as typed;

@@ -1,4 +1,5 @@
-//! C expressions in Simpl: the value of each as an expression of Simpl, and what has to hold before it has one, in C's order.
+//! C expressions in Simpl: the value of each as an expression of Simpl, and what has to hold before
+//! it has one, in C's order.
 #![tactic(auto)]
 
 mod checks;

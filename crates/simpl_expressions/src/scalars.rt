@@ -1,4 +1,5 @@
-//! Scalar types, as conversions and conditions see them: how many bits there are, and whether they have a sign.
+//! Scalar types, as conversions and conditions see them: how many bits there are, and whether they
+//! have a sign.
 
 ghost use Rattle.std.specs.Prelude.{◌≡◌, false};
 ghost use Rattle.c_values.specs.Types.{width_of, is_signed, address_width};

@@ -1,4 +1,5 @@
-//! What stands for the value and the truth of a C expression, boxed. Their depth is that of the expressions of the text.
+//! What stands for the value and the truth of a C expression, boxed. Their depth is that of the
+//! expressions of the text.
 
 ghost use Rattle.std.specs.Prelude.{◌≡◌, IfOk};
 ghost use Rattle.c_lang.specs.Typed as C;
@@ -154,7 +155,8 @@ fn content(alloc: Global, l: &Layout, place: &Place) -> Result<Box<Exp>, AllocEr
     }
 }
 
-// The address of a place. A typed unit asks for none in a global, where it has the content in its stead.
+// The address of a place. A typed unit asks for none in a global, where it has the content in its
+// stead.
 #[cycle(values)]
 fn address(alloc: Global, l: &Layout, place: &Place) -> Result<Box<Exp>, AllocError>
     ensures { IfOk result (λ x. exp_of x.value ≡ rules.address l.now (typed.place_of place.now)) }

@@ -29,8 +29,8 @@ use expression_lang::{Exp, Level, Signature};
 use simpl_lang::{Condition, GuardKind, Simpl, SimplFn, SimplUnit};
 use std::alloc::{AllocError, Global};
 
-/// The Simpl unit of a typed unit, at the levels of its functions. Of a well-typed unit it has exactly the ends of the C
-/// functions, each watched by its level.
+/// The Simpl unit of a typed unit, at the levels of its functions. Of a well-typed unit it has
+/// exactly the ends of the C functions, each watched by its level.
 pub fn generate(alloc: Global, u: &TypedUnit, modes: &Modes) -> Result<SimplUnit, AllocError>
     requires { length modes.now.levels.items ≡ length u.now.functions.items }
     ensures generated { IfOk result

@@ -33,7 +33,8 @@ fn exception(jump: Jump) -> u64
     }
 }
 
-/// The command that ends the commands around it abruptly: `$exn` says why, and then they are thrown out of.
+/// The command that ends the commands around it abruptly: `$exn` says why, and then they are thrown
+/// out of.
 pub(crate) fn jump_out(alloc: Global, jump: Jump) -> Result<Box<Simpl>, AllocError>
     ensures { IfOk result (λ s. simpl_of s.value ≡ rules.jump (exception_of jump)) }
 {

@@ -1,4 +1,5 @@
-//! The locals of a function: its parameters, those that it declares, and those that generation adds.
+//! The locals of a function: its parameters, those that it declares, and those that generation
+//! adds.
 
 ghost use Rattle.std.specs.Prelude.{◌≡◌, ◌++◌, ◌∷◌, [], map, string_bytes, OnOk, IfOk};
 ghost use Rattle.std.specs.Option.{option_map};

@@ -1,4 +1,5 @@
-//! The command of a statement. It nests as deep as the statements of the text, and along a list of them.
+//! The command of a statement. It nests as deep as the statements of the text, and along a list of
+//! them.
 
 ghost use Rattle.std.specs.Prelude.{◌≡◌, IfOk};
 ghost use Rattle.c_values.specs.CodeTypes.{int_type_of};

@@ -44,7 +44,8 @@ pub(crate) fn switch(
     with_guards(alloc, guards, switch)
 }
 
-/// Whether the operand is one of the labels. It goes over the labels by a loop, since a text may have many.
+/// Whether the operand is one of the labels. It goes over the labels by a loop, since a text may
+/// have many.
 #[tactic(auto, using(crate::proofs::Labelled::one_label_more, crate::proofs::Labelled::last_label))]
 pub(crate) fn is_one_of(
     alloc: Global,

@@ -12,7 +12,8 @@ use crate::conditions::{same_condition, same_conditions};
 use expression_lang::{equal_types, same_exps};
 
 impl Simpl {
-    /// Whether two commands are the same. It goes along the last parts by a loop, since a text may have long sequences.
+    /// Whether two commands are the same. It goes along the last parts by a loop, since a text may
+    /// have long sequences.
     #[cycle(comparison)]
     pub fn same(&self, other: &Simpl) -> bool
         ensures { IsTrue result ↔ (simpl_of self.now ≡ simpl_of other.now) }

@@ -5,7 +5,7 @@ ghost use Rattle.c_values.specs.Name.{are_distinct};
 ghost use Rattle.simpl_lang.specs.CodeCommand.{simpl_fn_of};
 
 use crate::units::SimplFn;
-use program_sorts::{Named, are_distinct};
+use expression_lang::{Named, are_distinct};
 
 impl Named for SimplFn {
     ghost use Rattle.std.specs.Prelude.{string_bytes};

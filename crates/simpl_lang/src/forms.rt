@@ -6,7 +6,8 @@ ghost use Rattle.simpl_lang.specs.CodeCommand.{simpl_of};
 
 use crate::command::Simpl;
 
-/// Whether there is no throw and no catch. It goes along a sequence by a loop, since a text may have long ones.
+/// Whether there is no throw and no catch. It goes along a sequence by a loop, since a text may
+/// have long ones.
 pub fn is_flat(c: &Simpl) -> bool
     ensures { result ≡ is_flat (simpl_of c.now) }
 {
@@ -31,8 +32,8 @@ pub fn is_flat(c: &Simpl) -> bool
     }
 }
 
-/// How many commands there are, each condition of a while counting for one; past 2^64 - 1 it is that. It goes along a
-/// sequence by a loop.
+/// How many commands there are, each condition of a while counting for one; past 2^64 - 1 it is
+/// that. It goes along a sequence by a loop.
 pub fn commands(c: &Simpl) -> u64
     ensures { result ≡ min (commands (simpl_of c.now)) u64.MAX }
 {

@@ -15,8 +15,8 @@ use crate::units::SimplUnit;
 use expression_lang::{Exp, Names};
 use program_sorts::{fits_global, fits_object, is_of, is_test, program_sort};
 
-/// Whether a command is well-sorted where these names are in scope. It goes along a sequence by a loop, since a text may
-/// have long ones.
+/// Whether a command is well-sorted where these names are in scope. It goes along a sequence by a
+/// loop, since a text may have long ones.
 pub(crate) fn is_sorted(c: &Simpl, names: &Names<'_>, u: &SimplUnit) -> bool
     ensures { result ≡ is_sorted (scope_in u.now names.now) (signatures_in u.now) (simpl_of c.now) }
 {

@@ -13,8 +13,8 @@ use crate::distinct_names::are_functions_distinct;
 use crate::signed::are_signed;
 use crate::sorted::is_sorted;
 use crate::units::{SimplFn, SimplUnit};
-use expression_lang::{Binder, Names};
-use program_sorts::{are_binders_distinct, are_globals_distinct, are_kinds};
+use expression_lang::{Binder, Names, are_binders_distinct, are_globals_distinct};
+use program_sorts::are_kinds;
 
 /// Whether a unit is well-formed. It takes no memory, and of the stack no more for more locals.
 #[tactic(auto, using(crate::proofs::Formed::formed_sound, crate::proofs::Formed::formed_complete))]

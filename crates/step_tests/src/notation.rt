@@ -1,5 +1,6 @@
-//! Expressions and programs from words, heads before their parts (Polish notation). The words are read from the last to the first,
-//! with a stack for what has been read. Words are of 32 bits where nothing else is said, and objects of type `int`.
+//! Expressions and programs from words, heads before their parts (Polish notation). The words are
+//! read from the last to the first, with a stack for what has been read. Words are of 32 bits where
+//! nothing else is said, and objects of type `int`.
 
 use c_values::{
     CType, IntType, Number, NumberOp, ShiftOp, UnaryOp, Word, WordOp, WordTest, copy_of,
@@ -352,8 +353,8 @@ pub(crate) fn expression(alloc: Global, words: &str) -> Result<Exp, Fail> {
     }
 }
 
-/// The program that words spell. `2ret a b` gives two values, `1bind M x N` binds a name of M in N, `if e M N` asks e, `1loop x e g t M`
-/// begins with e under x, and `1call f a` calls f with a.
+/// The program that words spell. `2ret a b` gives two values, `1bind M x N` binds a name of M in N,
+/// `if e M N` asks e, `1loop x e g t M` begins with e under x, and `1call f a` calls f with a.
 pub(crate) fn program_of(alloc: Global, words: &str) -> Result<Mon, Fail> {
     match read_words(alloc, words)? {
         Spelled::Program(m) => Ok(m),

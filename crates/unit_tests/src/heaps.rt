@@ -1,4 +1,5 @@
-//! Heaps of either kind in tests: their places, words that are written and read there, and rows of tags.
+//! Heaps of either kind in tests: their places, words that are written and read there, and rows of
+//! tags.
 
 ghost use Rattle.std.specs.Prelude.{◌≡◌, ◌^◌, ◌<◌, true, map, Some, All, IfOk, IfSome};
 ghost use Rattle.std.specs.Option.{option_map};

@@ -122,8 +122,8 @@ fn chosen_levels_and_reasons(rt: HostRuntime) -> Result<(), Fail> {
     Ok(())
 }
 
-// So many functions, each of which calls the next; the last casts. Or the first does, and each other one calls the one
-// before.
+// So many functions, each of which calls the next; the last casts. Or the first does, and each
+// other one calls the one before.
 fn chain(alloc: Global, count: u32, rising: bool) -> Result<TypedUnit, Fail> {
     let mut functions = Vec::new(alloc);
     if !rising {

@@ -1,5 +1,6 @@
-//! The tests of the crates below commands, each by itself, through its public calls: words, heaps, expressions and levels at
-//! values that are known from elsewhere. They stand in a crate of their own, since a crate with tests is proved twice.
+//! The tests of the crates below commands, each by itself, through its public calls: words, heaps,
+//! expressions and levels at values that are known from elsewhere. They stand in a crate of their
+//! own, since a crate with tests is proved twice.
 #![tactic(auto)]
 
 #[cfg(test)]

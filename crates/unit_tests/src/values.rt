@@ -154,7 +154,8 @@ fn exact_results(rt: HostRuntime) {
     assert!(rt; fits(Target::Lp64, NumberOp::Add, IntType::Long, most, one));
 }
 
-// A byte `a` and an `unsigned` `b`; then an array of so many `unsigned` and a pointer to the first struct.
+// A byte `a` and an `unsigned` `b`; then an array of so many `unsigned` and a pointer to the first
+// struct.
 fn structs(alloc: Global, length: u32) -> Result<Vec<StructDef>, AllocError>
     requires { 0 < length }
     ensures { IfOk result (λ ds. (t : types.Target) →

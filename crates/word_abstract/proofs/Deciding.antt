@@ -4,7 +4,7 @@ use Rattle.std.proofs.lemmas.Bool.{false≢true}
 use Rattle.expression_lang.specs.Expression.{Exp}
 use Rattle.ac_expr.specs.SameExp.{same_exp}
 use Rattle.ac_expr.proofs.SameExps.{exp_is}
-use Rattle.word_abstract.proofs.Itself.{exp_itself}
+use Rattle.ac_expr.proofs.Itself.{exp_itself}
 
 by_value : (r b : Bool) → (IsTrue r → b ≡ true) → (b ≡ true → IsTrue r) → r ≡ b
 by_value true true f g = refl

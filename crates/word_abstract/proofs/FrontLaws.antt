@@ -13,7 +13,7 @@ use Rattle.program_facts.specs.Flow.{facts_after}
 use Rattle.rule_word.specs.Scopes.{with_kinds}
 use Rattle.rule_word.specs.CodeRule.{tree_of, context_in}
 use Rattle.rule_word.specs.ProgramsAbstracted.{AbstractedProgram, program_abstracted}
-use Rattle.word_abstract.specs.Wholes.{bound}
+use Rattle.word_abstract.specs.CodeWholes.{bound}
 use Rattle.word_abstract.specs.CodeFronts.{with_front, with_fronts}
 use Rattle.word_abstract.specs.CodeFrontsAt.{IsFrontAt}
 use Rattle.word_abstract.specs.CodeScenes.{context_at, binders_at, facts_at, local_kinds, program_there}

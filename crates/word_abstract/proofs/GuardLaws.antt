@@ -8,8 +8,8 @@ use Rattle.rule_word.specs.Rule.{Context}
 use Rattle.rule_word.specs.Table.{truth}
 use Rattle.rule_word.specs.WordsAbstracted.{Abstracted}
 use Rattle.rule_word.specs.ProgramsAbstracted.{exp_at, guard_at}
-use Rattle.word_abstract.specs.Known.{newest_first}
-use Rattle.word_abstract.specs.Guards.{also, all_hold, IsNoAnd}
+use Rattle.word_abstract.specs.CodeKnown.{newest_first}
+use Rattle.word_abstract.specs.CodeGuards.{also, all_hold, IsNoAnd}
 use Rattle.word_abstract.proofs.KnownLaws.{newest_push}
 
 pub all_hold_push : {A : Type 0} (f : A → Abstracted) (xs : List A) (x : A) (last : Abstracted) → all_hold (map f (xs ++ x ∷ [])) last ≡ all_hold (map f xs) (also (f x) last)

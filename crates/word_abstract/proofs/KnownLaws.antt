@@ -7,7 +7,7 @@ use Rattle.ac_expr.specs.Fact.{Fact, Whole, NotTrue, stands_for}
 use Rattle.ac_expr.specs.Facts.{without_name, without_reads}
 use Rattle.ac_expr.specs.Passed.{without_names, with_guard, where_unchanged}
 use Rattle.ac_expr.specs.Lasting.{is_unnamed}
-use Rattle.word_abstract.specs.Known.{newest_first, lasts}
+use Rattle.word_abstract.specs.CodeKnown.{newest_first, lasts}
 
 pub newest_push : {A : Type 0} (f : A → Fact) (xs : List A) (x : A) (older : List Fact) → newest_first (map f (xs ++ x ∷ [])) older ≡ f x ∷ newest_first (map f xs) older
 newest_push f [] x older = refl

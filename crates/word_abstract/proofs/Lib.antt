@@ -1,5 +1,4 @@
 pub mod Meanings
-pub mod Itself
 pub mod Deciding
 pub mod KnownLaws
 pub mod RangeLaws

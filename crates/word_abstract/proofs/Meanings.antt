@@ -15,8 +15,8 @@ use Rattle.rule_word.specs.Scopes.{view_for, own, width_in, names_in}
 use Rattle.rule_word.specs.Table.{truth}
 use Rattle.rule_word.specs.Bases.{Surroundings, under, Base, Words, Naturals, Integers, first_base}
 use Rattle.rule_word.specs.WordsAbstracted.{Abstracted, Indices, made, one, two, seen_from, by_head, or_zero, operands, binary_base, binary_at, negation_base, unary_at, abstracted, indices, base_of, compared, cast_at, equal, equality_kind, var_at, var_base, constant_at}
-use Rattle.word_abstract.specs.Standing as S
-use Rattle.word_abstract.specs.Standing.{Seen, seen_in, seen_for, Standing, seen_at, meaning, standing, path_standing, path_trees, word_of, base_at, chosen}
+use Rattle.word_abstract.specs.CodeMeaning as S
+use Rattle.word_abstract.specs.CodeMeaning.{Seen, seen_in, seen_for, Standing, seen_at, meaning, standing, path_standing, path_trees, word_of, base_at, chosen}
 
 seen_is : (b : Base) (n : ℕ) (v : View) (x : Abstracted) → seen_from b n v x ≡ seen_at b n (seen_in v) x
 seen_is Words n (AsIs o) x = refl

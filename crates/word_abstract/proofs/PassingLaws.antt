@@ -7,7 +7,7 @@ use Rattle.ac_expr.specs.Passed.{without_names, with_guard, where_unchanged}
 use Rattle.ac_expr.specs.Lasting.{is_unnamed}
 use Rattle.monad_lang.specs.Program.{Mon}
 use Rattle.program_facts.specs.Flow.{facts_after, guard_in, changes_state}
-use Rattle.word_abstract.specs.Known.{newest_first, with_lasting_guard}
+use Rattle.word_abstract.specs.CodeKnown.{newest_first, with_lasting_guard}
 use Rattle.word_abstract.proofs.KnownLaws.{kept, named_one}
 
 names_none : (xs : List Name) → without_names xs [] ≡ []

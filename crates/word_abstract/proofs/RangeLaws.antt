@@ -7,8 +7,8 @@ use Rattle.expression_lang.specs.Expression.{Exp}
 use Rattle.ac_expr.specs.Fact.{Fact, Whole, NotTrue, stands_for}
 use Rattle.ac_expr.specs.SameExp.{same_exp}
 use Rattle.rule_word.specs.Bases.{Base, Naturals, Integers, or_else, gives_at_once, some_gives, range_given, first_range, oldest_range}
-use Rattle.word_abstract.specs.Known.{newest_first}
-use Rattle.word_abstract.specs.Claims.{IsOther}
+use Rattle.word_abstract.specs.CodeKnown.{newest_first}
+use Rattle.word_abstract.specs.CodeClaims.{IsOther}
 use Rattle.word_abstract.proofs.Deciding.{decided, same_true, same_false}
 use Rattle.word_abstract.proofs.KnownLaws.{newest_push, newest_apart, newest_taken, newest_split}
 

@@ -4,7 +4,7 @@ use Rattle.c_values.specs.Name.{Name}
 use Rattle.expression_lang.specs.Expression.{Exp, Var}
 use Rattle.expression_lang.specs.Sort.{Kind}
 use Rattle.rule_word.specs.Table.{recast, recasts, recast_first}
-use Rattle.word_abstract.specs.Recasting.{before}
+use Rattle.word_abstract.specs.CodeRecasting.{before}
 
 append_one : (xs : List Exp) (x : Exp) (ys : List Exp) → (xs ++ x ∷ []) ++ ys ≡ xs ++ x ∷ ys
 append_one [] x ys = refl

@@ -3,7 +3,7 @@ use Rattle.std.proofs.Common.{◌≡◌, Bool, true, false, cond, List, [], ◌�
 use Rattle.c_values.specs.Name.{Name, same_name, is_among, are_distinct}
 use Rattle.expression_lang.specs.Sort.{Scalar, Kind}
 use Rattle.expression_lang.specs.Sorted.{with_scalar}
-use Rattle.word_abstract.specs.Scalars.{scalars_before}
+use Rattle.word_abstract.specs.CodeScalars.{scalars_before}
 
 append_one : (xs : List Scalar) (x : Scalar) (ys : List Scalar) → (xs ++ x ∷ []) ++ ys ≡ xs ++ x ∷ ys
 append_one [] x ys = refl

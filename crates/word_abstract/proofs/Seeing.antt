@@ -8,7 +8,7 @@ use Rattle.rule_word.specs.Rule.{Rule, View}
 use Rattle.rule_word.specs.Scopes.{view_for}
 use Rattle.rule_word.specs.Bases.{Surroundings}
 use Rattle.rule_word.specs.WordsAbstracted.{Indices, abstracted, indices}
-use Rattle.word_abstract.specs.Standing.{Seen, seen_in, seen_for, meaning, standing, path_standing, path_trees}
+use Rattle.word_abstract.specs.CodeMeaning.{Seen, seen_in, seen_for, meaning, standing, path_standing, path_trees}
 use Rattle.word_abstract.proofs.Meanings.{meaning_is, indices_is}
 
 pub kind_seen : (k : Kind) → seen_in (view_for k) ≡ seen_for k

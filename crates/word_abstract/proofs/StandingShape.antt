@@ -10,8 +10,8 @@ use Rattle.rule_trees.specs.RuleTree.{no_trees, tree}
 use Rattle.rule_word.specs.Scopes.{names_in, width_in}
 use Rattle.rule_word.specs.Bases.{Surroundings, under, first_base}
 use Rattle.rule_word.specs.WordsAbstracted.{one, two, or_zero, equality_kind}
-use Rattle.word_abstract.specs.Connectives.{connective}
-use Rattle.word_abstract.specs.Standing.{Standing, Chosen, word_of, base_at, leaf_standing, operator, over_words, connected, compared, equal, one_standing, two_standing, operation, standing, path_standing, path_trees}
+use Rattle.word_abstract.specs.CodeConnectives.{connective}
+use Rattle.word_abstract.specs.CodeMeaning.{Standing, Chosen, word_of, base_at, leaf_standing, operator, over_words, connected, compared, equal, one_standing, two_standing, operation, standing, path_standing, path_trees}
 
 module _ (same : Exp → Exp → Bool) (numbers : Bool) (g : Scope) (names : List Binder) where
   abbrev pub shape_standing : Surroundings → Shape → Standing

@@ -17,7 +17,7 @@ use Rattle.rule_word.specs.Scopes.{with_kinds, words}
 use Rattle.rule_word.specs.Table.{truth, views_for, start_exps}
 use Rattle.rule_word.specs.WordsAbstracted.{Abstracted}
 use Rattle.rule_word.specs.ProgramsAbstracted.{AbstractedProgram, rights, trees_before, restarted, kinds_for, scalars_there, exp_at, guard_at, all_at, program_abstracted}
-use Rattle.word_abstract.specs.Wholes.{tested, looped, bound}
+use Rattle.word_abstract.specs.CodeWholes.{tested, looped, bound}
 
 module _ (same : Exp → Exp → Bool) (numbers : Bool) (ctx : Context) (table : Name → Option Kind) where
   abbrev P : List Fact → List Binder → Mon → List Kind → AbstractedProgram

@@ -3,7 +3,7 @@ use Rattle.std.specs.Prelude.{List, [], ◌∷◌, map, if◌then◌else◌}
 use Rattle.expression_lang.specs.CodeExpression.{exp_of}
 use Rattle.expression_lang.specs.declared.expression.Exp as E
 use Rattle.ac_expr.specs.Fact.{Fact, Whole, NotTrue}
-use Rattle.word_abstract.specs.Known.{newest_first}
+use Rattle.word_abstract.specs.CodeKnown.{newest_first}
 use Rattle.word_abstract.specs.declared.facts.Fact as F
 use Rattle.word_abstract.specs.declared.facts.Known as K
 use Rattle.word_abstract.specs.declared.facts.Conditions as C

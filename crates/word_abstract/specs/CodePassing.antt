@@ -4,7 +4,7 @@ use Rattle.expression_lang.specs.Signature.{Binder, names_of, kinds_of}
 use Rattle.expression_lang.specs.CodeSignature.{binder_of}
 use Rattle.ac_expr.specs.Fact.{Fact}
 use Rattle.rule_word.specs.Scopes.{with_kinds}
-use Rattle.word_abstract.specs.Known.{newest_first}
+use Rattle.word_abstract.specs.CodeKnown.{newest_first}
 use Rattle.word_abstract.specs.CodeFacts.{fact_in, whole}
 use Rattle.word_abstract.specs.declared.passing.Passed as P
 

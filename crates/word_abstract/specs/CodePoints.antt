@@ -10,8 +10,8 @@ use Rattle.rule_word.specs.Scopes.{words}
 use Rattle.rule_word.specs.Bases.{Surroundings, under}
 use Rattle.rule_word.specs.CodeRule.{context_in}
 use Rattle.rule_word.specs.CodeKinds.{binders_in}
-use Rattle.word_abstract.specs.Standing as S
-use Rattle.word_abstract.specs.Standing.{Standing}
+use Rattle.word_abstract.specs.CodeMeaning as S
+use Rattle.word_abstract.specs.CodeMeaning.{Standing}
 use Rattle.word_abstract.specs.CodeFacts.{fact_in, known_in, conditions_in}
 use Rattle.word_abstract.specs.declared.facts.Fact as F
 use Rattle.word_abstract.specs.declared.points.Point as P

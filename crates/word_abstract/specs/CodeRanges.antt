@@ -7,8 +7,8 @@ use Rattle.expression_lang.specs.Expression.{Exp}
 use Rattle.expression_lang.specs.CodeExpression.{exp_of}
 use Rattle.ac_expr.specs.Fact.{Fact, Whole}
 use Rattle.rule_word.specs.Bases.{natural_range, integer_range}
-use Rattle.word_abstract.specs.Standing.{Seen, AsWord, AsNatural, AsInteger, meaning}
-use Rattle.word_abstract.specs.Claims.{IsOther}
+use Rattle.word_abstract.specs.CodeMeaning.{Seen, AsWord, AsNatural, AsInteger, meaning}
+use Rattle.word_abstract.specs.CodeClaims.{IsOther}
 use Rattle.word_abstract.specs.CodeStanding.{standing_in}
 use Rattle.word_abstract.specs.CodeFacts.{known_in, conditions_in}
 use Rattle.word_abstract.specs.declared.ranges.Sum as S

@@ -1,5 +1,5 @@
 -- What the code's names with scalars stand for.
-use Rattle.std.specs.Prelude.{List, map, Option, Vec, string_bytes}
+use Rattle.std.specs.Prelude.{List, ◌++◌, map, Option, Some, None, Vec, string_bytes}
 use Rattle.std.specs.declared.alloc.Global.{Global}
 use Rattle.c_values.specs.Name.{Name}
 use Rattle.expression_lang.specs.Sort.{Scalar, word_sort_of}
@@ -47,3 +47,8 @@ setting_also names xs c = record {
   functions = map signature_of c.functions.now;
   sort_for = word_sort_of;
 }
+
+-- scalars that come before others, where there are others
+abbrev pub scalars_before : List Scalar → Option (List Scalar) → Option (List Scalar)
+scalars_before xs None = None
+scalars_before xs (Some ys) = Some (xs ++ ys)

@@ -17,7 +17,7 @@ use Rattle.rule_word.specs.CodeKinds.{binders_in}
 use Rattle.rule_word.specs.Bases.{among}
 use Rattle.rule_word.specs.WordsAbstracted.{Abstracted, Indices, indices}
 use Rattle.rule_word.specs.ProgramsAbstracted.{PlaceAt, AbstractedProgram, exp_at, guard_at, all_at, place_at, program_abstracted}
-use Rattle.word_abstract.specs.Known.{newest_first}
+use Rattle.word_abstract.specs.CodeKnown.{newest_first}
 use Rattle.word_abstract.specs.CodeFacts.{fact_in, whole, known_in}
 use Rattle.word_abstract.specs.declared.points.Scene as P
 use Rattle.word_abstract.specs.declared.points.Setting as S

@@ -1,6 +1,6 @@
 -- What the code's standings stand for.
 use Rattle.word_abstract.specs.declared.standing.Standing as S
-use Rattle.word_abstract.specs.Standing.{Standing, At, Constant, Fixed, Chosen, Extended}
+use Rattle.word_abstract.specs.CodeMeaning.{Standing, At, Constant, Fixed, Chosen, Extended}
 use Rattle.word_abstract.specs.CodeViews.{base_of}
 use Rattle.word_abstract.specs.CodeAbstracted.{abstracted_in}
 

@@ -2,7 +2,7 @@
 use Rattle.rule_word.specs.Bases.{Base, Words, Naturals, Integers}
 use Rattle.word_abstract.specs.declared.views.Seen as S
 use Rattle.word_abstract.specs.declared.views.Base as B
-use Rattle.word_abstract.specs.Standing.{Seen, AsWord, AsNatural, AsInteger}
+use Rattle.word_abstract.specs.CodeMeaning.{Seen, AsWord, AsNatural, AsInteger}
 
 abbrev pub seen_of : S.Seen → Seen
 seen_of S.TheVariants.AsWord = AsWord

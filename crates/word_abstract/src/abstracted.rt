@@ -1,4 +1,5 @@
-//! Expressions on what stands for words, with the trees of rules that lead there, and how a word's number is seen another way.
+//! Expressions on what stands for words, with the trees of rules that lead there, and how a word's
+//! number is seen another way.
 
 ghost use Rattle.std.specs.Prelude.{◌≡◌, IfOk};
 ghost use Rattle.expression_lang.specs.Expression as plain;
@@ -8,7 +9,7 @@ ghost use Rattle.rule_trees.specs.RuleTree.{no_trees};
 ghost use Rattle.rule_word.specs.Rule as rules;
 ghost use Rattle.rule_word.specs.WordsAbstracted.{made, one};
 ghost use Rattle.rule_word.specs.CodeRule.{rule_of, tree_of};
-ghost use Rattle.word_abstract.specs.Standing.{to_natural, to_integer, seen_at, constant_seen, zero_extended, extended_seen, chosen};
+ghost use Rattle.word_abstract.specs.CodeMeaning.{to_natural, to_integer, seen_at, constant_seen, zero_extended, extended_seen, chosen};
 ghost use Rattle.word_abstract.specs.CodeTrees.{with_trees};
 ghost use Rattle.word_abstract.specs.CodeViews.{seen_of, base_of};
 ghost use Rattle.word_abstract.specs.CodeAbstracted.{abstracted_in};

@@ -5,7 +5,7 @@ ghost use Rattle.expression_lang.specs.Expression as plain;
 ghost use Rattle.expression_lang.specs.CodeExpression.{exp_of};
 ghost use Rattle.rule_trees.specs.RuleTree.{Tree};
 ghost use Rattle.rule_word.specs.Rule.{Rule as Named};
-ghost use Rattle.word_abstract.specs.Standing.{seen_at, constant_seen, extended_seen};
+ghost use Rattle.word_abstract.specs.CodeMeaning.{seen_at, constant_seen, extended_seen};
 ghost use Rattle.word_abstract.specs.CodeViews.{seen_of, base_of};
 
 use crate::views::{Base, Seen};

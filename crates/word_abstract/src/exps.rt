@@ -7,8 +7,8 @@ ghost use Rattle.expression_lang.specs.CodeExpression.{exp_of, path_of};
 ghost use Rattle.expression_lang.specs.CodeShapeView.{two_in, with_steps};
 ghost use Rattle.rule_trees.specs.RuleTree.{Trees};
 ghost use Rattle.rule_word.specs.Rule.{Rule as Named};
-ghost use Rattle.word_abstract.specs.Standing.{meaning};
-ghost use Rattle.word_abstract.specs.Connectives.{connective};
+ghost use Rattle.word_abstract.specs.CodeMeaning.{meaning};
+ghost use Rattle.word_abstract.specs.CodeConnectives.{connective};
 ghost use Rattle.word_abstract.specs.CodeTrees.{with_trees};
 ghost use Rattle.word_abstract.specs.CodeViews.{seen_of};
 ghost use Rattle.word_abstract.specs.CodeAbstracted.{abstracted_in};
@@ -38,7 +38,8 @@ pub(crate) fn abstracted(
     e: &Exp,
     view: Seen,
 ) -> Result<Abstracted, AllocError>
-    ensures { IfOk result (λ x. abstracted_in x ≡ meaning (standing_at at.now (exp_of e.now)) (seen_of view)) }
+    ensures { IfOk result (λ x. abstracted_in x
+        ≡ meaning (standing_at at.now (exp_of e.now)) (seen_of view)) }
 {
     Box::into_inner(standing(alloc, at, e)?).seen(alloc, view)
 }
@@ -131,7 +132,8 @@ fn behind(
     condition: Fact<'_>,
     e: &Exp,
 ) -> Result<Box<Standing>, AllocError>
-    ensures { IfOk result (λ s. standing_in s.value ≡ standing_under at.now condition.entry (exp_of e.now)) }
+    ensures { IfOk result (λ s. standing_in s.value
+        ≡ standing_under at.now condition.entry (exp_of e.now)) }
 {
     let conditions = Conditions::With(at.conditions, condition);
     let inner = Point {
@@ -178,7 +180,8 @@ enum Opening<'a> {
 
 #[cycle(standing)]
 fn opened<'a>(alloc: Global, at: &Point<'_>, path: &'a Path) -> Result<Opening<'a>, AllocError>
-    ensures same { IfOk result (λ new. path_opened_in at.now new ≡ path_at at.now (path_of path.now)) }
+    ensures same { IfOk result (λ new. path_opened_in at.now new
+        ≡ path_at at.now (path_of path.now)) }
     ensures trees { IfOk result (λ new. (more : Trees Named) →
         trees_opened_in at.now new more ≡ trees_at at.now (path_of path.now) more) }
     ensures smaller { IfOk result (λ new. RestIsSmaller new (size-Path path.now)) }

@@ -6,7 +6,7 @@ ghost use Rattle.ac_expr.specs.Fact.{Fact as Plain, stands_for};
 ghost use Rattle.ac_expr.specs.Passed.{without_names, where_unchanged};
 ghost use Rattle.ac_expr.specs.Lasting.{is_unnamed};
 ghost use Rattle.expression_lang.specs.Mentions.{reads};
-ghost use Rattle.word_abstract.specs.Known.{newest_first, lasts};
+ghost use Rattle.word_abstract.specs.CodeKnown.{newest_first, lasts};
 ghost use Rattle.word_abstract.specs.CodeFacts.{fact_in, whole, known_in};
 
 use expression_lang::{Exp, IsName, IsReading};
@@ -19,7 +19,8 @@ pub(crate) struct Fact<'a> {
     pub(crate) holds: bool,
 }
 
-/// What is known at a place of a program, the oldest first: from outside its sequence, and from the guards in it.
+/// What is known at a place of a program, the oldest first: from outside its sequence, and from the
+/// guards in it.
 #[derive(Clone, Copy)]
 pub(crate) struct Known<'a> {
     pub(crate) outer: &'a [Fact<'a>],
@@ -57,7 +58,8 @@ fn lasts(e: &Exp, names: &[String], changes: bool) -> bool
 // Whether a fact does.
 #[tactic(auto, using(crate::proofs::KnownLaws::lasts_alike))]
 fn fact_lasts(fact: Fact<'_>, names: &[String], changes: bool) -> bool
-    ensures { result ≡ lasts (map string_bytes names.now) changes (stands_for (fact_in fact.entry)) }
+    ensures { result
+        ≡ lasts (map string_bytes names.now) changes (stands_for (fact_in fact.entry)) }
 {
     lasts(fact.exp, names, changes)
 }
@@ -120,7 +122,8 @@ impl<'a> Known<'a> {
     /// The same in one list, for what stands in a part.
     #[tactic(auto, using(crate::proofs::KnownLaws::newest_push, crate::proofs::KnownLaws::newest_taken))]
     pub(crate) fn all(&self, alloc: Global) -> Result<Vec<Fact<'a>>, AllocError>
-        ensures { IfOk result (λ facts. newest_first (map fact_in facts.items) [] ≡ known_in self.now) }
+        ensures { IfOk result (λ facts. newest_first (map fact_in facts.items) []
+            ≡ known_in self.now) }
     {
         let mut facts = Vec::new(alloc);
         let mut count = 0;

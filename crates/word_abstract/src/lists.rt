@@ -10,8 +10,8 @@ ghost use Rattle.rule_word.specs.Rule.{Rule as Named, View};
 ghost use Rattle.rule_word.specs.Table.{views_for, start_exps, truth};
 ghost use Rattle.rule_word.specs.Scopes.{words, own, view_for};
 ghost use Rattle.rule_word.specs.ProgramsAbstracted.{rights, trees_before, restarted};
-ghost use Rattle.word_abstract.specs.Standing.{seen_in};
-ghost use Rattle.word_abstract.specs.Guards.{also, all_hold, IsNoAnd};
+ghost use Rattle.word_abstract.specs.CodeMeaning.{seen_in};
+ghost use Rattle.word_abstract.specs.CodeGuards.{also, all_hold, IsNoAnd};
 ghost use Rattle.word_abstract.specs.CodeTrees.{with_trees};
 ghost use Rattle.word_abstract.specs.CodeViews.{seen_of};
 ghost use Rattle.word_abstract.specs.CodeAbstracted.{abstracted_in};
@@ -51,7 +51,8 @@ pub(crate) fn exp_of_kind(
     e: &Exp,
     kind: Kind,
 ) -> Result<Abstracted, AllocError>
-    ensures { IfOk result (λ x. abstracted_in x ≡ exp_there at.now (exp_of e.now) (view_for (kind_of kind))) }
+    ensures { IfOk result (λ x. abstracted_in x
+        ≡ exp_there at.now (exp_of e.now) (view_for (kind_of kind))) }
 {
     exp_at(alloc, at, e, seen_for(kind))
 }
@@ -71,7 +72,8 @@ pub(crate) fn own_at(alloc: Global, at: &Scene<'_>, e: &Exp) -> Result<Abstracte
     exp_at(alloc, at, e, Seen::AsWord)
 }
 
-/// A loop's guard: each of its conditions is known where the next stands. It goes along them by a loop.
+/// A loop's guard: each of its conditions is known where the next stands. It goes along them by a
+/// loop.
 #[tactic(auto, using(crate::proofs::GuardLaws::guard_last, crate::proofs::GuardLaws::guard_also))]
 pub(crate) fn guard_at(alloc: Global, at: &Scene<'_>, e: &Exp) -> Result<Abstracted, AllocError>
     requires { at.now.known.own.now ≡ [] }
@@ -108,7 +110,8 @@ struct Sides<'a> {
 }
 
 fn sides_of(e: &Exp) -> Option<Sides<'_>>
-    ensures some { IfSome result (λ it. exp_of e.now ≡ And (exp_of it.first.now) (exp_of it.last.now)) }
+    ensures some { IfSome result (λ it. exp_of e.now
+        ≡ And (exp_of it.first.now) (exp_of it.last.now)) }
     ensures smaller { IfSome result (λ it. size-Exp it.last.now < size-Exp e.now) }
     ensures none { IfNone result (IsNoAnd (exp_of e.now)) }
 {

@@ -18,8 +18,8 @@ ghost use Rattle.rule_word.specs.Scopes.{names_in, width_in};
 ghost use Rattle.rule_word.specs.Bases.{base_in, signed_base_in, where_numbers, or_words, oldest_range};
 ghost use Rattle.rule_word.specs.WordsAbstracted.{one, two, by_rule, words_of, binary_at, unary_at, or_zero, equality_kind, made, order};
 ghost use Rattle.rule_word.specs.CodeRule.{rule_of, tree_of};
-ghost use Rattle.word_abstract.specs.Standing as spec;
-ghost use Rattle.word_abstract.specs.Standing.{meaning, base_at, leaf_standing, operator, over_word, cast_standing, negated, natural_of, integer_of, denied, compared, equal, connected, over_words, both, operation_at, negation_at, operation, one_standing, two_standing, Chosen};
+ghost use Rattle.word_abstract.specs.CodeMeaning as spec;
+ghost use Rattle.word_abstract.specs.CodeMeaning.{meaning, base_at, leaf_standing, operator, over_word, cast_standing, negated, natural_of, integer_of, denied, compared, equal, connected, over_words, both, operation_at, negation_at, operation, one_standing, two_standing, Chosen};
 ghost use Rattle.word_abstract.specs.CodeTrees.{with_trees};
 ghost use Rattle.word_abstract.specs.CodeViews.{seen_of, base_of};
 ghost use Rattle.word_abstract.specs.CodeAbstracted.{abstracted_in};
@@ -102,7 +102,8 @@ fn over_word(alloc: Global, head: One, a: Box<Standing>) -> Result<Box<Standing>
 
 // The base of a negation.
 fn negation_at(at: &Point<'_>, op: UnaryOp, width: u8, a: &Standing) -> Base
-    ensures { base_of result ≡ negation_at same_exp (numbers_at at.now) (scope_at at.now) (names_at at.now)
+    ensures { base_of result
+        ≡ negation_at same_exp (numbers_at at.now) (scope_at at.now) (names_at at.now)
         (known_at at.now) (unary_op_of op) width (standing_in a.now) }
 {
     if op != UnaryOp::Wneg || !at.setting.numbers {
@@ -178,7 +179,8 @@ fn quotient_at(at: &Point<'_>, width: u8, a: &Standing, b: &Standing) -> Base
 
 // The base of an operation.
 fn operation_at(at: &Point<'_>, op: WordOp, width: u8, a: &Standing, b: &Standing) -> Base
-    ensures { base_of result ≡ operation_at same_exp (numbers_at at.now) (scope_at at.now) (names_at at.now)
+    ensures { base_of result
+        ≡ operation_at same_exp (numbers_at at.now) (scope_at at.now) (names_at at.now)
         (known_at at.now) (word_op_of op) width (standing_in a.now) (standing_in b.now) }
 {
     match op {
@@ -232,7 +234,8 @@ fn both_seen(
     a: Box<Standing>,
     b: Box<Standing>,
 ) -> Result<(Abstracted, Abstracted), AllocError>
-    ensures { IfOk result (λ (x, y). (abstracted_in x ≡ meaning (standing_in a.value) (seen_of view))
+    ensures { IfOk result (λ (x, y). (abstracted_in x
+        ≡ meaning (standing_in a.value) (seen_of view))
         × (abstracted_in y ≡ meaning (standing_in b.value) (seen_of view))) }
 {
     let x = Box::into_inner(a).seen(alloc, view)?;

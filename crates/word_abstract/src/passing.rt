@@ -9,7 +9,7 @@ ghost use Rattle.program_facts.specs.Flow.{facts_after, guard_in};
 ghost use Rattle.ac_expr.specs.Fact.{Fact as PlainFact};
 ghost use Rattle.ac_expr.specs.Passed.{with_guard, without_names};
 ghost use Rattle.rule_word.specs.Scopes.{with_kinds};
-ghost use Rattle.word_abstract.specs.Known.{newest_first, with_lasting_guard};
+ghost use Rattle.word_abstract.specs.CodeKnown.{newest_first, with_lasting_guard};
 ghost use Rattle.word_abstract.specs.CodeFacts.{whole, known_in};
 ghost use Rattle.word_abstract.specs.CodePassing.{facts_passed, names_passed};
 ghost use Rattle.word_abstract.specs.CodeFronts.{with_front, with_fronts};
@@ -34,7 +34,8 @@ pub(crate) struct Front {
     pub(crate) tree: Tree<Rule>,
 }
 
-/// What is known behind the parts that were passed, from before them and from their guards, and the names that they bind.
+/// What is known behind the parts that were passed, from before them and from their guards, and the
+/// names that they bind.
 #[derive(Drop)]
 pub(crate) struct Passed<'a> {
     pub(crate) outer: Vec<Fact<'a>>,
@@ -146,7 +147,8 @@ fn with_front(
     front: Front,
     last: Box<Translated>,
 ) -> Result<Box<Translated>, AllocError>
-    ensures { IfOk result (λ m. translated_in m.value ≡ with_front front (translated_in last.value)) }
+    ensures { IfOk result (λ m. translated_in m.value
+        ≡ with_front front (translated_in last.value)) }
 {
     let Front {
         right: first,
@@ -174,7 +176,8 @@ pub(crate) fn closed(
     mut fronts: Vec<Front>,
     last: Box<Translated>,
 ) -> Result<Box<Translated>, AllocError>
-    ensures { IfOk result (λ m. translated_in m.value ≡ with_fronts fronts.items (translated_in last.value)) }
+    ensures { IfOk result (λ m. translated_in m.value
+        ≡ with_fronts fronts.items (translated_in last.value)) }
 {
     let mut whole = last;
     'back: while let Some(front) = fronts.pop() {

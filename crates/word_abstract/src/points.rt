@@ -13,7 +13,8 @@ use crate::facts::{Conditions, Known};
 use expression_lang::{Binder, Exp, Kind, Scalar, Sort, sort_of};
 use rule_word::{Context, Kinds};
 
-/// What is the same all over a function: whether words are to be numbers, its unit, and the kinds of its locals.
+/// What is the same all over a function: whether words are to be numbers, its unit, and the kinds
+/// of its locals.
 #[derive(Clone, Copy)]
 pub(crate) struct Setting<'a> {
     pub(crate) numbers: bool,

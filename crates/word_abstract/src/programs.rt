@@ -13,7 +13,7 @@ ghost use Rattle.word_abstract.specs.CodeTrees.{with_trees};
 ghost use Rattle.word_abstract.specs.CodeAbstracted.{abstracted_in};
 ghost use Rattle.word_abstract.specs.CodeTranslated.{translated_in};
 ghost use Rattle.word_abstract.specs.CodeScenes.{context_at, binders_at, local_kinds, program_there, program_under};
-ghost use Rattle.word_abstract.specs.Wholes.{tested, looped};
+ghost use Rattle.word_abstract.specs.CodeWholes.{tested, looped};
 
 use crate::abstracted::Abstracted;
 use crate::facts::{Fact, Known};
@@ -51,7 +51,8 @@ fn kinds_there(
     }
 }
 
-/// A program at kinds. It goes along the last programs by a loop, since a text may have long sequences.
+/// A program at kinds. It goes along the last programs by a loop, since a text may have long
+/// sequences.
 #[cycle(programs)]
 #[tactic(auto, using(crate::proofs::FrontLaws::with_fronts_push, crate::proofs::FrontLaws::front_made))]
 pub(crate) fn program(

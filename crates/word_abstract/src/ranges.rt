@@ -9,7 +9,7 @@ ghost use Rattle.ac_expr.specs.SameExp.{same_exp};
 ghost use Rattle.ac_expr.specs.Fact.{stands_for};
 ghost use Rattle.rule_word.specs.Bases as bases;
 ghost use Rattle.rule_word.specs.Bases.{gives_at_once, some_gives, range_given, first_range, oldest_range};
-ghost use Rattle.word_abstract.specs.Known.{newest_first};
+ghost use Rattle.word_abstract.specs.CodeKnown.{newest_first};
 ghost use Rattle.word_abstract.specs.CodeViews.{seen_of, base_of};
 ghost use Rattle.word_abstract.specs.CodeFacts.{fact_in, whole, known_in, conditions_in};
 ghost use Rattle.word_abstract.specs.CodeRanges.{sum_in, natural_in, integer_in, before_in, IsShaped, seen_range};
@@ -139,7 +139,8 @@ impl Ranges<'_> {
     }
 }
 
-// What is known before a fact: the conditions, what is older, and what stands on its left in one fact.
+// What is known before a fact: the conditions, what is older, and what stands on its left in one
+// fact.
 #[derive(Drop)]
 enum Before<'a> {
     Older(&'a Conditions<'a>, Known<'a>),
@@ -269,7 +270,8 @@ fn gives(fact: Fact<'_>, e: &Exp) -> bool
 // Whether one of the facts does.
 #[tactic(auto, using(crate::proofs::RangeLaws::some_taken))]
 fn some_fact(facts: &[Fact<'_>], e: &Exp) -> bool
-    ensures { result ≡ some_gives same_exp (newest_first (map fact_in facts.now) []) (exp_of e.now) }
+    ensures { result
+        ≡ some_gives same_exp (newest_first (map fact_in facts.now) []) (exp_of e.now) }
 {
     let mut count = facts.len();
     'along: while count > 0 {

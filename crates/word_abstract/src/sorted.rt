@@ -34,7 +34,8 @@ pub(crate) struct Typed {
     scalar: Scalar,
 }
 
-/// Names with what their values are: a chain, each link of which borrows the one before. The last of two with one name counts.
+/// Names with what their values are: a chain, each link of which borrows the one before. The last
+/// of two with one name counts.
 #[derive(Drop)]
 pub(crate) enum Scalars<'a> {
     Words(&'a Kinds<'a>),
@@ -45,9 +46,11 @@ pub(crate) enum Scalars<'a> {
 #[tactic(auto, using(crate::proofs::PointLaws::last_typed))]
 fn last_typed(names: &[Typed], name: &str) -> Option<Scalar>
     ensures some { IfSome result (λ s. (others : Name → Option plain.Scalar) →
-        names_with (typed_names names.now) (typed_scalars names.now) others name.now ≡ Some (scalar_of s)) }
+        names_with (typed_names names.now) (typed_scalars names.now) others name.now
+        ≡ Some (scalar_of s)) }
     ensures none { IfNone result ((others : Name → Option plain.Scalar) →
-        names_with (typed_names names.now) (typed_scalars names.now) others name.now ≡ others name.now) }
+        names_with (typed_names names.now) (typed_scalars names.now) others name.now
+        ≡ others name.now) }
 {
     let mut rest = names;
     'names: while let Some((last, others)) = rest.split_last() {
@@ -204,7 +207,8 @@ fn none_where(alloc: Global, holds: bool) -> Option<Vec<Scalar>>
 
 fn fits(place: &Place, value: &Exp, names: &Scalars<'_>, unit: Context<'_>) -> bool
     ensures { let g = (setting_in names.now unit.entry).scope in
-        result ≡ fits_place (place_sort g (place_of place.now)) (program_sort g (exp_of value.now)) }
+        result
+        ≡ fits_place (place_sort g (place_of place.now)) (program_sort g (exp_of value.now)) }
 {
     match place {
         Place::Stored(ty, pointer, path) => {
@@ -271,8 +275,8 @@ fn picked(alloc: Global, kind: Kind) -> Result<Option<Vec<Scalar>>, AllocError>
     Ok(Some(scalars))
 }
 
-/// The scalars of what a well-sorted program gives; none where it isn't well-sorted. It goes along the last programs by a loop, since
-/// a text may have long sequences.
+/// The scalars of what a well-sorted program gives; none where it isn't well-sorted. It goes along
+/// the last programs by a loop, since a text may have long sequences.
 #[cycle(sorted)]
 #[tactic(auto, using(crate::proofs::SortedLaws::bind_none))]
 pub(crate) fn scalars_given(
@@ -424,7 +428,9 @@ fn is_turn(
     unit: Context<'_>,
 ) -> bool
     ensures { let g = (setting_in names.now unit.entry).scope in
-        result ≡ (are_distinct (start_names (map start_of starts.now)) && is_truth (program_sort g (exp_of guard.now))
+        result
+        ≡ (are_distinct (start_names (map start_of starts.now))
+        && is_truth (program_sort g (exp_of guard.now))
         && is_truth (program_sort g (exp_of test.now))) }
 {
     are_distinct_starts(starts)
@@ -441,7 +447,9 @@ fn is_turn_behind<'x>(
     unit: Context<'_>,
 ) -> bool
     ensures { let g = (setting_also names.now bound.now unit.entry).scope in
-        result ≡ (are_distinct (start_names (map start_of starts.now)) && is_truth (program_sort g (exp_of guard.now))
+        result
+        ≡ (are_distinct (start_names (map start_of starts.now))
+        && is_truth (program_sort g (exp_of guard.now))
         && is_truth (program_sort g (exp_of test.now))) }
 {
     let inner = Scalars::Then(names, bound);

@@ -2,7 +2,7 @@
 
 ghost use Rattle.std.specs.Prelude.{◌≡◌, ◌↔◌, IfOk, IsTrue};
 ghost use Rattle.expression_lang.specs.CodeExpression.{exp_of};
-ghost use Rattle.word_abstract.specs.Standing.{meaning, base_at};
+ghost use Rattle.word_abstract.specs.CodeMeaning.{meaning, base_at};
 ghost use Rattle.word_abstract.specs.CodeViews.{seen_of, base_of};
 ghost use Rattle.word_abstract.specs.CodeAbstracted.{abstracted_in};
 ghost use Rattle.word_abstract.specs.CodeStanding.{standing_in};
@@ -14,7 +14,8 @@ use c_values::Word;
 use expression_lang::Exp;
 use std::alloc::{AllocError, Global};
 
-/// What an expression stands for: each is abstracted once, and not once for each way in which it may be seen.
+/// What an expression stands for: each is abstracted once, and not once for each way in which it
+/// may be seen.
 pub(crate) enum Standing {
     /// A word of the width, at a base.
     At(Base, u8, Abstracted),
@@ -100,7 +101,7 @@ pub(crate) fn boxed(alloc: Global, s: Standing) -> Result<Box<Standing>, AllocEr
 /// As the word that it is.
 pub(crate) fn word_of(alloc: Global, s: Box<Standing>) -> Result<Abstracted, AllocError>
     ensures { IfOk result (λ x. abstracted_in x
-        ≡ meaning (standing_in s.value) Rattle.word_abstract.specs.Standing.AsWord) }
+        ≡ meaning (standing_in s.value) Rattle.word_abstract.specs.CodeMeaning.AsWord) }
 {
     Box::into_inner(s).seen(alloc, Seen::AsWord)
 }

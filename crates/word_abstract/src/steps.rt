@@ -178,7 +178,8 @@ fn kinds_given(alloc: Global, callee: Option<&Signature>) -> Result<Vec<Kind>, A
 
 // A word that is picked as one of its numbers is picked as that number.
 fn picked(alloc: Global, kind: Kind, kinds: &[Kind]) -> Result<Box<Translated>, AllocError>
-    ensures { IfOk result (λ m. translated_in m.value ≡ pick_at (kind_of kind) (map kind_of kinds.now)) }
+    ensures { IfOk result (λ m. translated_in m.value
+        ≡ pick_at (kind_of kind) (map kind_of kinds.now)) }
 {
     let (rule, kind) = match kind {
         Kind::Word(width) => picked_word(width, kinds),

@@ -10,7 +10,7 @@ ghost use Rattle.rule_trees.specs.RuleTree.{no_trees};
 ghost use Rattle.rule_word.specs.Table.{recast, recasts};
 ghost use Rattle.rule_word.specs.ProgramsAbstracted.{recast_by, result_names, through_words, recast_to};
 ghost use Rattle.rule_word.specs.CodeRule.{rule_of, tree_of};
-ghost use Rattle.word_abstract.specs.Recasting.{before};
+ghost use Rattle.word_abstract.specs.CodeRecasting.{before};
 ghost use Rattle.word_abstract.specs.CodeTrees.{with_trees};
 ghost use Rattle.word_abstract.specs.CodeTranslated.{translated_in, exps_in};
 
@@ -133,7 +133,8 @@ fn recast_by(
 
 // A result has the one name `$r`.
 fn result_names(alloc: Global, kinds: &[Kind]) -> Result<Vec<String>, AllocError>
-    ensures { IfOk result (λ names. map string_bytes names.items ≡ result_names (map kind_of kinds.now)) }
+    ensures { IfOk result (λ names. map string_bytes names.items
+        ≡ result_names (map kind_of kinds.now)) }
 {
     let mut names = Vec::new(alloc);
     if !kinds.is_empty() {

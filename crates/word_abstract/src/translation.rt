@@ -38,10 +38,12 @@ pub struct FunctionKinds<'a> {
     pub locals: &'a [Binder],
 }
 
-/// A program that does the same on what stands for words, and the tree of rules that shows it: a name is at the kind that is said of
-/// it, a call's result is recast where it is wanted at another kind, and where words are to be numbers, a sum is one of numbers by the
-/// oldest fact that gives its range. The rules take a well-sorted program whose bound names are words or truth values to it; where it
-/// is ready for its level, it is of the level's form. There is no answer only where memory is wanting.
+/// A program that does the same on what stands for words, and the tree of rules that shows it: a
+/// name is at the kind that is said of it, a call's result is recast where it is wanted at another
+/// kind, and where words are to be numbers, a sum is one of numbers by the oldest fact that gives
+/// its range. The rules take a well-sorted program whose bound names are words or truth values to
+/// it; where it is ready for its level, it is of the level's form. There is no answer only where
+/// memory is wanting.
 #[tactic(auto, using(crate::proofs::TakenThere::taken, crate::proofs::TakenThere::formed))]
 pub fn translate<'x>(
     alloc: Global,
@@ -57,7 +59,8 @@ pub fn translate<'x>(
     ensures taken { IfOk result (λ (right, tree).
         let k = function_kinds kinds.entry in
         let ctx = context_in context.entry in
-        scalars_given (words ctx (scope_for k)) (mon_of left.now) ≡ Some (map word_sort_of (result_as_list k.result)) →
+        scalars_given (words ctx (scope_for k)) (mon_of left.now)
+        ≡ Some (map word_sort_of (result_as_list k.result)) →
         binds_words (words ctx (scope_for k)) (mon_of left.now) ≡ true →
         Takes ctx (scope_for k) (tree_of tree) (mon_of left.now) (mon_of right.value) (result_as_list k.result)) }
     ensures formed { IfOk result (λ (right, tree).

@@ -3,7 +3,7 @@
 ghost use Rattle.std.specs.Prelude.{◌≡◌};
 ghost use Rattle.expression_lang.specs.CodeExpression.{kind_of};
 ghost use Rattle.rule_word.specs.Bases.{kind_at_base, first_base};
-ghost use Rattle.word_abstract.specs.Standing.{seen_for};
+ghost use Rattle.word_abstract.specs.CodeMeaning.{seen_for};
 ghost use Rattle.word_abstract.specs.CodeViews.{seen_of, base_of};
 
 use expression_lang::Kind;

@@ -31,7 +31,8 @@ pub fn unsigned_sum()
     ensures at_numbers { Undefined numbers Sum.greatest_and_one Wrap }
 {}
 
-/// Half of a sum that wraps is no midpoint; with half of the difference it is one, whatever is watched.
+/// Half of a sum that wraps is no midpoint; with half of the difference it is one, whatever is
+/// watched.
 pub fn midpoint()
     ensures wraps { Returns plain (Midpoint.of_greatest Midpoint.half_of_sum)
         (Some (value (pos 2147483646))) }
@@ -42,7 +43,8 @@ pub fn midpoint()
         (Midpoint.of_greatest Midpoint.with_half_of_difference) (Some (value (pos 4294967294))) }
 {}
 
-/// Quotients truncate toward zero; the least number divided by -1, and its remainder, are undefined.
+/// Quotients truncate toward zero; the least number divided by -1, and its remainder, are
+/// undefined.
 pub fn division()
     ensures least_by_minus_one { Undefined plain
         (Division.quotient (minus 2147483648) (minus 1)) Signed }
@@ -56,8 +58,8 @@ pub fn division()
         (Some (value (minus 1))) }
 {}
 
-/// A shift count is below the width and not negative; a signed value that is shifted left has to fit, and one that is
-/// shifted right keeps its sign.
+/// A shift count is below the width and not negative; a signed value that is shifted left has to
+/// fit, and one that is shifted right keeps its sign.
 pub fn shifts()
     ensures signed_left { Undefined plain (Shifts.left_signed (pos 1) (pos 31)) Shift }
     ensures signed_left_fits { Returns plain (Shifts.left_signed (pos 1) (pos 30))
@@ -113,8 +115,8 @@ pub fn find()
     ensures not_there { Returns numbers (Find.finding 8 3) (Some (value (minus 1))) }
 {}
 
-/// A walk over a list that comes to an untagged node is defined, but not where tags are watched; `continue` in a
-/// do-while goes on at the test.
+/// A walk over a list that comes to an untagged node is defined, but not where tags are watched;
+/// `continue` in a do-while goes on at the test.
 pub fn counting()
     ensures counts { Leaves plain Counting.counting_below_five (Some (value (pos 1))) 4096
         (1 ∷ 0 ∷ 0 ∷ 0 ∷ 0 ∷ 32 ∷ 0 ∷ 0 ∷ []) }
@@ -148,7 +150,8 @@ pub fn uninitialised()
     ensures modulo_width { Returns plain (Uninitialised.filled 4294967303) (Some (value (pos 7))) }
 {}
 
-/// A struct is copied by its members: the padding stays where it is. A function on bytes that calls the copy does the same.
+/// A struct is copied by its members: the padding stays where it is. A function on bytes that calls
+/// the copy does the same.
 pub fn struct_copy()
     ensures bytes { Leaves plain (StructCopy.copying (codes "cp")) None 4096 StructCopy.copied }
     ensures source { Holds numbers
@@ -174,7 +177,8 @@ pub fn recursion()
     ensures past_the_limit { StopsInC numbers (Recursion.even 257 1000 256) Depth }
 {}
 
-/// An index of a global array is of an element that is there: one below its length is, its length isn't.
+/// An index of a global array is of an element that is there: one below its length is, its length
+/// isn't.
 pub fn global_array()
     ensures last { Returns numbers (Globals.putting (pos 3) (pos 7)) (Some (value (pos 7))) }
     ensures first { Returns plain (Globals.putting (pos 0) (minus 1)) (Some (value (minus 1))) }
@@ -182,7 +186,8 @@ pub fn global_array()
     ensures negative { Undefined plain (Globals.putting (minus 1) (pos 7)) Bounds }
 {}
 
-/// What a pointer to unsigned points to can be read as chars on bytes, and by a caller on bytes too.
+/// What a pointer to unsigned points to can be read as chars on bytes, and by a caller on bytes
+/// too.
 pub fn cast_on_bytes()
     ensures of_42 { Leaves Casts.levels Casts.of_42 (Some (char_value (pos 42))) 4096
         (42 ∷ 0 ∷ 0 ∷ 0 ∷ []) }

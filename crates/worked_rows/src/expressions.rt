@@ -48,8 +48,8 @@ pub fn arithmetic_at_its_limits()
         (Edges.compute Add Int (pos 2147483647) (pos 1)) Signed }
 {}
 
-/// A divisor isn't zero, and a quotient is of the type; both truncate toward zero, and a remainder has the sign of the
-/// dividend.
+/// A divisor isn't zero, and a quotient is of the type; both truncate toward zero, and a remainder
+/// has the sign of the dividend.
 pub fn division_at_its_limits()
     ensures least_by_minus_one { IsUndefined Edges.plainly
         (Edges.compute Divide Int (minus 2147483648) (minus 1)) Signed }
@@ -111,7 +111,8 @@ pub fn shifts_at_their_limits()
         (Edges.shift Right Int (minus 2147483648) (pos 31)) (Edges.of_type Int (minus 1)) }
 {}
 
-/// A conversion to an integer type is modulo two to its width, from the number that the value is at its own type.
+/// A conversion to an integer type is modulo two to its width, from the number that the value is at
+/// its own type.
 pub fn conversions()
     ensures schar_to_uchar { Evaluates Edges.plainly (Edges.convert SChar (minus 1) UChar)
         (Edges.of_type UChar (pos 255)) }
@@ -161,8 +162,8 @@ pub fn conversions()
         (Edges.convert Long (pos 4294967297) Int) (Edges.of_wide_type Int (pos 1)) }
 {}
 
-/// `&&`, `||` and `?:` evaluate the operands that they need; every other operation evaluates its operands from left to
-/// right, and the first undefined step is the one that counts.
+/// `&&`, `||` and `?:` evaluate the operands that they need; every other operation evaluates its
+/// operands from left to right, and the first undefined step is the one that counts.
 pub fn evaluation_order()
     ensures false_and { Evaluates Edges.plainly (And (Edges.number (pos 0)) Edges.one_by_zero)
         (Edges.of_type Int (pos 0)) }
@@ -200,8 +201,8 @@ pub fn evaluation_order()
         (Edges.of_type Int (pos 1)) }
 {}
 
-/// A place that is read has its indices inside their arrays, and a root that is aligned, not null and inside the space;
-/// from typed heaps on a tag covers it.
+/// A place that is read has its indices inside their arrays, and a root that is aligned, not null
+/// and inside the space; from typed heaps on a tag covers it.
 pub fn places()
     ensures member { Evaluates (Edges.at_address Bytes 4096) (Edges.x_of_p) (value (pos 5)) }
     ensures last_element { Evaluates (Edges.at_address Bytes 4096) (Edges.a_of_p (pos 3))

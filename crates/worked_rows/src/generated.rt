@@ -17,7 +17,8 @@ pub fn returned_constant()
         ≡ Generation.body_of_f }
 {}
 
-/// The guards of `p && p->x > 3` ask for the pointer and its tag where `p` isn't null; on bytes no tag is asked for.
+/// The guards of `p && p->x > 3` ask for the pointer and its tag where `p` isn't null; on bytes no
+/// tag is asked for.
 pub fn guards_of_null_test()
     ensures at_numbers { guards NullTest.unit.layout Numbers NullTest.returned
         ≡ Generation.guards_of_null_test }
@@ -25,7 +26,8 @@ pub fn guards_of_null_test()
         ≡ take 1 Generation.guards_of_null_test }
 {}
 
-/// A function is on bytes by a pointer conversion of its own, or by the first such function that it calls.
+/// A function is on bytes by a pointer conversion of its own, or by the first such function that it
+/// calls.
 pub fn reasons()
     ensures by_cast { reason Casts.levels Casts.first_byte ≡ ByCast }
     ensures by_call { reason Casts.levels Casts.calls_it ≡ ByCall (codes "b0") }

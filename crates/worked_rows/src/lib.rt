@@ -1,7 +1,9 @@
-//! Worked rows: what the definitions say of small texts whose meaning is known, as theorems that compute.
+//! Worked rows: what the definitions say of small texts whose meaning is known, as theorems that
+//! compute.
 //!
-//! The trees are written by hand in `specs/`, one file for each text; the contracts here say how their runs end. Nothing
-//! else rests on this crate: it shows that the definitions mean what they are meant to.
+//! The trees are written by hand in `specs/`, one file for each text; the contracts here say how
+//! their runs end. Nothing else rests on this crate: it shows that the definitions mean what they
+//! are meant to.
 #![tactic(auto)]
 
 mod calls;

@@ -17,8 +17,8 @@ pub fn sums()
     ensures increment_fails { Fails Programs.increment (Number (pos 4294967295) ∷ []) }
 {}
 
-/// The half of a sum fails where the sum doesn't fit; with the half of the difference the program gives the midpoint, and
-/// fails where the difference is negative.
+/// The half of a sum fails where the sum doesn't fit; with the half of the difference the program
+/// gives the midpoint, and fails where the difference is negative.
 pub fn midpoints()
     ensures fails { Fails Programs.half_of_sum
         (Number (pos 4294967294) ∷ Number (pos 4294967295) ∷ []) }

@@ -26,8 +26,8 @@ pub fn switches()
         (Some (value (pos 20))) }
 {}
 
-/// Continue ends the body, and the step or the test comes next; break ends the innermost loop or switch; a test that is
-/// false asks no turn.
+/// Continue ends the body, and the step or the test comes next; break ends the innermost loop or
+/// switch; a test that is false asks no turn.
 pub fn loops()
     ensures for_with_continue { Returns plain (Statements.run Statements.for_with_continue 0 4)
         (Some (value (pos 3))) }

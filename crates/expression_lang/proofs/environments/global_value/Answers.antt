@@ -2,7 +2,7 @@
 use Rattle.std.proofs.Common.{◌≡◌, ◌∙◌, false, arith}
 use Rattle.std.specs.Prelude.{string_bytes}
 use Rattle.c_values.specs.Name.{same_name}
-use Rattle.expression_lang.proofs.Named.{global_after}
+use Rattle.expression_lang.proofs.NamesFound.{global_after}
 use Rattle.expression_lang.proofs.environments.global_value.Goals as goal
 
 pub globals-preserved : goal.globals-preserved

@@ -6,7 +6,7 @@ use Rattle.c_values.specs.Name.{same_name}
 use Rattle.c_values.specs.CodeValue.{value_of}
 use Rattle.c_values.specs.CodeParts.{has_parts}
 use Rattle.expression_lang.specs.CodeState.{env_of}
-use Rattle.expression_lang.proofs.Named.{named_here}
+use Rattle.expression_lang.proofs.NamesFound.{named_here}
 use Rattle.expression_lang.proofs.environments.variable.Goals as goal
 
 found : (c : goal.Then-eq) → value_of c.index.result.now.1 ≡ env_of c.args.env.now.items c.args.name.now

@@ -2,7 +2,7 @@
 use Rattle.std.proofs.Common.{Some, sym, ap, ◌∙◌}
 use Rattle.c_values.specs.Name.{Name, same_name}
 use Rattle.expression_lang.specs.Sort.{Scalar}
-use Rattle.expression_lang.proofs.Named.{binder_here, binder_left_out}
+use Rattle.expression_lang.proofs.NamesFound.{binder_here, binder_left_out}
 use Rattle.expression_lang.proofs.names.scalar_among.Goals as goal
 
 pub returns-then-eq-clause-some : goal.returns-then-eq-clause-some

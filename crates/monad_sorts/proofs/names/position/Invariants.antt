@@ -7,7 +7,7 @@ use Rattle.monad_sorts.proofs.names.position.Given as goal
 
 abbrev pub invariant-items : goal.invariant-items
 invariant-items g l = (os : List (Option Scalar)) (names : Name → Option Scalar) →
-    names_given (map g.T.HasName.named l.items) os names l.name ≡ names_given (map g.T.HasName.named l.rest) os names l.name
+    names_given (map g.T.Named.named l.items) os names l.name ≡ names_given (map g.T.Named.named l.rest) os names l.name
 
 abbrev pub decreases-items : goal.decreases-items
 decreases-items g l = length l.rest

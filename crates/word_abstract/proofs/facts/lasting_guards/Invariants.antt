@@ -1,7 +1,7 @@
 -- Those that are kept are those that last of what was gone through.
 use Rattle.std.proofs.Common.{◌≡◌, List, map, string_bytes}
 use Rattle.ac_expr.specs.Fact.{Fact}
-use Rattle.word_abstract.specs.Known.{newest_first}
+use Rattle.word_abstract.specs.CodeKnown.{newest_first}
 use Rattle.word_abstract.specs.CodeFacts.{whole}
 use Rattle.word_abstract.proofs.KnownLaws.{kept}
 use Rattle.word_abstract.proofs.facts.lasting_guards.Given as goal

@@ -1,6 +1,6 @@
 -- The conditions that are left, before what is made, are the whole.
 use Rattle.std.proofs.Common.{◌≡◌, map, vec_len}
-use Rattle.word_abstract.specs.Guards as G
+use Rattle.word_abstract.specs.CodeGuards as G
 use Rattle.word_abstract.specs.CodeAbstracted.{abstracted_in}
 use Rattle.word_abstract.proofs.lists.all_hold.Given as goal
 

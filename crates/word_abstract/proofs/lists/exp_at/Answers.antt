@@ -4,7 +4,7 @@ use Rattle.ac_expr.specs.SameExp.{same_exp}
 use Rattle.rule_word.specs.Rule.{View}
 use Rattle.rule_word.specs.Scopes.{words}
 use Rattle.rule_word.specs.Bases.{among}
-use Rattle.word_abstract.specs.Standing.{seen_in, meaning, standing}
+use Rattle.word_abstract.specs.CodeMeaning.{seen_in, meaning, standing}
 use Rattle.word_abstract.specs.CodeViews.{seen_of}
 use Rattle.word_abstract.specs.CodeAbstracted.{abstracted_in}
 use Rattle.word_abstract.specs.CodeScenes.{context_at, binders_at, facts_at, exp_there}

@@ -6,8 +6,8 @@ use Rattle.ac_expr.specs.Fact.{Whole}
 use Rattle.ac_expr.specs.SameExp.{same_exp}
 use Rattle.rule_word.specs.Table.{truth}
 use Rattle.rule_word.specs.ProgramsAbstracted.{exp_at}
-use Rattle.word_abstract.specs.Known.{newest_first}
-use Rattle.word_abstract.specs.Guards.{all_hold, IsNoAnd}
+use Rattle.word_abstract.specs.CodeKnown.{newest_first}
+use Rattle.word_abstract.specs.CodeGuards.{all_hold, IsNoAnd}
 use Rattle.word_abstract.specs.CodeFacts.{fact_in, whole}
 use Rattle.word_abstract.specs.CodeAbstracted.{abstracted_in}
 use Rattle.word_abstract.specs.CodeScenes.{context_at, binders_at, guard_there, guard_behind}

@@ -2,7 +2,7 @@
 use Rattle.std.proofs.Common.{◌≡◌, map}
 use Rattle.expression_lang.specs.declared.expression.Exp.{size-Exp}
 use Rattle.expression_lang.specs.CodeExpression.{exp_of}
-use Rattle.word_abstract.specs.Guards.{all_hold}
+use Rattle.word_abstract.specs.CodeGuards.{all_hold}
 use Rattle.word_abstract.specs.CodeAbstracted.{abstracted_in}
 use Rattle.word_abstract.specs.CodeScenes.{guard_there, guard_behind}
 use Rattle.word_abstract.proofs.lists.guard_at.Given as goal

@@ -15,7 +15,7 @@ use Rattle.rule_word.specs.Table.{truth}
 use Rattle.rule_word.specs.ProgramsAbstracted.{exp_at, guard_at, program_abstracted}
 use Rattle.word_abstract.specs.declared.facts.Fact as F
 use Rattle.rule_word.specs.CodeKinds.{binders_in}
-use Rattle.word_abstract.specs.Known.{newest_first}
+use Rattle.word_abstract.specs.CodeKnown.{newest_first}
 use Rattle.word_abstract.specs.CodeAbstracted.{abstracted_in}
 use Rattle.word_abstract.specs.CodeFacts.{fact_in, whole, known_in}
 use Rattle.word_abstract.specs.CodePassing.{facts_passed, names_passed}

@@ -2,7 +2,7 @@
 use Rattle.std.proofs.Common.{◌≡◌, ◌-◌, ◌≤◌, List, [], length, map, take, None}
 use Rattle.ac_expr.specs.SameExp.{same_exp}
 use Rattle.rule_word.specs.Bases.{oldest_range}
-use Rattle.word_abstract.specs.Known.{newest_first}
+use Rattle.word_abstract.specs.CodeKnown.{newest_first}
 use Rattle.word_abstract.specs.CodeFacts.{fact_in, conditions_in}
 use Rattle.word_abstract.specs.CodeRanges.{natural_in, integer_in}
 use Rattle.word_abstract.proofs.ranges.oldest_outer.Given as goal

@@ -5,7 +5,7 @@ use Rattle.rule_word.specs.Bases as B
 use Rattle.std.proofs.Common.{arith, [], ◌++◌, map, take, ap, sym, ◌∙◌}
 use Rattle.word_abstract.specs.CodeViews.{base_of}
 use Rattle.std.specs.Option.{option_map}
-use Rattle.word_abstract.specs.Known.{newest_first}
+use Rattle.word_abstract.specs.CodeKnown.{newest_first}
 use Rattle.word_abstract.specs.CodeFacts.{fact_in, whole, conditions_in}
 use Rattle.word_abstract.specs.CodeRanges.{natural_in, integer_in}
 use Rattle.word_abstract.proofs.RangeLaws.{some_there, none_left, found_there, not_yet_taken}

@@ -2,7 +2,7 @@ use Rattle.std.proofs.Common.{◌≡◌, ◌-◌, ◌||◌, [], map, take, arith
 use Rattle.expression_lang.specs.CodeExpression.{exp_of}
 use Rattle.ac_expr.specs.SameExp.{same_exp}
 use Rattle.rule_word.specs.Bases.{some_gives}
-use Rattle.word_abstract.specs.Known.{newest_first}
+use Rattle.word_abstract.specs.CodeKnown.{newest_first}
 use Rattle.word_abstract.specs.CodeFacts.{fact_in}
 use Rattle.word_abstract.proofs.RangeLaws.{some_down}
 use Rattle.word_abstract.proofs.ranges.some_fact.Goals as goal

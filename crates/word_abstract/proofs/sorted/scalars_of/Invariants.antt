@@ -2,7 +2,7 @@
 use Rattle.std.proofs.Common.{◌≡◌, length, map}
 use Rattle.expression_lang.specs.CodeExpression.{exp_of}
 use Rattle.expression_lang.specs.Sorted as S
-use Rattle.word_abstract.specs.Scalars.{scalars_before}
+use Rattle.word_abstract.specs.CodeScalars.{scalars_before}
 use Rattle.word_abstract.specs.CodeScalars.{scalars_in, setting_in}
 use Rattle.word_abstract.proofs.sorted.scalars_of.Given as goal
 

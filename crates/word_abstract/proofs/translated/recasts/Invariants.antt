@@ -2,7 +2,7 @@
 use Rattle.std.proofs.Common.{◌≡◌, length, map, string_bytes}
 use Rattle.expression_lang.specs.CodeExpression.{kind_of}
 use Rattle.rule_word.specs.Table as T
-use Rattle.word_abstract.specs.Recasting.{before}
+use Rattle.word_abstract.specs.CodeRecasting.{before}
 use Rattle.word_abstract.specs.CodeTranslated.{exps_in}
 use Rattle.word_abstract.proofs.translated.recasts.Given as goal
 

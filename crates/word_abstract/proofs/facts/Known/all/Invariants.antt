@@ -1,6 +1,6 @@
 -- Those that are listed are those that were gone through.
 use Rattle.std.proofs.Common.{◌≡◌, ◌-◌, ◌≤◌, [], length, map, take}
-use Rattle.word_abstract.specs.Known.{newest_first}
+use Rattle.word_abstract.specs.CodeKnown.{newest_first}
 use Rattle.word_abstract.specs.CodeFacts.{fact_in, whole}
 use Rattle.word_abstract.proofs.facts.Known.all.Given as goal
 

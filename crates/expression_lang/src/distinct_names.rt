@@ -6,8 +6,8 @@ ghost use Rattle.c_values.specs.CodeValue.{global_of};
 ghost use Rattle.expression_lang.specs.Signature.{names_of};
 ghost use Rattle.expression_lang.specs.CodeSignature.{binder_of};
 
+use crate::signatures::Binder;
 use c_values::GlobalVar;
-use expression_lang::Binder;
 
 /// What has a name.
 pub trait Named {
@@ -64,7 +64,8 @@ pub fn are_binders_distinct(binders: &[Binder]) -> bool
     are_distinct(binders)
 }
 
-/// Whether no two have one name. Each is compared with those behind it, since there is no memory to keep names in.
+/// Whether no two have one name. Each is compared with those behind it, since there is no memory to
+/// keep names in.
 pub fn are_distinct<T: Named>(items: &[T]) -> bool
     ensures { result ≡ are_distinct (map T.named items.now) }
 {

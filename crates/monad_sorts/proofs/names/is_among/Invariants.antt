@@ -1,8 +1,0 @@
--- None so far has the name.
-use Rattle.std.proofs.Common.{◌≡◌, map, drop}
-use Rattle.c_values.specs.Name.{is_among}
-use Rattle.monad_sorts.proofs.names.is_among.Given as goal
-
-abbrev pub invariant-items : goal.invariant-items
-invariant-items g l =
-    is_among l.name (map g.T.HasName.named (drop l.item-index l.items)) ≡ is_among l.name (map g.T.HasName.named l.items)
