@@ -1,6 +1,6 @@
 //! Programs as plain data. `specs/Program` has the language, and `specs/Run` what programs do.
 
-ghost use Rattle.std.specs.Prelude.{◌≤◌, ◌+◌, ◌*◌, IfSome, IfNone};
+ghost use Rattle.std.specs.Prelude.{◌≡◌, ◌≤◌, ◌+◌, ◌*◌, IfSome, IfNone};
 ghost use Rattle.monad_lang.specs.CodeWeight.{weight};
 
 use c_values::{CType, Program};
@@ -46,8 +46,8 @@ pub enum Mon {
     Pick(Kind),
 }
 
-// A derived drop would call itself once for each program inside another. This one takes no stack:
-// it turns the program to the right, step by step, until it is one sequence.
+// A derived drop would call itself once for each program inside another. This one takes no stack: it turns the program to the
+// right, step by step, until the first part of each sequence has no parts.
 impl Drop for Mon {
     fn drop(mut self) {
         loop {
@@ -57,46 +57,65 @@ impl Drop for Mon {
                 Mon::Write(_place, _value) => return,
                 Mon::Call(_function, _arguments) => return,
                 Mon::Pick(_kind) => return,
-                Mon::Bind(first, _names, last) => self = turned(first, last),
-                Mon::If(_test, first, last) => self = turned(first, last),
+                Mon::Bind(first, names, last) => self = turned(Head::Bind(names), first, last),
+                Mon::If(test, first, last) => self = turned(Head::If(test), first, last),
                 Mon::Loop(_starts, _guard, _test, last) => self = Box::into_inner(last),
             }
         }
     }
 }
 
-/// The two in sequence, with nothing left to drop beside its parts. It is made in the room that
-/// there is.
-fn turned(mut first: Box<Mon>, last: Box<Mon>) -> Mon
+/// What a program of two parts has beside them.
+#[derive(Drop)]
+enum Head {
+    Bind(Vec<String>),
+    If(Exp),
+}
+
+impl Head {
+    /// The program of these parts.
+    fn over(self, first: Box<Mon>, last: Box<Mon>) -> Mon
+        ensures { weight result ≡ 1 + (2 * weight first.value + weight last.value) }
+    {
+        match self {
+            Head::Bind(names) => Mon::Bind(first, names, last),
+            Head::If(test) => Mon::If(test, first, last),
+        }
+    }
+}
+
+/// What is left to drop of a program of two parts, turned to the right by one step. It is made in the room that there is.
+fn turned(head: Head, mut first: Box<Mon>, last: Box<Mon>) -> Mon
     ensures { weight result ≤ 2 * weight first.value + weight last.value }
 {
-    match replace_with(&mut *first, last, Mon::turn) {
-        Some(front) => Mon::Bind(front, Vec::new(), first),
+    match replace_with(&mut *first, (head, last), Mon::turn) {
+        Some((own, front)) => own.over(front, first),
         None => Box::into_inner(first),
     }
 }
 
 impl Mon {
-    /// What is left of this program before the other: one program, or a first and what comes behind
-    /// it.
-    fn turn(self, last: Box<Mon>) -> (Mon, Option<Box<Mon>>)
-        ensures front { IfSome result.1 (λ front. 1 + (2 * weight front.value + weight result.0)
-            ≤ 2 * weight self + weight last.value) }
-        ensures no_front { IfNone result.1 (weight result.0 ≤ 2 * weight self + weight last.value) }
+    /// What is left of this first part and what it stands before: one program, or what comes behind a front of its own.
+    fn turn(self, beside: (Head, Box<Mon>)) -> (Mon, Option<(Head, Box<Mon>)>)
+        ensures front { IfSome result.1 (λ (own, front). 1 + (2 * weight front.value + weight result.0)
+            ≤ 2 * weight self + weight beside.1.value) }
+        ensures no_front { IfNone result.1 (weight result.0 ≤ 2 * weight self + weight beside.1.value) }
     {
+        let (head, last) = beside;
         match self {
             Mon::Ret(_values) => (Box::into_inner(last), None),
             Mon::Guard(_condition) => (Box::into_inner(last), None),
             Mon::Write(_place, _value) => (Box::into_inner(last), None),
             Mon::Call(_function, _arguments) => (Box::into_inner(last), None),
             Mon::Pick(_kind) => (Box::into_inner(last), None),
-            Mon::Bind(first, _names, middle) => {
-                (Mon::Bind(middle, Vec::new(), last), Some(first))
+            Mon::Bind(first, names, middle) => {
+                (head.over(middle, last), Some((Head::Bind(names), first)))
             }
-            Mon::If(_test, first, middle) => (Mon::Bind(middle, Vec::new(), last), Some(first)),
-            Mon::Loop(_starts, _guard, _test, middle) => {
-                (Mon::Bind(middle, Vec::new(), last), None)
-            }
+            Mon::If(test, first, middle) => (
+                head.over(middle, last),
+                Some((Head::If(test), first)),
+            ),
+            Mon::Loop(_starts, _guard, _test, body) => (head.over(body, last), None),
         }
     }
 }

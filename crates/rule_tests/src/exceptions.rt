@@ -202,7 +202,7 @@ fn deep_nesting_is_translated_and_checked(rt: HostRuntime) -> Result<(), Fail> {
     let alloc = rt.alloc();
     for head in ["seq_left", "catch_left", "catch_throw"] {
         for inner in [Simpl::Skip, Simpl::Throw] {
-            let c = nested(alloc, head, 2_048, inner)?;
+            let c = nested(alloc, head, 4_096, inner)?;
             assert!(rt; is_taken(alloc, &c)?, "{head}");
         }
     }

@@ -255,7 +255,7 @@ fn long_spines_are_lifted_and_checked(rt: HostRuntime) -> Result<(), Fail> {
 fn deep_nesting_is_lifted_and_checked(rt: HostRuntime) -> Result<(), Fail> {
     let alloc = rt.alloc();
     for head in ["seq_left", "cond_left", "while"] {
-        let c = nested(alloc, head, 2_048, command(alloc, "set")?)?;
+        let c = nested(alloc, head, 4_096, command(alloc, "set")?)?;
         assert!(rt; is_lifted_here(alloc, &c)?, "{head}");
     }
     Ok(())
