@@ -1,10 +1,10 @@
 -- Which programs are well-sorted, and which units are well-formed.
 use Rattle.std.specs.Prelude.{◌≡◌, ◌==◌, length, Bool, true, false, ◌&&◌, List, [], ◌∷◌, map, Option, Some, None}
 use Rattle.c_values.specs.Name.{Name, are_distinct}
-use Rattle.c_values.specs.Layout.{IsLayout, global_type}
+use Rattle.c_values.specs.Layout.{Layout, GlobalVar, IsLayout, global_type}
 use Rattle.expression_lang.specs.Sort.{Scalar, Sort, Kind, Scope, is_truth, sort_of_kind, is_kind, are_kinds}
 use Rattle.expression_lang.specs.Signature.{Signature, names_of, kinds_of, signature}
-use Rattle.expression_lang.specs.Sorted.{scope_with, program_sort, scalar_in, with_scalar, scalars_of, same_scalars, typed_place, global_place, fits_place, call_scalars}
+use Rattle.expression_lang.specs.Sorted.{scope_with, program_sort, scalar_in, with_scalar, scalars_of, same_scalars, typed_place, global_place, fits_place, result_scalars, call_scalars}
 use Rattle.monad_lang.specs.Program.{Place, Stored, Written, Global, Start, Mon, Ret, Bind, Guard, If, Write, Loop, Call, Pick, FinalFn, FinalUnit}
 use Rattle.monad_lang.specs.Run.{start_names}
 
@@ -73,6 +73,20 @@ setting_of u f = record {
   functions = map signature_of u.functions;
   sort_for = sort_of_kind;
 }
+
+-- the setting of a program of a function with this signature, over these structs, globals and functions, where names have these scalars
+-- at their kinds
+abbrev pub setting_signed : (Kind → Scalar) → Layout → List GlobalVar → List Signature → Signature → Setting
+setting_signed f l globals functions s = record {
+  scope = scope_with (names_of s.params) (map f (kinds_of s.params)) (record { layout = l; names = λ x. None; globals = global_type globals });
+  functions = functions;
+  sort_for = f;
+}
+
+-- it is well-sorted, and gives the signature's result
+abbrev pub is_body_sorted : (Kind → Scalar) → Layout → List GlobalVar → List Signature → Signature → Mon → Bool
+is_body_sorted f l globals functions s m =
+    are_scalars (result_scalars f s.result) (scalars_given (setting_signed f l globals functions s) m)
 
 abbrev pub is_fn_sorted : FinalUnit → FinalFn → Bool
 is_fn_sorted u f = are_kinds (kinds_of f.params) && are_kinds f.results && are_distinct (names_of f.params) && has_few f.results && are_scalars (map sort_of_kind f.results) (scalars_given (setting_of u f) f.body)

@@ -34,6 +34,11 @@ same_told [] [] = true
 same_told (o ∷ os) (p ∷ ps) = is_same o p && same_told os ps
 same_told _ _ = false
 
+-- the kind of what a call gives
+abbrev pub result_kind : Option Signature → Option Kind
+result_kind None = None
+result_kind (Some s) = s.result
+
 -- how many values a call gives, and a program
 abbrev pub call_count : Option Signature → ℕ
 call_count None = 0

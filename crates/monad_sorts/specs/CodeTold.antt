@@ -3,7 +3,7 @@
 use Rattle.std.specs.Prelude.{ℕ, zero, suc, List, [], ◌∷◌, map, Option, Some, None}
 use Rattle.c_values.specs.Name.{Name, with_name}
 use Rattle.c_values.specs.Types.{CType, address_width}
-use Rattle.c_values.specs.Layout.{Layout, Shape, Scalar as WordShape, Record, Row, shape_of, global_type}
+use Rattle.c_values.specs.Layout.{Layout, GlobalVar, Shape, Scalar as WordShape, Record, Row, shape_of, global_type}
 use Rattle.c_values.specs.Path.{member_spot}
 use Rattle.expression_lang.specs.Expression.{Exp, Var, WordLit, NumberLit, TruthLit, WordBinary, WordShift, WordUnary, WordCompare, Cast, ToNat, ToInt, ToWord, Arith, Negate, Lt, Le, Between, Eq, And, Or, Imp, Not, If, Padd, At, Load, Read, Tagged, PtrOk, Global, Sel, Upd, Path, Here, IntoField, IntoElement}
 use Rattle.expression_lang.specs.Sort.{Scalar, WordSort, NumberSort, TruthSort, Kind, Scope, shape_in, sort_of_kind}
@@ -84,13 +84,18 @@ names_given [] os names = names
 names_given (x ∷ xs) [] names = names_given xs [] (with_name x None names)
 names_given (x ∷ xs) (o ∷ os) names = names_given xs os (with_name x o names)
 
--- the setting of a program of a unit, where these names are in scope and names have these scalars at their kinds
-abbrev pub setting_by : (Kind → Scalar) → FinalUnit → (Name → Option Scalar) → Setting
-setting_by f u names = record {
-  scope = record { layout = u.layout; names = names; globals = global_type u.globals };
-  functions = map signature_of u.functions;
+-- the setting of a program over these structs, globals and functions, where these names are in scope and names have these scalars at
+-- their kinds
+abbrev pub setting_over : (Kind → Scalar) → Layout → List GlobalVar → List Signature → (Name → Option Scalar) → Setting
+setting_over f l globals functions names = record {
+  scope = record { layout = l; names = names; globals = global_type globals };
+  functions = functions;
   sort_for = f;
 }
+
+-- the same in a unit
+abbrev pub setting_by : (Kind → Scalar) → FinalUnit → (Name → Option Scalar) → Setting
+setting_by f u names = setting_over f u.layout u.globals (map signature_of u.functions) names
 
 -- the setting of a function's program
 abbrev pub setting_for : (Kind → Scalar) → FinalUnit → FinalFn → Setting

@@ -5,16 +5,19 @@ ghost use Rattle.std.specs.Option.{option_map};
 ghost use Rattle.c_values.specs.Name.{Name};
 ghost use Rattle.expression_lang.specs.Sort as plain;
 ghost use Rattle.expression_lang.specs.Signature.{signature};
+ghost use Rattle.expression_lang.specs.CodeExpression.{kind_of};
 ghost use Rattle.monad_lang.specs.Sorted.{signature_of};
 ghost use Rattle.monad_lang.specs.CodeProgram.{mon_of, final_fn_of};
 ghost use Rattle.monad_sorts.specs.CodeTold.{told_at, call_told, giver_of};
-ghost use Rattle.monad_sorts.specs.CodeSorted.{count_of, call_count};
-ghost use Rattle.monad_sorts.specs.CodeInside.{setting_in, scalar_by, no_names};
+ghost use Rattle.monad_sorts.specs.CodeSorted.{count_of, call_count, result_kind};
+ghost use Rattle.monad_sorts.specs.CodeInside.{setting_in, functions_in, scalar_by, no_names};
 
 use crate::parts::giver_of;
-use crate::settings::Setting;
+use crate::settings::{Functions, Setting};
 use crate::tell::Told;
+use expression_lang::Kind;
 use monad_lang::{FinalFn, Mon};
+use program_sorts::signature;
 
 /// The function of a unit with the name.
 pub(crate) fn function<'a>(functions: &'a [FinalFn], name: &str) -> Option<&'a FinalFn>
@@ -60,9 +63,28 @@ fn result_count(name: &str, setting: Setting<'_>) -> usize
     ensures { let functions = (setting_in setting.entry no_names).functions in
         result ≡ call_count (signature functions name.now) }
 {
-    match function(&setting.unit.functions, name) {
-        Some(f) => if f.results.is_empty() { 0 } else { 1 },
-        None => 0,
+    match setting.functions {
+        Functions::Programs(functions) => match function(functions, name) {
+            Some(f) => if f.results.is_empty() { 0 } else { 1 },
+            None => 0,
+        },
+        Functions::Signatures(signatures) => match signature(signatures, name) {
+            Some(s) => if s.result.is_none() { 0 } else { 1 },
+            None => 0,
+        },
+    }
+}
+
+// The kind of what a call gives.
+fn result_kind(name: &str, functions: Functions<'_>) -> Option<Kind>
+    ensures { option_map kind_of result ≡ result_kind (signature (functions_in functions) name.now) }
+{
+    match functions {
+        Functions::Programs(functions) => match function(functions, name)?.results.first() {
+            Some(kind) => Some(*kind),
+            None => None,
+        },
+        Functions::Signatures(signatures) => signature(signatures, name)?.result,
     }
 }
 
@@ -75,11 +97,8 @@ pub(crate) fn tell_result<'a>(name: &str, position: usize, setting: Setting<'_>)
     if position > 0 {
         return Told::Known(None);
     }
-    match function(&setting.unit.functions, name) {
-        Some(f) => match f.results.first() {
-            Some(kind) => Told::Known(Some(setting.phase.scalar(*kind))),
-            None => Told::Known(None),
-        },
-        None => Told::Known(None),
-    }
+    let Some(kind) = result_kind(name, setting.functions) else {
+        return Told::Known(None);
+    };
+    Told::Known(Some(setting.phase.scalar(kind)))
 }

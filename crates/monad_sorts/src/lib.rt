@@ -19,4 +19,4 @@ mod tell;
 mod values;
 mod well_formed;
 
-pub use well_formed::{is_program_sorted, is_well_formed};
+pub use well_formed::{is_body_sorted, is_program_sorted, is_well_formed};

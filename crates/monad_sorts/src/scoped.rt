@@ -24,7 +24,7 @@ pub(crate) fn is_test_in(e: &Exp, inside: &Inside<'_>, setting: Setting<'_>) -> 
     ensures { let t = setting_in setting.entry (scalars_in inside.now) in
         result ≡ is_truth (program_sort t.scope (exp_of e.now)) }
 {
-    is_test(e, inside, &setting.unit.layout, &setting.unit.globals)
+    is_test(e, inside, setting.layout, setting.globals)
 }
 
 /// Whether an expression has a scalar.
@@ -32,7 +32,7 @@ pub(crate) fn has_scalar(e: &Exp, inside: &Inside<'_>, setting: Setting<'_>) -> 
     ensures { let t = setting_in setting.entry (scalars_in inside.now) in
         result ≡ is_scalar (program_sort t.scope (exp_of e.now)) }
 {
-    is_scalar(program_sort(e, inside, &setting.unit.layout, &setting.unit.globals))
+    is_scalar(program_sort(e, inside, setting.layout, setting.globals))
 }
 
 fn is_scalar(sort: Option<Sort<'_>>) -> bool
@@ -63,8 +63,8 @@ pub(crate) fn fits_object_in(
         path,
         value,
         inside,
-        &setting.unit.layout,
-        &setting.unit.globals,
+        setting.layout,
+        setting.globals,
     )
 }
 
@@ -80,14 +80,7 @@ pub(crate) fn fits_global_in(
         let place = global_place g (g.globals name.now) (path_of path.now) in
         result ≡ fits_place place (program_sort g (exp_of value.now)) }
 {
-    fits_global(
-        name,
-        path,
-        value,
-        inside,
-        &setting.unit.layout,
-        &setting.unit.globals,
-    )
+    fits_global(name, path, value, inside, setting.layout, setting.globals)
 }
 
 /// Whether there are as many arguments as parameters, each of its parameter's kind.
@@ -106,7 +99,7 @@ pub(crate) fn may_take_in(
         arguments,
         setting.phase,
         inside,
-        &setting.unit.layout,
-        &setting.unit.globals,
+        setting.layout,
+        setting.globals,
     )
 }

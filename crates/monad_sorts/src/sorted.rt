@@ -19,10 +19,10 @@ use crate::inside::Inside;
 use crate::names::are_starts_distinct;
 use crate::parts::last_of;
 use crate::scoped::{fits_global_in, fits_object_in, has_scalar, is_test_in, may_take_in};
-use crate::settings::Setting;
+use crate::settings::{Functions, Setting};
 use expression_lang::{Exp, Kind, Scalar, are_distinct};
 use monad_lang::{Mon, Place, Start};
-use program_sorts::is_kind;
+use program_sorts::{is_kind, signature};
 
 /// Whether a program is well-sorted there. It goes along the last parts by a loop, since a text may
 /// have long sequences.
@@ -162,9 +162,15 @@ fn is_call_sorted(name: &str, arguments: &[Exp], inside: &Inside<'_>, setting: S
     ensures { let t = setting_in setting.entry (scalars_in inside.now) in
         result ≡ can_call t (signature t.functions name.now) (map exp_of arguments.now) }
 {
-    match function(&setting.unit.functions, name) {
-        Some(f) => may_take_in(&f.params, arguments, inside, setting),
-        None => false,
+    match setting.functions {
+        Functions::Programs(functions) => match function(functions, name) {
+            Some(f) => may_take_in(&f.params, arguments, inside, setting),
+            None => false,
+        },
+        Functions::Signatures(signatures) => match signature(signatures, name) {
+            Some(s) => may_take_in(&s.params, arguments, inside, setting),
+            None => false,
+        },
     }
 }
 

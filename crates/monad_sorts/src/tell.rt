@@ -57,7 +57,6 @@ fn tell_at_once<'a>(e: &'a Exp, setting: Setting<'_>) -> Told<'a>
     ensures { (names : Name → Option plain.Scalar) →
         scalar_by names result ≡ told (setting_in setting.entry names).scope (exp_of e.now) }
 {
-    let unit = setting.unit;
     match e {
         Exp::Var(name) => Told::AsName(name.as_str()),
         Exp::Word(word) => Told::Known(Some(Scalar::Word(word.width()))),
@@ -76,13 +75,13 @@ fn tell_at_once<'a>(e: &'a Exp, setting: Setting<'_>) -> Told<'a>
         | Exp::Not(_)
         | Exp::Tagged(_, _)
         | Exp::PtrOk(_, _) => Told::Known(Some(Scalar::Truth)),
-        Exp::Padd(_, _, _) | Exp::At(_, _, _) => Told::Known(address_scalar(&unit.layout)),
+        Exp::Padd(_, _, _) | Exp::At(_, _, _) => Told::Known(address_scalar(setting.layout)),
         Exp::Load(t, _, path) | Exp::Read(t, _, path) => {
-            Told::Known(part_scalar(&unit.layout, t, path))
+            Told::Known(part_scalar(setting.layout, t, path))
         }
         Exp::Global(name, path) => Told::Known(global_scalar(
-            &unit.layout,
-            &unit.globals,
+            setting.layout,
+            setting.globals,
             name.as_str(),
             path,
         )),

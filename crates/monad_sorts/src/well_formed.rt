@@ -3,17 +3,20 @@
 ghost use Rattle.std.specs.Prelude.{◌≡◌, ◌&&◌, true, map};
 ghost use Rattle.expression_lang.specs.Sort.{are_kinds};
 ghost use Rattle.expression_lang.specs.CodeExpression.{kind_of};
+ghost use Rattle.expression_lang.specs.CodeSignature.{signature_of};
+ghost use Rattle.c_values.specs.CodeValue.{global_of};
 ghost use Rattle.program_sorts.specs.CodeSorts.{sort_for};
-ghost use Rattle.monad_lang.specs.Sorted.{IsWellFormed, is_fn_sorted, are_fns_sorted};
-ghost use Rattle.monad_lang.specs.CodeProgram.{final_fn_of, final_unit_of};
+ghost use Rattle.monad_lang.specs.Sorted.{IsWellFormed, is_fn_sorted, are_fns_sorted, is_body_sorted};
+ghost use Rattle.monad_lang.specs.CodeProgram.{mon_of, final_fn_of, final_unit_of};
 ghost use Rattle.monad_sorts.specs.CodeSorted.{is_program_sorted, is_formed};
 
 use crate::inside::Inside;
 use crate::names::are_functions_distinct;
-use crate::settings::Setting;
+use crate::settings::{Functions, Setting};
 use crate::sorted::gives;
-use expression_lang::{Kind, are_binders_distinct, are_globals_distinct};
-use monad_lang::{FinalFn, FinalUnit};
+use c_values::{GlobalVar, Layout};
+use expression_lang::{Kind, Signature, are_binders_distinct, are_globals_distinct};
+use monad_lang::{FinalFn, FinalUnit, Mon};
 use program_sorts::{Phase, are_kinds, is_kind};
 
 /// Whether a unit is well-formed. It takes no memory, and of the stack no more for longer programs.
@@ -36,7 +39,39 @@ pub fn is_program_sorted(u: &FinalUnit, phase: Phase, f: &FinalFn) -> bool
         (final_fn_of f.now) }
 {
     let parameters = Inside::Parameters(&f.params, phase);
-    gives(&f.body, &f.results, &parameters, Setting { unit: u, phase })
+    let setting = Setting {
+        layout: &u.layout,
+        globals: &u.globals,
+        functions: Functions::Programs(&u.functions),
+        phase,
+    };
+    gives(&f.body, &f.results, &parameters, setting)
+}
+
+/// The same of a program that is a function's of this signature, over these structs, globals and
+/// functions.
+pub fn is_body_sorted(
+    body: &Mon,
+    signature: &Signature,
+    phase: Phase,
+    layout: &Layout,
+    globals: &[GlobalVar],
+    functions: &[Signature],
+) -> bool
+    ensures { result ≡ is_body_sorted (sort_for phase) layout.now (map global_of globals.now)
+        (map signature_of functions.now) (signature_of signature.now) (mon_of body.now) }
+{
+    let setting = Setting {
+        layout,
+        globals,
+        functions: Functions::Signatures(functions),
+        phase,
+    };
+    let parameters = Inside::Parameters(&signature.params, phase);
+    match signature.result {
+        None => gives(body, &[], &parameters, setting),
+        Some(kind) => gives(body, &[kind], &parameters, setting),
+    }
 }
 
 // The same of all but the layout.
