@@ -37,8 +37,13 @@ is_sorted g sigs (Catch a b) = is_sorted g sigs a && is_sorted g sigs b
 is_sorted g sigs (While cs e a) = are_conditions g cs && is_truth (program_sort g e) && is_sorted g sigs a
 is_sorted g sigs (Call x f es) = fits_target g x (call_scalars word_sort_of (signature sigs f) (scalars_of g es))
 
+-- the locals, with words at their kinds
+abbrev pub scope_among : SimplUnit → List Binder → Scope
+scope_among u bs =
+    record { layout = u.layout; names = names_with (names_of bs) (map word_sort_of (kinds_of bs)) (λ x. None); globals = global_type u.globals }
+
 abbrev pub scope_of : SimplUnit → SimplFn → Scope
-scope_of u f = record { layout = u.layout; names = names_with (names_of f.locals) (map word_sort_of (kinds_of f.locals)) (λ x. None); globals = global_type u.globals }
+scope_of u f = scope_among u f.locals
 
 abbrev pub are_fns_sorted : SimplUnit → List SimplFn → Bool
 are_fns_sorted u [] = true

@@ -25,4 +25,4 @@ pub use fronts::{Front, boxed, whole};
 pub use locals::{is_bound, kind_in};
 pub use run_laws::{commands_continue, commands_end_once, commands_under_any_choice};
 pub use units::{SimplFn, SimplUnit};
-pub use well_formed::forms_ok;
+pub use well_formed::{forms_ok, is_command_sorted};

@@ -5,10 +5,11 @@ ghost use Rattle.c_values.specs.Name.{are_distinct};
 ghost use Rattle.expression_lang.specs.Sort.{are_kinds};
 ghost use Rattle.expression_lang.specs.Signature.{names_of, kinds_of};
 ghost use Rattle.expression_lang.specs.CodeSignature.{binder_of};
-ghost use Rattle.simpl_lang.specs.Sorted.{IsWellFormed, is_sorted, are_fns_sorted, scope_of};
+ghost use Rattle.simpl_lang.specs.Sorted.{IsWellFormed, is_sorted, are_fns_sorted, scope_among};
 ghost use Rattle.simpl_lang.specs.CodeCommand.{simpl_of, simpl_fn_of, simpl_unit_of};
 ghost use Rattle.simpl_lang.specs.CodeForms.{signatures_in, is_fn_sorted, is_formed};
 
+use crate::command::Simpl;
 use crate::distinct_names::are_functions_distinct;
 use crate::signed::are_signed;
 use crate::sorted::is_sorted;
@@ -54,7 +55,7 @@ fn are_functions_sorted(u: &SimplUnit) -> bool
 fn is_function_sorted(u: &SimplUnit, f: &SimplFn) -> bool
     ensures { result ≡ is_fn_sorted (simpl_unit_of u.now) (simpl_fn_of f.now) }
 {
-    are_locals_formed(&f.locals) && is_body_sorted(u, f)
+    are_locals_formed(&f.locals) && is_command_sorted(u, &f.locals, &f.body)
 }
 
 // Whether locals are distinct and of kinds that are.
@@ -65,12 +66,13 @@ fn are_locals_formed(locals: &[Binder]) -> bool
     are_kinds(locals) && are_binders_distinct(locals)
 }
 
-// Whether a function's body is well-sorted where its locals are in scope.
-fn is_body_sorted(u: &SimplUnit, f: &SimplFn) -> bool
-    ensures { result ≡ is_sorted (scope_of (simpl_unit_of u.now) (simpl_fn_of f.now))
-        (signatures_in u.now) (simpl_of f.now.body) }
+/// Whether a command is well-sorted where these locals are in scope, as the body of a function of the
+/// unit.
+pub fn is_command_sorted(u: &SimplUnit, locals: &[Binder], c: &Simpl) -> bool
+    ensures { result ≡ is_sorted
+        (scope_among (simpl_unit_of u.now) (map binder_of locals.now)) (signatures_in u.now) (simpl_of c.now) }
 {
     let outside = Names::new();
-    let inside = outside.push_all(&f.locals);
-    is_sorted(&f.body, &inside, u)
+    let inside = outside.push_all(locals);
+    is_sorted(c, &inside, u)
 }
