@@ -8,3 +8,5 @@ mod heaps;
 mod lifted;
 #[cfg(test)]
 mod notation;
+#[cfg(test)]
+mod words;

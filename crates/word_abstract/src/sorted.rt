@@ -18,11 +18,10 @@ ghost use Rattle.word_abstract.specs.CodeScalars.{names_in, scalars_in, setting_
 
 use crate::sequences::split;
 use c_values::GlobalVar;
-use expression_lang::{Exp, Kind, Scalar, Scope, Sort, scalar_of_kind};
+use expression_lang::{Exp, Kind, Scalar, Scope, Sort, are_distinct, scalar_of_kind};
 use monad_lang::{Mon, Place, Start};
 use program_sorts::{
-    Phase, are_distinct, fits_global, fits_object, is_kind, is_test, may_take, program_sort,
-    signature,
+    Phase, fits_global, fits_object, is_kind, is_test, may_take, program_sort, signature,
 };
 use rule_word::{Context, Kinds};
 use std::alloc::{AllocError, Global};

@@ -1,0 +1,5 @@
+pub mod Certificate
+pub mod Accepted
+pub mod Verdict
+pub mod CodeOutputs
+pub mod CodeCertificate
