@@ -1,5 +1,6 @@
 pub mod Certificate
 pub mod Accepted
 pub mod Verdict
+pub mod Decided
 pub mod CodeOutputs
 pub mod CodeCertificate

@@ -9,4 +9,6 @@ mod guards;
 #[cfg(test)]
 mod objects;
 #[cfg(test)]
+mod sizes;
+#[cfg(test)]
 mod sums;

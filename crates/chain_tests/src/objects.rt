@@ -16,7 +16,7 @@ fn parts_of_objects(rt: HostRuntime) -> Result<(), Fail> {
         "struct l{int v;struct l*next;};int f(struct l*p){int t=0;while(p!=0){t=p->v;p=p->next;}return t;}",
         "struct l{int v;struct l*next;};struct l*f(struct l*p){struct l*r=0;struct l*n;while(p!=0){n=p->next;p->next=r;r=p;p=n;}return r;}",
         "int g;struct s{int a;};struct s h;int f(struct s*p){g=p->a;h=*p;h.a=g+1;return h.a;}",
-        "unsigned f(unsigned*p,unsigned n){unsigned*e=p+n;unsigned t=0;while(p<e){t=t^*p;p=p+1;}return t;}",
+        "unsigned f(unsigned*p,unsigned n){unsigned*e=p+n;unsigned t=0;while(p!=e){t=t^*p;p=p+1;}return t;}",
     ] {
         for target in [Target::Ilp32, Target::Lp64] {
             for chosen in ALL {

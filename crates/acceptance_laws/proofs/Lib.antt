@@ -1,0 +1,13 @@
+pub mod AcceptedExact
+pub mod AcceptedTaken
+pub mod CallsTaken
+pub mod FlatUnit
+pub mod LastSteps
+pub mod MadeAccepted
+pub mod MadeCalls
+pub mod MadeSteps
+pub mod Signed
+pub mod UnitsMade
+pub mod UnitsTaken
+pub mod UnreadCommands
+pub mod UnreadExpressions
