@@ -3,4 +3,3 @@ pub mod Accepted
 pub mod Verdict
 pub mod Decided
 pub mod CodeOutputs
-pub mod CodeCertificate

@@ -304,3 +304,12 @@ fn nodes_that_are_no_instances(rt: HostRuntime) -> Result<(), Fail> {
     }
     Ok(())
 }
+
+// What becomes of `return 7;`, with `r` for the result and `u` for the flag of exceptions.
+#[test]
+fn a_returned_constant(rt: HostRuntime) -> Result<(), Fail> {
+    let program = "1bind 2bind 1bind 1ret seven r bind ret 2ret r true r u \
+                   if u 1ret r bind guard false 1ret r r 1ret r";
+    assert!(rt; bad_node(rt.alloc(), "same", program, program)?.is_none());
+    Ok(())
+}

@@ -34,6 +34,11 @@ fn program_rule(alloc: Global, name: &str) -> Result<Option<Rule>, Fail> {
         "write" => Rule::Write,
         "bind" => Rule::Bind(Vec::new(alloc)),
         "bind_nat" => Rule::Bind(kinds(alloc, Kind::Nat(32))?),
+        "bind_nat_bool" => {
+            let mut kinds = kinds(alloc, Kind::Nat(32))?;
+            kinds.push(Kind::Bool)?;
+            Rule::Bind(kinds)
+        }
         "bind_int" => Rule::Bind(kinds(alloc, Kind::Int(32))?),
         "bind_word" => Rule::Bind(kinds(alloc, Kind::Word(32))?),
         "loop" => Rule::Loop(Vec::new(alloc)),
@@ -389,7 +394,13 @@ fn instances_of_rules_of_expressions(rt: HostRuntime) -> Result<(), Fail> {
         ),
     ];
     for row in rows {
-        assert!(rt; bad_node(rt.alloc(), row)?.is_none(), "{}: {} to {}", row.1, row.2, row.3);
+        assert!(rt;
+            bad_node(rt.alloc(), row)?.is_none(),
+            "{}: {} to {}",
+            row.1,
+            row.2,
+            row.3
+        );
     }
     Ok(())
 }
@@ -475,7 +486,13 @@ fn instances_of_rules_of_programs(rt: HostRuntime) -> Result<(), Fail> {
         ),
     ];
     for row in rows {
-        assert!(rt; bad_node(rt.alloc(), row)?.is_none(), "{}: {} to {}", row.1, row.2, row.3);
+        assert!(rt;
+            bad_node(rt.alloc(), row)?.is_none(),
+            "{}: {} to {}",
+            row.1,
+            row.2,
+            row.3
+        );
     }
     Ok(())
 }
@@ -679,7 +696,10 @@ fn nodes_of_expressions_that_are_no_instances(rt: HostRuntime) -> Result<(), Fai
         ),
     ];
     for (kind, rules, left, right, at) in rows {
-        assert!(rt; bad_node(rt.alloc(), (kind, rules, left, right))? == Some(at), "{rules}: {left} to {right}");
+        assert!(rt;
+            bad_node(rt.alloc(), (kind, rules, left, right))? == Some(at),
+            "{rules}: {left} to {right}"
+        );
     }
     Ok(())
 }
@@ -781,7 +801,10 @@ fn nodes_of_programs_that_are_no_instances(rt: HostRuntime) -> Result<(), Fail> 
         ("nat", "1recast_nat 1ret var", "1ret a", "1ret a", 0),
     ];
     for (kind, rules, left, right, at) in rows {
-        assert!(rt; bad_node(rt.alloc(), (kind, rules, left, right))? == Some(at), "{rules}: {left} to {right}");
+        assert!(rt;
+            bad_node(rt.alloc(), (kind, rules, left, right))? == Some(at),
+            "{rules}: {left} to {right}"
+        );
     }
     Ok(())
 }
@@ -797,5 +820,18 @@ fn no_sum_of_words_stays_among_numbers(rt: HostRuntime) -> Result<(), Fail> {
     let right = program_of(alloc, "1ret nat wadd word a word b")?;
     assert!(rt; answer(&u, &s, Level::Words, &t, &left, &right)? == None);
     assert!(rt; answer(&u, &s, Level::Numbers, &t, &left, &right)? == Some(0));
+    Ok(())
+}
+
+// What becomes of `return 7;`, with `r` for the result and `u` for the flag of exceptions.
+#[test]
+fn a_returned_constant(rt: HostRuntime) -> Result<(), Fail> {
+    let rest = "r bind ret 2ret r true r u if u 1ret r bind guard false 1ret r r 1ret r";
+    let left = format!(in rt.alloc(); "1bind 2bind 1bind 1ret seven {rest}")?;
+    let right = format!(in rt.alloc(); "1bind 2bind 1bind 1ret n7 {rest}")?;
+    let rules = "2bind_nat 2bind_nat_bool 2bind_nat 1ret const 2bind ret 2ret var const \
+                 3if var 1ret var 2bind 1guard const 1ret var 1ret var";
+    let row = ("nat", rules, left.as_str(), right.as_str());
+    assert!(rt; bad_node(rt.alloc(), row)?.is_none());
     Ok(())
 }
