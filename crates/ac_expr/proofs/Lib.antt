@@ -14,3 +14,6 @@ pub mod ExactSteps
 pub mod Apart
 pub mod HeadShapes
 pub mod Itself
+pub mod ConstantsSound
+pub mod ConstantsComplete
+pub mod ApartThere

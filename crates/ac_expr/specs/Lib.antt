@@ -12,3 +12,6 @@ pub mod SameExp
 pub mod Step
 pub mod Substituted
 pub mod CodeHeads
+pub mod CodeConstants
+pub mod CodeApart
+pub mod CodeConstant

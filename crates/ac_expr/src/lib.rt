@@ -4,6 +4,7 @@
 
 mod chain;
 mod claims;
+mod constants;
 mod fact_laws;
 mod facts;
 mod heads_alike;
