@@ -1,73 +1,133 @@
 -- Where two lists of expressions differ in one place alone, the step is there; and an expression is one step apart from itself
 -- exactly where a constant is in it.
-use Rattle.std.proofs.Common.{◌≡◌, ◌≢◌, ◌↔◌, ◌<◌, ◌≤◌, ◌+◌, ℕ, zero, suc, Bool, true, false, not, ◌||◌, List, [], ◌∷◌, ◌++◌, Option, Some, None, ◌⊎◌, inl, inr, refl, sym, ap, ap₂, ◌∙◌, subst, ℤ, arith}
-use Rattle.std.proofs.lemmas.Bool.{or_from, true≢false, not_from_false}
+use Rattle.std.proofs.Common.{◌≡◌, ◌≢◌, ◌↔◌, ◌<◌, ◌+◌, ℕ, zero, suc, Bool, true, false, not, ◌||◌, List, [], ◌∷◌, ◌++◌, Some, ◌⊎◌, inl, inr, refl, sym, ap, ap₂, ◌∙◌, subst, ℤ, arith}
+use Rattle.std.proofs.lemmas.Bool.{true≢false}
 use Rattle.c_values.specs.Word.{Word}
 use Rattle.c_values.specs.Value.{Value, Bits, Number, Truth, Parts}
 use Rattle.expression_lang.specs.Expression.{Exp, Var, WordLit, NumberLit, TruthLit, WordBinary, WordShift, WordUnary, WordCompare, Cast, ToNat, ToInt, ToWord, Arith, Negate, Lt, Le, Between, Eq, And, Or, Imp, Not, If, Padd, At, Load, Read, Tagged, PtrOk, Global, Sel, Upd, Path, Here, IntoField, IntoElement}
 use Rattle.expression_lang.specs.Form.{has, path_has}
 use Rattle.expression_lang.specs.Sort.{Scope}
 use Rattle.c_values.specs.Number.{Add}
-use Rattle.ac_expr.specs.Fact.{Fact, Whole, NotTrue}
+use Rattle.ac_expr.specs.Fact.{Fact}
 use Rattle.ac_expr.specs.Heads.{head, children, path_children}
 use Rattle.ac_expr.specs.Step.{is_open, is_wide, constant, constant_value, Shortens, IsItsValue, IsStep, at_each, child_facts, OneStepApart, shorter, longer, inside, OneOfThem, this, later}
+use Rattle.ac_expr.proofs.Apart.{Inside, apart_is, is_apart, one_is, is_one}
+use Rattle.ac_expr.proofs.HeadsAgree.{filled, whole}
 use Rattle.ac_expr.proofs.ConstantsSound.{some_is}
 use Rattle.ac_expr.specs.CodeApart.{is_literal, IsAmong, size, path_size}
 
 -- one of a list
 
+heads_same : (a b : Exp) (as' bs : List Exp) → b ∷ bs ≡ a ∷ as' → b ≡ a
+heads_same a b as' bs h = cc
+
+seconds_same : (a b c d : Exp) → b ∷ d ∷ [] ≡ a ∷ c ∷ [] → d ≡ c
+seconds_same a b c d h = let i : d ∷ [] ≡ c ∷ [] = cc in heads_same c d [] [] i
+
 module _ (g : Scope) where
-  abbrev pub OneFirst : List (List Fact) → List Exp → List Exp → Type 0
-  OneFirst (fs ∷ fss) (a ∷ as') (b ∷ bs) = (OneStepApart g fs a b × (bs ≡ as')) ⊎ ((b ≡ a) × OneOfThem g fss as' bs)
-  OneFirst fss as' bs = ⊥
-
-  pub one_first : (fss : List (List Fact)) (as' bs : List Exp) → OneOfThem g fss as' bs → OneFirst fss as' bs
-  one_first _ _ _ (this k) = inl (k, refl)
-  one_first _ _ _ (later k) = inr (refl, k)
-
   -- the first alone differs
   pub first_alone : (fs : List Fact) (fss : List (List Fact)) (a b : Exp) (as' bs : List Exp) → b ≢ a → bs ≡ as' →
       OneOfThem g (fs ∷ fss) (a ∷ as') (b ∷ bs) ↔ OneStepApart g fs a b
-  first_alone fs fss a b as' bs differ e = (forth, back)
+  first_alone fs fss a b as' bs differ e = (forth, λ k. is_one g fs fss a b as' bs (inl (k, e)))
     where
       forth : OneOfThem g (fs ∷ fss) (a ∷ as') (b ∷ bs) → OneStepApart g fs a b
-      forth k = elim (one_first (fs ∷ fss) (a ∷ as') (b ∷ bs) k) [ | inl x ↦ x.0 | inr x ↦ absurd (differ x.0) ]
-
-      back : OneStepApart g fs a b → OneOfThem g (fs ∷ fss) (a ∷ as') (b ∷ bs)
-      back k = subst (λ es. OneOfThem g (fs ∷ fss) (a ∷ as') (b ∷ es)) (sym e) (this k)
+      forth k = elim (one_is g fs fss a b as' bs k) [ inl x ↦ x.0 | inr x ↦ absurd (differ x.0) ]
 
   -- the first is the same
   pub first_same : (fs : List Fact) (fss : List (List Fact)) (a b : Exp) (as' bs : List Exp) → b ≡ a → bs ≢ as' →
       OneOfThem g (fs ∷ fss) (a ∷ as') (b ∷ bs) ↔ OneOfThem g fss as' bs
-  first_same fs fss a b as' bs e differ = (forth, back)
+  first_same fs fss a b as' bs e differ = (forth, λ k. is_one g fs fss a b as' bs (inr (e, k)))
     where
       forth : OneOfThem g (fs ∷ fss) (a ∷ as') (b ∷ bs) → OneOfThem g fss as' bs
-      forth k = elim (one_first (fs ∷ fss) (a ∷ as') (b ∷ bs) k) [ | inl x ↦ absurd (differ x.1) | inr x ↦ x.1 ]
-
-      back : OneOfThem g fss as' bs → OneOfThem g (fs ∷ fss) (a ∷ as') (b ∷ bs)
-      back k = subst (λ c. OneOfThem g (fs ∷ fss) (a ∷ as') (c ∷ bs)) (sym e) (later k)
+      forth k = elim (one_is g fs fss a b as' bs k) [ inl x ↦ absurd (differ x.1) | inr x ↦ x.1 ]
 
   -- two differ
   pub two_differ : (fs : List Fact) (fss : List (List Fact)) (a b : Exp) (as' bs : List Exp) → b ≢ a → bs ≢ as' →
       OneOfThem g (fs ∷ fss) (a ∷ as') (b ∷ bs) → ⊥
-  two_differ fs fss a b as' bs differ more k = elim (one_first (fs ∷ fss) (a ∷ as') (b ∷ bs) k) [ | inl x ↦ more x.1 | inr x ↦ differ x.0 ]
+  two_differ fs fss a b as' bs differ more k = elim (one_is g fs fss a b as' bs k) [ inl x ↦ more x.1 | inr x ↦ differ x.0 ]
 
-  -- what is inside, by the steps here
-  abbrev pub Inside : List Fact → Exp → Exp → Type 0
-  Inside fs a b = (head b ≡ head a) × OneOfThem g (child_facts fs a) (children a) (children b)
+  -- one of two
+  pub second_of_two : (f0 f1 : List Fact) (a b c d : Exp) → c ≡ a → d ≢ b →
+      OneOfThem g (f0 ∷ f1 ∷ []) (a ∷ b ∷ []) (c ∷ d ∷ []) ↔ OneStepApart g f1 b d
+  second_of_two f0 f1 a b c d e differ =
+      let i = first_same f0 (f1 ∷ []) a c (b ∷ []) (d ∷ []) e (λ k. differ (heads_same b d [] [] k)) in
+      let j = first_alone f1 [] b d [] [] differ refl in
+      (λ k. j.0 (i.0 k), λ k. i.1 (j.1 k))
 
-  abbrev pub Apart : List Fact → Exp → Exp → Type 0
-  Apart fs a b = IsStep g fs a b ⊎ IsStep g fs b a ⊎ Inside fs a b
+  pub first_of_two : (f0 f1 : List Fact) (a b c d : Exp) → c ≢ a → d ≡ b →
+      OneOfThem g (f0 ∷ f1 ∷ []) (a ∷ b ∷ []) (c ∷ d ∷ []) ↔ OneStepApart g f0 a c
+  first_of_two f0 f1 a b c d differ e = first_alone f0 (f1 ∷ []) a c (b ∷ []) (d ∷ []) differ (ap (λ x. x ∷ []) e)
 
-  pub apart_forth : (fs : List Fact) (a b : Exp) → OneStepApart g fs a b → Apart fs a b
-  apart_forth _ _ _ (shorter k) = inl k
-  apart_forth _ _ _ (longer k) = inr (inl k)
-  apart_forth _ _ _ (inside e k) = inr (inr (e, k))
+  pub none_of_two : (f0 f1 : List Fact) (a b c d : Exp) → c ≢ a → d ≢ b →
+      OneOfThem g (f0 ∷ f1 ∷ []) (a ∷ b ∷ []) (c ∷ d ∷ []) → ⊥
+  none_of_two f0 f1 a b c d differ more = two_differ f0 (f1 ∷ []) a c (b ∷ []) (d ∷ []) differ (λ k. more (heads_same b d [] [] k))
 
-  pub apart_back : (fs : List Fact) (a b : Exp) → Apart fs a b → OneStepApart g fs a b
-  apart_back fs a b (inl k) = shorter k
-  apart_back fs a b (inr (inl k)) = longer k
-  apart_back fs a b (inr (inr k)) = inside k.0 k.1
+  -- one of three
+  pub of_three_same : (f0 f1 f2 : List Fact) (c a b d e f : Exp) → d ≡ c → e ∷ f ∷ [] ≢ a ∷ b ∷ [] →
+      OneOfThem g (f0 ∷ f1 ∷ f2 ∷ []) (c ∷ a ∷ b ∷ []) (d ∷ e ∷ f ∷ []) ↔ OneOfThem g (f1 ∷ f2 ∷ []) (a ∷ b ∷ []) (e ∷ f ∷ [])
+  of_three_same f0 f1 f2 c a b d e f h differ = first_same f0 (f1 ∷ f2 ∷ []) c d (a ∷ b ∷ []) (e ∷ f ∷ []) h differ
+
+  pub first_of_three : (f0 f1 f2 : List Fact) (c a b d e f : Exp) → d ≢ c → e ≡ a → f ≡ b →
+      OneOfThem g (f0 ∷ f1 ∷ f2 ∷ []) (c ∷ a ∷ b ∷ []) (d ∷ e ∷ f ∷ []) ↔ OneStepApart g f0 c d
+  first_of_three f0 f1 f2 c a b d e f differ h k =
+      first_alone f0 (f1 ∷ f2 ∷ []) c d (a ∷ b ∷ []) (e ∷ f ∷ []) differ (ap₂ (λ x y. x ∷ y ∷ []) h k)
+
+  pub second_of_three : (f0 f1 f2 : List Fact) (c a b d e f : Exp) → d ≡ c → e ≢ a → f ≡ b →
+      OneOfThem g (f0 ∷ f1 ∷ f2 ∷ []) (c ∷ a ∷ b ∷ []) (d ∷ e ∷ f ∷ []) ↔ OneStepApart g f1 a e
+  second_of_three f0 f1 f2 c a b d e f h differ k =
+      let i = of_three_same f0 f1 f2 c a b d e f h (λ m. differ (heads_same a e (b ∷ []) (f ∷ []) m)) in
+      let j = first_of_two f1 f2 a b e f differ k in
+      (λ m. j.0 (i.0 m), λ m. i.1 (j.1 m))
+
+  pub third_of_three : (f0 f1 f2 : List Fact) (c a b d e f : Exp) → d ≡ c → e ≡ a → f ≢ b →
+      OneOfThem g (f0 ∷ f1 ∷ f2 ∷ []) (c ∷ a ∷ b ∷ []) (d ∷ e ∷ f ∷ []) ↔ OneStepApart g f2 b f
+  third_of_three f0 f1 f2 c a b d e f h k differ =
+      let i = of_three_same f0 f1 f2 c a b d e f h (λ m. differ (seconds_same a e b f m)) in
+      let j = second_of_two f1 f2 a b e f k differ in
+      (λ m. j.0 (i.0 m), λ m. i.1 (j.1 m))
+
+  pub none_of_three : (f0 f1 f2 : List Fact) (c a b d e f : Exp) → d ≡ c → e ≢ a → f ≢ b →
+      OneOfThem g (f0 ∷ f1 ∷ f2 ∷ []) (c ∷ a ∷ b ∷ []) (d ∷ e ∷ f ∷ []) → ⊥
+  none_of_three f0 f1 f2 c a b d e f h differ more k =
+      none_of_two f1 f2 a b e f differ more ((of_three_same f0 f1 f2 c a b d e f h (λ m. differ (heads_same a e (b ∷ []) (f ∷ []) m))).0 k)
+
+  pub more_than_first : (f0 f1 f2 : List Fact) (c a b d e f : Exp) → d ≢ c → ((e ≡ a) × (f ≡ b) → ⊥) →
+      OneOfThem g (f0 ∷ f1 ∷ f2 ∷ []) (c ∷ a ∷ b ∷ []) (d ∷ e ∷ f ∷ []) → ⊥
+  more_than_first f0 f1 f2 c a b d e f differ more k =
+      two_differ f0 (f1 ∷ f2 ∷ []) c d (a ∷ b ∷ []) (e ∷ f ∷ []) differ (λ m. more (heads_same a e (b ∷ []) (f ∷ []) m, seconds_same a e b f m)) k
+
+  -- along two lists under the same facts
+  abbrev pub Under : List Fact → List Exp → List Exp → Type 0
+  Under fs es fs' = OneOfThem g (at_each fs es) es fs'
+
+  module _ (fs : List Fact) (ls rs ones others : List Exp) (a b : Exp) (as' bs : List Exp)
+      (so_far : Under fs ls rs ↔ Under fs ones others) (at_left : ones ≡ a ∷ as') (at_right : others ≡ b ∷ bs) where
+    here : Under fs ones others ≡ Under fs (a ∷ as') (b ∷ bs)
+    here = ap₂ (λ x y. Under fs x y) at_left at_right
+
+    forth : Under fs ls rs → Under fs (a ∷ as') (b ∷ bs)
+    forth k = subst (λ T. T) here (so_far.0 k)
+
+    back : Under fs (a ∷ as') (b ∷ bs) → Under fs ls rs
+    back k = so_far.1 (subst (λ T. T) (sym here) k)
+
+    pub found : b ≢ a → bs ≡ as' → Under fs ls rs ↔ OneStepApart g fs a b
+    found differ e = let i = first_alone fs (at_each fs as') a b as' bs differ e in (λ k. i.0 (forth k), λ k. back (i.1 k))
+
+    pub lost : b ≢ a → bs ≢ as' → Under fs ls rs → ⊥
+    lost differ more k = two_differ fs (at_each fs as') a b as' bs differ more (forth k)
+
+    pub goes_on : b ≡ a → bs ≢ as' → Under fs ls rs ↔ Under fs as' bs
+    goes_on e differ = let i = first_same fs (at_each fs as') a b as' bs e differ in (λ k. i.0 (forth k), λ k. back (i.1 k))
+
+pub rest_differs : (a b : Exp) (as' bs ones others : List Exp) → ones ≡ a ∷ as' → others ≡ b ∷ bs → b ≡ a → others ≢ ones → bs ≢ as'
+rest_differs a b as' bs ones others h k e differ i = differ (k ∙ ap₂ (λ x xs. x ∷ xs) e i ∙ sym h)
+
+pub first_among : (a : Exp) (as' ones ls : List Exp) → ones ≡ a ∷ as' → ((x : Exp) → IsAmong x ones → IsAmong x ls) → IsAmong a ls
+first_among a as' ones ls h k = k a (subst (λ es. IsAmong a es) (sym h) (inl refl))
+
+pub rest_among : (a : Exp) (as' ones ls : List Exp) → ones ≡ a ∷ as' → ((x : Exp) → IsAmong x ones → IsAmong x ls) → (x : Exp) → IsAmong x as' → IsAmong x ls
+rest_among a as' ones ls h k x i = k x (subst (λ es. IsAmong x es) (sym h) (inr i))
 
 -- parts of a head
 
@@ -228,6 +288,53 @@ as_many fs (Or a b) = tt
 as_many fs (Imp a b) = tt
 as_many fs (If c a b) = tt
 as_many fs e = each_many fs (children e)
+
+pub same_by_children : (a b : Exp) → head b ≡ head a → children b ≡ children a → b ≡ a
+same_by_children a b h k = sym (whole b) ∙ ap₂ (λ x es. filled x es) h k ∙ whole a
+
+pub never : {P : Type 0} (b : Bool) → (b ≡ true) ↔ P → b ≡ false → P → ⊥
+never b says e k = true≢false (sym (says.1 k) ∙ e)
+
+-- where no step leads from one to the other here
+module _ (g : Scope) (fs : List Fact) (a b : Exp) (no_shorter : IsStep g fs a b → ⊥) (no_longer : IsStep g fs b a → ⊥) where
+  within : OneStepApart g fs a b → Inside g fs a b
+  within k = elim (apart_is g fs a b k) [ inl x ↦ absurd (no_shorter x) | inr x ↦ elim x [ inl y ↦ absurd (no_longer y) | inr y ↦ y ] ]
+
+  pub other_heads : (head b ≡ head a → ⊥) → OneStepApart g fs a b → ⊥
+  other_heads differ k = differ (within k).0
+
+  pub nowhere : (OneOfThem g (child_facts fs a) (children a) (children b) → ⊥) → OneStepApart g fs a b → ⊥
+  nowhere none k = none (within k).1
+
+  pub by_child : (gs : List Fact) (x y : Exp) → head b ≡ head a → OneOfThem g (child_facts fs a) (children a) (children b) ↔ OneStepApart g gs x y →
+      OneStepApart g gs x y ↔ OneStepApart g fs a b
+  by_child gs x y e h = (λ k. is_apart g fs a b (inr (inr (e, h.1 k))), λ k. h.0 (within k).1)
+
+-- a head that no other expression has
+pub and_there : (e a b : Exp) → head e ≡ head (And a b) → ((c d : Exp) → e ≡ And c d → ⊥) → ⊥
+and_there (And c d) a b h k = k c d refl
+and_there e a b h k = cc
+
+pub or_there : (e a b : Exp) → head e ≡ head (Or a b) → ((c d : Exp) → e ≡ Or c d → ⊥) → ⊥
+or_there (Or c d) a b h k = k c d refl
+or_there e a b h k = cc
+
+pub imp_there : (e a b : Exp) → head e ≡ head (Imp a b) → ((c d : Exp) → e ≡ Imp c d → ⊥) → ⊥
+imp_there (Imp c d) a b h k = k c d refl
+imp_there e a b h k = cc
+
+pub if_there : (e c a b : Exp) → head e ≡ head (If c a b) → ((d x y : Exp) → e ≡ If d x y → ⊥) → ⊥
+if_there (If d x y) c a b h k = k d x y refl
+if_there e c a b h k = cc
+
+-- facts at the children of other heads
+pub plain_facts : (fs : List Fact) (e : Exp) → ((a b : Exp) → e ≡ And a b → ⊥) → ((a b : Exp) → e ≡ Or a b → ⊥) → ((a b : Exp) → e ≡ Imp a b → ⊥) →
+    ((c a b : Exp) → e ≡ If c a b → ⊥) → child_facts fs e ≡ at_each fs (children e)
+plain_facts fs (And a b) h i j k = absurd (h a b refl)
+plain_facts fs (Or a b) h i j k = absurd (i a b refl)
+plain_facts fs (Imp a b) h i j k = absurd (j a b refl)
+plain_facts fs (If c a b) h i j k = absurd (k c a b refl)
+plain_facts fs e h i j k = refl
 
 -- an expression and itself
 

@@ -1,10 +1,10 @@
 -- Of a well-sorted expression of constants alone a value is computed, of its sort.
-use Rattle.std.proofs.Common.{◌≡◌, ◌<◌, ℕ, ◌^◌, ◌==◌, nat_le, nat_lt, Bool, true, false, not, cond, ◌&&◌, ◌||◌, Option, Some, None, ℤ, pos, negsuc, ◌-◌, refl, sym, ap, ap₂, ◌∙◌, subst, arith}
-use Rattle.std.specs.Prelude.{neg_ℤ, ◌+ℤ◌, ◌-ℤ◌, ◌*ℤ◌, int_lt, int_le, unsigned_abs, bit_and, bit_or, bit_xor}
+use Rattle.std.proofs.Common.{◌≡◌, ◌<◌, ℕ, ◌^◌, ◌==◌, nat_lt, Bool, true, false, not, cond, ◌&&◌, ◌||◌, Option, Some, None, ℤ, pos, negsuc, ◌-◌, refl, sym, ap, ap₂, ◌∙◌, subst}
+use Rattle.std.specs.Prelude.{neg_ℤ, ◌+ℤ◌, ◌-ℤ◌, ◌*ℤ◌, int_lt, int_le, bit_and, bit_or, bit_xor}
 use Rattle.std.specs.Int.{int_div_euclid}
 use Rattle.std.proofs.lemmas.Bool.{and_parts, and_from, or_parts, ltb-true, true≢false}
 use Rattle.std.proofs.lemmas.Bool.Decides.{Decides-eqb, Decides-ltb}
-use Rattle.c_values.specs.Types.{CType, address_width}
+use Rattle.c_values.specs.Types.{address_width}
 use Rattle.c_values.specs.Word.{Word, IsWord, WordOp, Wadd, Wsub, Wmul, Wand, Wor, Wxor, Wudiv, Wumod, Wsdiv, Wsmod, ShiftOp, Wshl, Wushr, Wsshr, UnaryOp, Wneg, Wnot, unsigned, signed, word, word_op, word_shift, word_unary, word_test, is_shift, power_of_two}
 use Rattle.c_values.specs.Number.{number_op, is_between, quotient, remainder}
 use Rattle.c_values.specs.Value.{Value, Bits, Number, Truth, Parts, word_in, number_in, same_value}
@@ -16,7 +16,7 @@ use Rattle.c_memory.specs.Tags.{is_pointer_ok}
 use Rattle.expression_lang.specs.Expression.{Exp, CastOp, Zext, Sext, Trunc, Var, WordLit, NumberLit, TruthLit, WordBinary, WordShift, WordUnary, WordCompare, Cast, ToNat, ToInt, ToWord, Arith, Negate, Lt, Le, Between, Eq, And, Or, Imp, Not, If, Padd, At, Load, Read, Tagged, PtrOk, Global, Sel, Upd, Path, Here, IntoField, IntoElement}
 use Rattle.expression_lang.specs.Evaluation.{cast_op, if_truth}
 use Rattle.expression_lang.specs.Form.{has, path_has}
-use Rattle.expression_lang.specs.Sort.{Scope, Sort, Of, PartsSort, WordSort, NumberSort, TruthSort, sort_of, shape_along, shape_in, is_width, is_unary, word_width, word_sort, is_word_of, is_number, is_truth, are_same, number_sort, truth_sort, where_holds, of_words, of_word, of_shape, cast_fits}
+use Rattle.expression_lang.specs.Sort.{Scope, Sort, Of, PartsSort, WordSort, NumberSort, TruthSort, sort_of, shape_along, shape_in, is_width, is_unary, word_width, word_sort, is_word_of, is_number, is_truth, are_same, number_sort, truth_sort, where_holds, of_word, of_shape, cast_fits}
 use Rattle.expression_lang.specs.States.{IsOfSort}
 use Rattle.expression_lang.proofs.Good.{is_word, address_below}
 use Rattle.expression_lang.proofs.Inversion.{where_inv, words_inv, word_inv, width_inv, number_inv, truth_inv, word_of_inv, same_inv, shape_inv}
@@ -256,7 +256,7 @@ module _ (g : Scope) where
         let x = as_number a (complete a (Of NumberSort) (number_inv (sort_of g a) (and_parts (not (is_unary op)) (is_number (sort_of g a)) j.0).1) k.0) in
         let y = as_number b (complete b (Of NumberSort) (number_inv (sort_of g b) j.1) k.1) in
         let n = number_there (Arith op a b) (number_op op x.0 y.0) h
-            (ap₂ (λ u v. Number (number_op op (number_in u) (number_in v))) (right l a (Number x.0) x.1).value (right l b (Number y.0) y.1).value) in
+        (ap₂ (λ u v. Number (number_op op (number_in u) (number_in v))) (right l a (Number x.0) x.1).value (right l b (Number y.0) y.1).value) in
         number_is (Arith op a b) o (number_op op x.0 y.0) i.1 (ap₂ (λ u v. of_two u v (by_numbers (λ m z. narrow (number_op op m z)))) x.1 y.1 ∙ n)
     complete (Negate a) o q h =
         let k = one_alone (Negate a) a refl h in

@@ -1,10 +1,10 @@
 -- What is computed of an expression is its value, and the expression is of constants alone.
-use Rattle.std.proofs.Common.{◌≡◌, ◌<◌, ℕ, ◌^◌, ◌==◌, nat_le, nat_lt, Bool, true, false, not, cond, ◌&&◌, ◌||◌, Option, Some, None, ℤ, pos, List, ◌∷◌, [], refl, sym, ap, ap₂, ◌∙◌, subst, arith, mod-eq_of_lt}
+use Rattle.std.proofs.Common.{◌≡◌, ◌<◌, ℕ, ◌^◌, ◌==◌, nat_le, nat_lt, Bool, true, false, not, cond, ◌&&◌, ◌||◌, Option, Some, None, ℤ, pos, ◌∷◌, refl, sym, ap, ap₂, ◌∙◌, subst, arith, mod-eq_of_lt}
 use Rattle.std.specs.Prelude.{neg_ℤ, ◌+ℤ◌, ◌*ℤ◌, int_lt, int_le, unsigned_abs}
 use Rattle.std.proofs.Math.IntN.{*ℤ_comm}
 use Rattle.std.proofs.lemmas.Bool.{and_parts, or_from, ltb-true, true≢false}
 use Rattle.std.proofs.lemmas.Nat.{pow_pos}
-use Rattle.c_values.specs.Types.{CType, address_width}
+use Rattle.c_values.specs.Types.{address_width}
 use Rattle.c_values.specs.Word.{Word, unsigned, signed, word, word_op, word_shift, word_unary, word_test}
 use Rattle.c_values.specs.Number.{number_op, is_between}
 use Rattle.c_values.specs.Value.{Value, Bits, Number, Truth, Parts, word_in, number_in, truth_in, same_value}
@@ -21,7 +21,7 @@ use Rattle.expression_lang.specs.Signature.{no_env}
 use Rattle.expression_lang.specs.Sort.{is_width}
 use Rattle.expression_lang.proofs.Good.{address_below}
 use Rattle.expression_lang.proofs.HasShape.{has_itself}
-use Rattle.ac_expr.specs.Step.{is_open, is_wide, no_state, constant_value, AreConstants}
+use Rattle.ac_expr.specs.Step.{is_open, is_wide, no_state, constant_value}
 use Rattle.ac_expr.specs.CodeConstants.{of_one, of_two, by_word, by_number, by_truth, by_words, by_numbers, by_truths, narrow, test_words, join_words, of_width, by_address, pointer, moved_by, object_ok, at_address, at_place, number_of, at_index, computed, computed_at}
 
 pub some_is : {A : Type 0} {a b : A} → ◌≡◌ {A = Option A} (Some a) (Some b) → a ≡ b
@@ -202,10 +202,11 @@ module _ (l : Layout) where
       (end : Spot) × (spot s (step ∷ steps l no_env no_state path) ≡ Some end)
       × (Bits (record { width = address_width l.target; bits = address_at (space l) a end.offset }) ≡ v)
   step_ends path s step a v q e i =
-      let end : Spot = record { offset = q.offset +ℤ i.end.offset; shape = i.end.shape } in
-      (end,
-      ap (λ o. and_then_spot o (λ r. further r.offset (spot r.shape (steps l no_env no_state path)))) e ∙ ap (λ o. further q.offset o) i.leads,
-      ap (λ n. Bits (record { width = address_width l.target; bits = n })) (address_further (space l) a q.offset i.end.offset some_space) ∙ i.value)
+      let end : Spot = record { offset = q.offset +ℤ i.end.offset; shape = i.end.shape } in (
+        end,
+        ap (λ o. and_then_spot o (λ r. further r.offset (spot r.shape (steps l no_env no_state path)))) e ∙ ap (λ o. further q.offset o) i.leads,
+        ap (λ n. Bits (record { width = address_width l.target; bits = n })) (address_further (space l) a q.offset i.end.offset some_space) ∙ i.value,
+      )
 
   mutual
     pub right : (e : Exp) (v : Value) → computed l e ≡ Some v → IsRight e v
@@ -350,7 +351,7 @@ module _ (l : Layout) where
         let j = address_inv l (λ a. by_number (moved_by l t a) i.1) i.0 v i.4 in
         let m = number_inv (moved_by l t j.0.bits) i.1 v j.3 in
         let k : Bits (record { width = address_width l.target; bits = address_at (space l) j.0.bits (m.0 *ℤ pos (size_of l t)) }) ≡ v =
-            some_is (if_inv (is_object l t) (pointer l (address_at (space l) j.0.bits (m.0 *ℤ pos (size_of l t)))) v m.2).1 in
+        some_is (if_inv (is_object l t) (pointer l (address_at (space l) j.0.bits (m.0 *ℤ pos (size_of l t)))) v m.2).1 in
         let x = right p i.0 i.2 in
         let y = right n i.1 i.3 in
         two_right (Padd t p n) p n i.0 i.1 v refl x y

@@ -17,3 +17,5 @@ pub mod Itself
 pub mod ConstantsSound
 pub mod ConstantsComplete
 pub mod ApartThere
+pub mod StepSorts
+pub mod ItsValue

@@ -1,6 +1,6 @@
 -- The value of an expression of constants alone, as the code computes it: words, whole numbers and truth values, as far as 128 bits
 -- go. There is none where some part isn't such a value, or isn't of the sort that is asked for.
-use Rattle.std.specs.Prelude.{ℕ, ◌==◌, ◌^◌, nat_le, nat_lt, Bool, true, false, not, ◌&&◌, ◌||◌, Option, Some, None, ℤ, pos, neg_ℤ, ◌*ℤ◌, int_lt, int_le, unsigned_abs, if◌then◌else◌}
+use Rattle.std.specs.Prelude.{ℕ, ◌==◌, ◌^◌, nat_le, nat_lt, Bool, not, ◌&&◌, ◌||◌, Option, Some, None, ℤ, pos, neg_ℤ, ◌*ℤ◌, int_lt, int_le, unsigned_abs, if◌then◌else◌}
 use Rattle.c_values.specs.Types.{CType, address_width}
 use Rattle.c_values.specs.Word.{Word, WordOp, WordTest, unsigned, signed, word, word_op, word_shift, word_unary, word_test}
 use Rattle.c_values.specs.Number.{number_op, is_between}
@@ -10,7 +10,7 @@ use Rattle.c_values.specs.Path.{Field, Index, step_spot}
 use Rattle.c_memory.specs.Memory.{address_at}
 use Rattle.c_memory.specs.CodePlace.{Place, place_from}
 use Rattle.c_memory.specs.Tags.{is_pointer_ok}
-use Rattle.expression_lang.specs.Expression.{Exp, CastOp, Var, WordLit, NumberLit, TruthLit, WordBinary, WordShift, WordUnary, WordCompare, Cast, ToNat, ToInt, ToWord, Arith, Negate, Lt, Le, Between, Eq, And, Or, Imp, Not, If, Padd, At, PtrOk, Path, Here, IntoField, IntoElement}
+use Rattle.expression_lang.specs.Expression.{Exp, WordLit, NumberLit, TruthLit, WordBinary, WordShift, WordUnary, WordCompare, Cast, ToNat, ToInt, ToWord, Arith, Negate, Lt, Le, Between, Eq, And, Or, Imp, Not, If, Padd, At, PtrOk, Path, Here, IntoField, IntoElement}
 use Rattle.expression_lang.specs.Evaluation.{cast_op, if_truth}
 use Rattle.expression_lang.specs.Sort.{is_width}
 

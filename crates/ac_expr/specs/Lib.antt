@@ -15,3 +15,4 @@ pub mod CodeHeads
 pub mod CodeConstants
 pub mod CodeApart
 pub mod CodeConstant
+pub mod CodeTurn

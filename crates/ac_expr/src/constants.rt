@@ -23,8 +23,8 @@ use c_memory::{Place, Step, element_address, place_at};
 use c_values::views::word;
 use c_values::{
     CType, Layout, Number, NumberOp, ShiftOp, Target, UnaryOp, Word, WordOp, WordTest,
-    address_width, align_of, cast, int, is_object, nat, number_op, same_number, same_truth, size_of,
-    word_op, word_shift, word_test, word_unary,
+    address_width, align_of, cast, int, is_object, nat, number_op, same_number, same_truth,
+    size_of, word_op, word_shift, word_test, word_unary,
 };
 use expression_lang::{CastOp, Exp, Path};
 
@@ -84,7 +84,8 @@ fn test_words(op: WordTest, a: Constant, b: Constant) -> Option<Constant>
 
 fn shift(op: ShiftOp, a: Constant, b: Constant) -> Option<Constant>
     ensures { option_map constant_in result
-        ≡ by_word (λ w. by_number (λ n. Some (Bits (word_shift (shift_op_of op) w n))) (constant_in b)) (constant_in a) }
+        ≡ by_word (λ w. by_number (λ n. Some (Bits (word_shift (shift_op_of op) w n)))
+        (constant_in b)) (constant_in a) }
 {
     match a {
         Constant::Word(w) => match b {
@@ -169,7 +170,8 @@ fn as_word(width: u8, a: Constant) -> Option<Constant>
 
 fn calculated(op: NumberOp, a: Constant, b: Constant) -> Option<Constant>
     ensures { option_map constant_in result
-        ≡ by_numbers (λ m n. narrow (number_op (number_op_of op) m n)) (constant_in a) (constant_in b) }
+        ≡ by_numbers (λ m n. narrow (number_op (number_op_of op) m n)) (constant_in a)
+        (constant_in b) }
 {
     match a {
         Constant::Number(m) => match b {
@@ -249,9 +251,7 @@ fn between(low: Number, a: Constant, high: Number) -> Option<Constant>
         ≡ by_number (λ n. Some (Truth (is_between low n high))) (constant_in a) }
 {
     match a {
-        Constant::Number(n) => {
-            Some(Constant::Truth(is_at_most(low, n) && is_at_most(n, high)))
-        }
+        Constant::Number(n) => { Some(Constant::Truth(is_at_most(low, n) && is_at_most(n, high))) }
         _ => None,
     }
 }
@@ -372,7 +372,8 @@ fn pointer(l: &Layout, address: u64) -> Option<Constant>
 
 fn moved(l: &Layout, t: &CType, a: Constant, b: Constant) -> Option<Constant>
     ensures { option_map constant_in result
-        ≡ by_address l.now (λ a. by_number (moved_by l.now (type_of t.now) a) (constant_in b)) (constant_in a) }
+        ≡ by_address l.now (λ a. by_number (moved_by l.now (type_of t.now) a) (constant_in b))
+        (constant_in a) }
 {
     let address = address(l, a)?;
     match b {

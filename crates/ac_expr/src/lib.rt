@@ -5,14 +5,17 @@
 mod chain;
 mod claims;
 mod constants;
+mod differences;
 mod fact_laws;
 mod facts;
 mod heads_alike;
 mod knowing;
 mod lasting;
 mod step_laws;
+mod steps;
 
 pub use chain::{Facts, Sequence, Split};
+pub use differences::one_step;
 pub use expression_lang::{
     Binder, CastOp, Env, EvalFault, Exp, Kind, Level, Names, Path, Scalar, Signature, Sort, eval,
     scalar_of_kind, sort_of,
