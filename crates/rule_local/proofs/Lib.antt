@@ -27,3 +27,7 @@ pub mod Lost
 pub mod NoStrays
 pub mod Rows
 pub mod Walked
+pub mod MarksLaws
+pub mod Marked
+pub mod UsesLaws
+pub mod LastParts

@@ -1,5 +1,5 @@
 -- Nothing that a command assigns is lost exactly where what is needed of it is handed on.
-use Rattle.std.proofs.Common.{◌≡◌, ◌↔◌, Bool, true, false, not, ◌||◌, List, Option, Some, None, refl, sym, subst, ap, ◌∙◌}
+use Rattle.std.proofs.Common.{◌≡◌, ◌↔◌, Bool, true, false, not, ◌||◌, List, Option, Some, None, refl, sym, subst, ap, ap₂, ◌∙◌}
 use Rattle.std.proofs.lemmas.Bool.{false≢true, not-true, false_from_ne_true, and_parts, and_from, or_left, or_right}
 use Rattle.c_values.specs.Name.{Name, same_name, is_among}
 use Rattle.c_values.proofs.Laid.{name_is, same_name-refl}
@@ -90,3 +90,22 @@ none_lost us needed a b e = (
   (λ h. carried us needed a (sym e ∙ not-true b h)),
   (λ h. ap not (e ∙ none_is_lost us needed a h)),
 )
+
+target_is : (y : Name) (x : Option Name) → target_passes (same_name y) x ≡ is_target y x
+target_is y None = refl
+target_is y (Some x) = refl
+
+-- the test whether a name is this one passes where the command assigns it
+pub assigns_is : (y : Name) (a : Simpl) → assigns_some (same_name y) a ≡ assigns y a
+assigns_is y Skip = refl
+assigns_is y Throw = refl
+assigns_is y (Set x e) = refl
+assigns_is y (SetGlobal x path e) = refl
+assigns_is y (Store t p path e) = refl
+assigns_is y (Pick x) = refl
+assigns_is y (Seq a b) = ap₂ (λ p q. p || q) (assigns_is y a) (assigns_is y b)
+assigns_is y (Cond e a b) = ap₂ (λ p q. p || q) (assigns_is y a) (assigns_is y b)
+assigns_is y (Guard c a) = assigns_is y a
+assigns_is y (Catch a b) = ap₂ (λ p q. p || q) (assigns_is y a) (assigns_is y b)
+assigns_is y (While cs e a) = assigns_is y a
+assigns_is y (Call x f es) = target_is y x

@@ -12,3 +12,6 @@ pub mod CodeRow
 pub mod CodeVerdict
 pub mod CodeAssigned
 pub mod CodeFree
+pub mod CodeMarks
+pub mod CodeUses
+pub mod CodePlaces

@@ -1,18 +1,20 @@
 //! Whether what a command assigns is handed on.
 
-ghost use Rattle.std.specs.Prelude.{◌≡◌, ◌↔◌, IsTrue, map, string_bytes};
+ghost use Rattle.std.specs.Prelude.{◌≡◌, ◌↔◌, IsTrue, true, map, string_bytes};
 ghost use Rattle.std.specs.Option.{option_map};
 ghost use Rattle.expression_lang.specs.CodeExpression.{exp_of};
+ghost use Rattle.expression_lang.specs.CodeSignature.{binder_of};
+ghost use Rattle.expression_lang.specs.Signature.{names_of};
 ghost use Rattle.simpl_lang.specs.CodeCommand.{simpl_of};
 ghost use Rattle.monad_lang.specs.CodeProgram.{mon_of};
 ghost use Rattle.monad_lang.specs.Names.{is_free};
-ghost use Rattle.rule_local.specs.Assigned.{Carries};
+ghost use Rattle.rule_local.specs.Assigned.{assigns, Carries};
 ghost use Rattle.rule_local.specs.Table.{is_needed};
 ghost use Rattle.rule_local.specs.CodeAssigned.{target_passes, assigns_some};
 
-use expression_lang::Exp;
+use expression_lang::{Binder, Exp};
 use monad_lang::{Mon, NameTest, is_among, is_free, is_in};
-use simpl_lang::Simpl;
+use simpl_lang::{Simpl, is_bound};
 
 /// A name that isn't handed on, and that is free in the program.
 #[derive(Clone, Copy)]
@@ -69,6 +71,41 @@ fn is_needed(name: &str, guard: &Exp, turn: &Exp, body: &Mon, outputs: &[String]
         (map string_bytes outputs.now) name.now }
 {
     is_in(name, guard) || is_in(name, turn) || is_free(name, body) || is_among(name, outputs)
+}
+
+/// A name that is this one.
+#[derive(Clone, Copy)]
+struct IsThis<'a> {
+    name: &'a str,
+}
+
+impl NameTest for IsThis<'_> {
+    ghost use Rattle.c_values.specs.Name.{same_name};
+
+    ghost holds = { λ test x. same_name test.name.now x };
+
+    fn holds(&self, name: &str) -> bool {
+        self.name == name
+    }
+}
+
+/// A name that is none of the binders'.
+#[derive(Clone, Copy)]
+struct IsUnknown<'a> {
+    binders: &'a [Binder],
+}
+
+impl NameTest for IsUnknown<'_> {
+    ghost use Rattle.std.specs.Prelude.{map, true};
+    ghost use Rattle.expression_lang.specs.CodeSignature.{binder_of};
+    ghost use Rattle.expression_lang.specs.Signature.{names_of};
+    ghost use Rattle.rule_local.specs.CodeAssigned.{is_lost};
+
+    ghost holds = { λ test x. is_lost (names_of (map binder_of test.binders.now)) (λ y. true) x };
+
+    fn holds(&self, name: &str) -> bool {
+        !is_bound(name, self.binders)
+    }
 }
 
 // Whether some local that a command assigns passes a test. It goes along the last parts by a loop,
@@ -136,4 +173,19 @@ pub(crate) fn carries_needed(
             outputs,
         },
     )
+}
+
+/// Whether a command assigns the name.
+pub(crate) fn assigns(name: &str, c: &Simpl) -> bool
+    ensures { result ≡ assigns name.now (simpl_of c.now) }
+{
+    assigns_some(c, &IsThis { name })
+}
+
+/// Whether each local that a command assigns is a binder's.
+pub(crate) fn assigns_only(binders: &[Binder], c: &Simpl) -> bool
+    ensures { IsTrue result
+        ↔ Carries (names_of (map binder_of binders.now)) (simpl_of c.now) (λ y. true) }
+{
+    !assigns_some(c, &IsUnknown { binders })
 }

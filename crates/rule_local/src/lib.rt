@@ -7,10 +7,13 @@ mod expressions;
 mod instances;
 mod kernel;
 mod laws;
+mod marks;
 mod name_lists;
 mod part_claims;
+mod passing;
 mod rule;
 mod strays;
+mod uses;
 
 pub use kernel::check;
 pub use laws::{
