@@ -30,4 +30,5 @@ pub mod Walked
 pub mod MarksLaws
 pub mod Marked
 pub mod UsesLaws
+pub mod FormsTaken
 pub mod LastParts

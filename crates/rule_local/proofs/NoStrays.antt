@@ -12,7 +12,7 @@ use Rattle.monad_lang.specs.Run.{start_names}
 use Rattle.monad_lang.specs.Form.{some_has, start_has, place_has, program_has, no_place}
 use Rattle.monad_lang.specs.Names.{is_in_some, is_in_start, is_in_place, is_free}
 use Rattle.rule_local.specs.Table.{AllFreeAmong}
-use Rattle.rule_local.specs.CodeFree.{is_stray}
+use Rattle.rule_local.specs.CodeFree.{is_stray, is_unknown}
 use Rattle.rule_local.proofs.Lost.{either_there}
 
 -- a part that passes, which is there for every test that it passes
@@ -134,7 +134,7 @@ module _ (test : Exp → Bool) (y : Name) (passes : test (Var y) ≡ true) where
   named_in_place (M.Written u p path) h = either_there (has test p) (path_has test path) (names y p) (path_has (is_name y) path) (named p) (named_in_path path) h
   named_in_place (M.Global x path) h = named_in_path path h
 
-  free_there : (m : Mon) → is_free y m ≡ true → program_has test no_place m ≡ true
+  pub free_there : (m : Mon) → is_free y m ≡ true → program_has test no_place m ≡ true
   free_there (M.Ret es) h = named_in_some es h
   free_there (M.Bind m xs n) h =
       either_there (program_has test no_place m) (program_has test no_place n) (is_free y m) (not (is_among y xs) && is_free y n) (free_there m)
@@ -175,3 +175,10 @@ no_strays ps m b e = (
   (λ h. all_parameters ps m (sym e ∙ not-true b h)),
   (λ h. ap not (e ∙ false_from_ne_true (program_has (is_stray m ps) no_place m) (λ k. let p = part_of_program (is_stray m ps) m k in none_is_stray ps m h p.part p.passes))),
 )
+
+pub all_known : (xs : List Name) (m : Mon) (b : Bool) → b ≡ program_has (is_unknown xs) no_place m → not b ≡ true → AllFreeAmong xs m
+all_known xs m b e h y f = by_place (is_among y xs) refl
+  where
+    by_place : (t : Bool) → is_among y xs ≡ t → is_among y xs ≡ true
+    by_place true i = i
+    by_place false i = absurd (false≢true (sym (not-true b h) ∙ e ∙ free_there (is_unknown xs) y (ap not i) m f))

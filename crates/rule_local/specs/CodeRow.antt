@@ -7,10 +7,12 @@ use Rattle.simpl_lang.specs.Command as C
 use Rattle.simpl_lang.specs.Command.{kind_of}
 use Rattle.monad_lang.specs.Program as M
 use Rattle.monad_lang.specs.Names.{is_free}
+use Rattle.rule_trees.specs.RuleTree.{Table, asks}
 use Rattle.rule_local.specs.declared.rule.Parts as P
+use Rattle.rule_local.specs.declared.rule.Asks as A
 use Rattle.rule_local.specs.Assigned.{Carries}
 use Rattle.rule_local.specs.Rule.{Rule, Skip, Set, Dead, Global, Memory, Pick, Seq, Cond, Guard, While, Call, Void, Start, Context, Claim}
-use Rattle.rule_local.specs.Table.{vars, vars_with, as_starts, conj, picked_kind, zero_exp, zeros, is_needed, AreNone}
+use Rattle.rule_local.specs.Table.{vars, vars_with, as_starts, conj, picked_kind, zero_exp, zeros, is_needed, AreNone, table}
 
 abbrev pub arity : Rule → ℕ
 arity Skip = 0
@@ -137,7 +139,7 @@ IsPick ctx vs (C.Pick x) m = IsStep (IsPickOf (picked_kind (kind_of ctx.locals x
 IsPick ctx vs _ m = ⊥
 
 abbrev pub IsSeq : C.Simpl → M.Mon → Type 0
-IsSeq (C.Seq a b) (M.Bind m us n) = Carries us a (λ y. is_free y n)
+IsSeq (C.Seq a b) (M.Bind m us n) = Unit {0}
 IsSeq _ _ = ⊥
 
 abbrev pub IsCond : C.Simpl → M.Mon → Type 0
@@ -148,12 +150,12 @@ abbrev pub IsGuard : C.Simpl → M.Mon → Type 0
 IsGuard (C.Guard g a) (M.Bind m xs n) = (m ≡ M.Guard g.exp) × (xs ≡ [])
 IsGuard _ _ = ⊥
 
-abbrev pub IsLoop : List Name → List C.Condition → Exp → C.Simpl → List Name → M.Mon → Type 0
-IsLoop us gs e a vs (M.Loop starts guard e' m) = (starts ≡ as_starts us) × (guard ≡ conj gs) × (e' ≡ e) × Carries us a (is_needed guard e' m vs)
-IsLoop us gs e a vs _ = ⊥
+abbrev pub IsLoop : List Name → List C.Condition → Exp → M.Mon → Type 0
+IsLoop us gs e (M.Loop starts guard e' m) = (starts ≡ as_starts us) × (guard ≡ conj gs) × (e' ≡ e)
+IsLoop us gs e _ = ⊥
 
 abbrev pub IsWhile : List Name → C.Simpl → M.Mon → Type 0
-IsWhile vs (C.While gs e a) (M.Bind m us n) = IsLoop us gs e a vs m × (n ≡ M.Ret (vars vs))
+IsWhile vs (C.While gs e a) (M.Bind m us n) = IsLoop us gs e m × (n ≡ M.Ret (vars vs))
 IsWhile vs _ _ = ⊥
 
 abbrev pub IsCall : List Name → C.Simpl → M.Mon → Type 0
@@ -172,18 +174,41 @@ abbrev pub IsStart : Context → Bool → M.Mon → Type 0
 IsStart ctx at_root (M.Bind m xs n) = (at_root ≡ true) × GivesZeros ctx xs m × AreNone xs ctx.parameters
 IsStart ctx at_root _ = ⊥
 
+-- what a rule asks of the two sides, but for the names that the first part hands on
+abbrev pub Fits : Context → Bool → List Name → Rule → C.Simpl → M.Mon → Type 0
+Fits ctx at_root vs Skip a m = IsSkip vs a m
+Fits ctx at_root vs Set a m = IsSet vs a m
+Fits ctx at_root vs Dead a m = IsDead vs a m
+Fits ctx at_root vs Global a m = IsGlobal vs a m
+Fits ctx at_root vs Memory a m = IsMemory vs a m
+Fits ctx at_root vs Pick a m = IsPick ctx vs a m
+Fits ctx at_root vs Seq a m = IsSeq a m
+Fits ctx at_root vs Cond a m = IsCond a m
+Fits ctx at_root vs Guard a m = IsGuard a m
+Fits ctx at_root vs While a m = IsWhile vs a m
+Fits ctx at_root vs Call a m = IsCall vs a m
+Fits ctx at_root vs Void a m = IsVoid vs a m
+Fits ctx at_root vs Start a m = IsStart ctx at_root m
+
+-- among the names that the first part hands on is all that it assigns and that is looked at afterwards
+abbrev pub CarriesInTurns : List Name → C.Simpl → List Name → M.Mon → Type 0
+CarriesInTurns us a vs (M.Loop starts guard e' m) = Carries us a (is_needed guard e' m vs)
+CarriesInTurns us a vs m = Unit {0}
+
+abbrev pub HandsOn : List Name → Rule → C.Simpl → M.Mon → Type 0
+HandsOn vs Seq (C.Seq a b) (M.Bind m us n) = Carries us a (λ y. is_free y n)
+HandsOn vs While (C.While gs e a) (M.Bind m us n) = CarriesInTurns us a vs m
+HandsOn vs rule a m = Unit {0}
+
 -- what a rule asks
 abbrev pub Asked : Context → Bool → List Name → Rule → C.Simpl → M.Mon → Type 0
-Asked ctx at_root vs Skip a m = IsSkip vs a m
-Asked ctx at_root vs Set a m = IsSet vs a m
-Asked ctx at_root vs Dead a m = IsDead vs a m
-Asked ctx at_root vs Global a m = IsGlobal vs a m
-Asked ctx at_root vs Memory a m = IsMemory vs a m
-Asked ctx at_root vs Pick a m = IsPick ctx vs a m
-Asked ctx at_root vs Seq a m = IsSeq a m
-Asked ctx at_root vs Cond a m = IsCond a m
-Asked ctx at_root vs Guard a m = IsGuard a m
-Asked ctx at_root vs While a m = IsWhile vs a m
-Asked ctx at_root vs Call a m = IsCall vs a m
-Asked ctx at_root vs Void a m = IsVoid vs a m
-Asked ctx at_root vs Start a m = IsStart ctx at_root m
+Asked ctx at_root vs rule a m = Fits ctx at_root vs rule a m × HandsOn vs rule a m
+
+-- the table without the names that are handed on, and without those that are free
+abbrev pub forms : Context → Table Rule Claim
+forms ctx rule c = asks (Fits ctx c.is_whole c.outputs rule c.left c.right) (claims (arity rule) rule c)
+
+-- the table that is asked
+abbrev pub table_of : A.Asks → Context → Table Rule Claim
+table_of A.TheVariants.All ctx = table ctx
+table_of A.TheVariants.Forms ctx = forms ctx

@@ -9,6 +9,7 @@ ghost use Rattle.simpl_lang.specs.CodeCommand.{condition_of, simpl_of};
 ghost use Rattle.monad_lang.specs.Program as M;
 ghost use Rattle.monad_lang.specs.CodeProgram.{mon_of};
 ghost use Rattle.rule_local.specs.Table.{vars, vars_with, picked_kind, AreNone};
+ghost use Rattle.rule_local.specs.Rule.{Seq, While};
 ghost use Rattle.rule_local.specs.CodeRow as row;
 ghost use Rattle.rule_local.specs.CodeRule.{rule_of, context_of};
 
@@ -34,6 +35,21 @@ pub(crate) fn is_asked(
     ensures { IsTrue result ↔ row.Asked (context_of context.entry) is_whole
         (map string_bytes outputs.now) (rule_of rule) (simpl_of left.now) (mon_of right.now) }
 {
+    fits(rule, left, right, outputs, is_whole, context) && hands_on(rule, left, right, outputs)
+}
+
+/// The same, but for the names that a part hands on.
+pub(crate) fn fits(
+    rule: Rule,
+    left: &Simpl,
+    right: &Mon,
+    outputs: &[String],
+    is_whole: bool,
+    context: Context<'_>,
+) -> bool
+    ensures { IsTrue result ↔ row.Fits (context_of context.entry) is_whole
+        (map string_bytes outputs.now) (rule_of rule) (simpl_of left.now) (mon_of right.now) }
+{
     match rule {
         Rule::Skip => is_skip(left, right, outputs),
         Rule::Set => is_set(left, right, outputs),
@@ -48,6 +64,57 @@ pub(crate) fn is_asked(
         Rule::Call => is_call(left, right, outputs),
         Rule::Void => is_void_call(left, right, outputs),
         Rule::Start => is_start(right, is_whole, context),
+    }
+}
+
+// Whether a part hands on all that it assigns and that is looked at behind it.
+fn hands_on(rule: Rule, left: &Simpl, right: &Mon, outputs: &[String]) -> bool
+    ensures { IsTrue result ↔ row.HandsOn (map string_bytes outputs.now) (rule_of rule)
+        (simpl_of left.now) (mon_of right.now) }
+{
+    match rule {
+        Rule::Seq => hands_on_in_sequence(left, right, outputs),
+        Rule::While => hands_on_in_loop(left, right, outputs),
+        _ => true,
+    }
+}
+
+fn hands_on_in_sequence(left: &Simpl, right: &Mon, outputs: &[String]) -> bool
+    ensures { IsTrue result ↔ row.HandsOn (map string_bytes outputs.now) Seq
+        (simpl_of left.now) (mon_of right.now) }
+{
+    match left {
+        Simpl::Seq(first, _) => match right {
+            Mon::Bind(_, names, last) => carries_free(names, first, last),
+            _ => true,
+        },
+        _ => true,
+    }
+}
+
+fn hands_on_in_loop(left: &Simpl, right: &Mon, outputs: &[String]) -> bool
+    ensures { IsTrue result ↔ row.HandsOn (map string_bytes outputs.now) While
+        (simpl_of left.now) (mon_of right.now) }
+{
+    match left {
+        Simpl::While(_, _, body) => match right {
+            Mon::Bind(first, names, _) => carries_in_turns(names, body, outputs, first),
+            _ => true,
+        },
+        _ => true,
+    }
+}
+
+// Whether a loop's body hands on all that it assigns and that is looked at again or behind it.
+fn carries_in_turns(names: &[String], command: &Simpl, outputs: &[String], m: &Mon) -> bool
+    ensures { IsTrue result ↔ row.CarriesInTurns (map string_bytes names.now)
+        (simpl_of command.now) (map string_bytes outputs.now) (mon_of m.now) }
+{
+    match m {
+        Mon::Loop(_, guard, turn, body) => {
+            carries_needed(names, command, guard, turn, body, outputs)
+        }
+        _ => true,
     }
 }
 
@@ -135,10 +202,7 @@ fn is_sequence(left: &Simpl, right: &Mon) -> bool
     ensures { IsTrue result ↔ row.IsSeq (simpl_of left.now) (mon_of right.now) }
 {
     match left {
-        Simpl::Seq(first, _) => match right {
-            Mon::Bind(_, names, last) => carries_free(names, first, last),
-            _ => false,
-        },
+        Simpl::Seq(_, _) => matches!(right, Mon::Bind(_, _, _)),
         _ => false,
     }
 }
@@ -172,9 +236,9 @@ fn is_loop(left: &Simpl, right: &Mon, outputs: &[String]) -> bool
         ↔ row.IsWhile (map string_bytes outputs.now) (simpl_of left.now) (mon_of right.now) }
 {
     match left {
-        Simpl::While(conditions, test, body) => match right {
+        Simpl::While(conditions, test, _) => match right {
             Mon::Bind(first, names, last) => {
-                is_loop_of(first, names, conditions, test, body, outputs) && gives(last, outputs)
+                is_loop_of(first, names, conditions, test) && gives(last, outputs)
             }
             _ => false,
         },
@@ -349,26 +413,15 @@ fn is_word(width: u8, kind: Kind) -> bool
     }
 }
 
-// Whether a program is the loop of the conditions and the test over the names, which are among all
-// that its body assigns and that is looked at again or afterwards.
-fn is_loop_of(
-    m: &Mon,
-    names: &[String],
-    conditions: &[Condition],
-    test: &Exp,
-    command: &Simpl,
-    outputs: &[String],
-) -> bool
+// Whether a program is the loop of the conditions and the test over the names.
+fn is_loop_of(m: &Mon, names: &[String], conditions: &[Condition], test: &Exp) -> bool
     ensures { let gs = map condition_of conditions.now in
-        IsTrue result ↔ row.IsLoop (map string_bytes names.now) gs (exp_of test.now)
-        (simpl_of command.now) (map string_bytes outputs.now) (mon_of m.now) }
+        IsTrue result
+        ↔ row.IsLoop (map string_bytes names.now) gs (exp_of test.now) (mon_of m.now) }
 {
     match m {
-        Mon::Loop(starts, guard, turn, body) => {
-            are_starts_of(starts, names)
-                && is_conjunction(guard, conditions)
-                && turn.same(test)
-                && carries_needed(names, command, guard, turn, body, outputs)
+        Mon::Loop(starts, guard, turn, _) => {
+            are_starts_of(starts, names) && is_conjunction(guard, conditions) && turn.same(test)
         }
         _ => false,
     }

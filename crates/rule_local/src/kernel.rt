@@ -4,24 +4,27 @@ ghost use Rattle.std.specs.Prelude.{◌↔◌, IsTrue, map, string_bytes};
 ghost use Rattle.simpl_lang.specs.CodeCommand.{simpl_of};
 ghost use Rattle.monad_lang.specs.CodeProgram.{mon_of};
 ghost use Rattle.monad_lang.specs.Reach.{IfTrue};
-ghost use Rattle.rule_trees.specs.RuleTree.{Checked, IsVerdict};
+ghost use Rattle.rule_trees.specs.RuleTree.{Accepts, Checked, IsVerdict};
 ghost use Rattle.rule_local.specs.Rule.{whole};
 ghost use Rattle.rule_local.specs.Table.{table, AllFreeAmong};
-ghost use Rattle.rule_local.specs.CodeRow.{claim};
+ghost use Rattle.rule_local.specs.CodeRow.{claim, forms, table_of};
 ghost use Rattle.rule_local.specs.CodeRule.{rule_of, tree_of, context_of};
 ghost use Rattle.rule_local.specs.CodeVerdict.{verdict_of};
 
-use crate::instances::is_asked;
+use crate::instances::{fits, is_asked};
 use crate::part_claims::{first_left, first_outputs, first_right, last_left, last_of};
-use crate::rule::{Context, Parts, Rule};
+use crate::rule::{Asks, Context, Parts, Rule};
 use crate::strays::are_free_parameters;
+use crate::taken::are_names_kept;
 use monad_lang::Mon;
 use rule_trees::{At, Tree, both, next, only};
 use simpl_lang::Simpl;
 
 /// Whether the rules of a tree take the body of a function to a program that gives the outputs: yes
 /// exactly where each node is an instance of its rule, else the first node that isn't. Both sides
-/// are looked at, and no memory is taken.
+/// are looked at, and no memory is taken. Where all names are locals, a yes comes in one walk over
+/// the tree and one over both sides for each 64 locals; the first bad node is found by walks over
+/// what is left at each node.
 #[tactic(auto, using(rule_trees::proofs::Checking::checked_accepts))]
 pub fn check(
     tree: &Tree<Rule>,
@@ -34,10 +37,44 @@ pub fn check(
         (whole (simpl_of left.now) (mon_of right.now) (map string_bytes outputs.now))
         (verdict_of result) }
 {
-    match checked(tree, left, right, outputs, true, context, 0) {
+    if is_taken(tree, left, right, outputs, context) {
+        return Ok(());
+    }
+    match checked(tree, left, right, outputs, true, Asks::All, context, 0) {
         Ok(_) => Ok(()),
         Err(at) => Err(At(at)),
     }
+}
+
+// Whether the rules of a tree take the body of a function to a program, by a walk for the forms of
+// the nodes and one for each 64 locals. It may say no where a name is no local.
+fn is_taken(
+    tree: &Tree<Rule>,
+    left: &Simpl,
+    right: &Mon,
+    outputs: &[String],
+    context: Context<'_>,
+) -> bool
+    ensures { IsTrue result → Accepts (table (context_of context.entry)) (tree_of tree.now)
+        (whole (simpl_of left.now) (mon_of right.now) (map string_bytes outputs.now)) }
+{
+    are_names_kept(tree.rule, left, right, outputs, context)
+        && have_forms(tree, left, right, outputs, context)
+}
+
+// Whether each node of a tree has the form that its rule asks.
+#[tactic(auto, using(rule_trees::proofs::Checking::checked_accepts))]
+fn have_forms(
+    tree: &Tree<Rule>,
+    left: &Simpl,
+    right: &Mon,
+    outputs: &[String],
+    context: Context<'_>,
+) -> bool
+    ensures { IsTrue result → Accepts (forms (context_of context.entry)) (tree_of tree.now)
+        (whole (simpl_of left.now) (mon_of right.now) (map string_bytes outputs.now)) }
+{
+    checked(tree, left, right, outputs, true, Asks::Forms, context, 0).is_ok()
 }
 
 // The number behind the last node of a tree whose first has the number `at`, or the number of the
@@ -48,10 +85,11 @@ fn checked(
     right: &Mon,
     outputs: &[String],
     is_whole: bool,
+    asks: Asks,
     context: Context<'_>,
     at: u32,
 ) -> Result<u32, u32>
-    ensures { Checked (table (context_of context.entry)) (tree_of tree.now)
+    ensures { Checked (table_of asks (context_of context.entry)) (tree_of tree.now)
         (claim (simpl_of left.now) (mon_of right.now) (map string_bytes outputs.now) is_whole)
         at result }
 {
@@ -63,7 +101,7 @@ fn checked(
     let mut at = at;
     'along: loop {
         let rule = tree.rule;
-        if !is_instance(rule, left, right, outputs, is_whole, context) {
+        if !meets(rule, left, right, outputs, is_whole, asks, context) {
             return Err(at);
         }
         match rule.parts() {
@@ -95,6 +133,7 @@ fn checked(
                     first_right(rule, right),
                     first_outputs(rule, right, outputs),
                     false,
+                    asks,
                     context,
                     next(at),
                 )?;
@@ -104,6 +143,26 @@ fn checked(
                 tree = last;
             }
         }
+    }
+}
+
+// Whether two sides meet what is asked of a rule's.
+fn meets(
+    rule: Rule,
+    left: &Simpl,
+    right: &Mon,
+    outputs: &[String],
+    is_whole: bool,
+    asks: Asks,
+    context: Context<'_>,
+) -> bool
+    ensures { let c = claim (simpl_of left.now) (mon_of right.now) (map string_bytes outputs.now)
+        is_whole in
+        IsTrue result ↔ (table_of asks (context_of context.entry) (rule_of rule) c).holds }
+{
+    match asks {
+        Asks::All => is_instance(rule, left, right, outputs, is_whole, context),
+        Asks::Forms => fits(rule, left, right, outputs, is_whole, context),
     }
 }
 

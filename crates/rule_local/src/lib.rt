@@ -13,6 +13,7 @@ mod part_claims;
 mod passing;
 mod rule;
 mod strays;
+mod taken;
 mod uses;
 
 pub use kernel::check;

@@ -39,6 +39,15 @@ pub(crate) enum Parts {
     Two,
 }
 
+/// What is asked of the nodes of a tree.
+#[derive(Clone, Copy)]
+pub(crate) enum Asks {
+    /// All that the table asks.
+    All,
+    /// The same, but for the names that a part hands on, and for those that are free.
+    Forms,
+}
+
 impl Rule {
     pub(crate) fn parts(self) -> Parts
         ensures { parts_of result ≡ arity (rule_of self) }

@@ -52,3 +52,32 @@ pub(crate) fn are_free_parameters(m: &Mon, parameters: &[Binder]) -> bool
         &NoPlace,
     )
 }
+
+/// A name that is none of the binders'.
+#[derive(Clone, Copy)]
+struct IsUnknown<'a> {
+    binders: &'a [Binder],
+}
+
+impl Test for IsUnknown<'_> {
+    ghost use Rattle.std.specs.Prelude.{map};
+    ghost use Rattle.expression_lang.specs.CodeSignature.{binder_of};
+    ghost use Rattle.expression_lang.specs.Signature.{names_of};
+    ghost use Rattle.rule_local.specs.CodeFree.{is_unknown};
+
+    ghost holds = { λ test e. is_unknown (names_of (map binder_of test.binders.now)) e };
+
+    fn holds(&self, e: &Exp) -> bool {
+        match e {
+            Exp::Var(name) => !is_bound(name.as_str(), self.binders),
+            _ => false,
+        }
+    }
+}
+
+/// Whether each name in a program is a binder's, free or not.
+pub(crate) fn names_only(binders: &[Binder], m: &Mon) -> bool
+    ensures { IsTrue result → AllFreeAmong (names_of (map binder_of binders.now)) (mon_of m.now) }
+{
+    !m.any(&IsUnknown { binders }, &NoPlace)
+}

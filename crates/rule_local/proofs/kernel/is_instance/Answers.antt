@@ -8,7 +8,8 @@ use Rattle.rule_local.proofs.kernel.is_instance.Goals as goal
 
 pub returns-then-is_asked : goal.returns-then-is_asked
 returns-then-is_asked c =
-    let is_row = row_of (context_of c.args.context) c.args.is_whole (map string_bytes c.args.outputs.now) (rule_of c.args.rule) (simpl_of c.args.left.now) (mon_of c.args.right.now) (c.is_asked.ensures.0 c.if-is_asked.true) in
+    let asked = c.is_asked.ensures.0 c.if-is_asked.true in
+    let is_row = row_of (context_of c.args.context) c.args.is_whole (map string_bytes c.args.outputs.now) (rule_of c.args.rule) (simpl_of c.args.left.now) (mon_of c.args.right.now) asked.0 asked.1 in
     ((λ h. (is_row, c.are_names_bound.ensures.0 h)), (λ h. c.are_names_bound.ensures.1 h.1))
 
 pub returns-else-is_asked : goal.returns-else-is_asked
