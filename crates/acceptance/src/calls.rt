@@ -12,7 +12,7 @@ use program_sorts::signature;
 use simpl_lang::{Simpl, SimplUnit};
 
 /// Whether a function at a level is on typed heaps only where each function is that it calls.
-pub(crate) fn calls_lifted(u: &SimplUnit, level: Level, body: &Simpl) -> bool
+pub fn calls_lifted(u: &SimplUnit, level: Level, body: &Simpl) -> bool
     ensures { result ≡ calls_lifted (simpl_unit_of u.now) (level_of level) (simpl_of body.now) }
 {
     level == Level::Bytes || calls_only_lifted(body, &u.signatures)
