@@ -1,0 +1,23 @@
+-- What the code's trees stand for.
+use Rattle.std.specs.Prelude.{List, [], ◌∷◌, string_bytes}
+use Rattle.ac_sx.specs.declared.sx.Sx as S
+use Rattle.ac_sx.specs.declared.sx.Sx.{Row_of-Sx, end_of-Sx, more_of-Sx}
+use Rattle.ac_sx.specs.Tree.{Tree, Trees, Atom, Node, no_trees, more}
+
+abbrev mutual
+  pub tree_of : S.Sx → Tree
+  tree_of (S.Atom word) = Atom (string_bytes word)
+  tree_of (S.List' shape ts) = Node (trees_of ts)
+
+  pub trees_of : {m : _} → Row_of-Sx m → Trees
+  trees_of end_of-Sx = no_trees
+  trees_of (more_of-Sx t ts) = more (tree_of t) (trees_of ts)
+
+abbrev pub trees_in : List S.Sx → Trees
+trees_in [] = no_trees
+trees_in (t ∷ ts) = more (tree_of t) (trees_in ts)
+
+-- one tree more at the end
+abbrev pub pushed : Trees → Tree → Trees
+pushed no_trees t = more t no_trees
+pushed (more u us) t = more u (pushed us t)
