@@ -6,3 +6,4 @@ pub mod Deepest
 pub mod Told
 pub mod Causes
 pub mod Built
+pub mod Listed

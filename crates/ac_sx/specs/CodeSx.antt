@@ -1,5 +1,5 @@
 -- What the code's trees stand for.
-use Rattle.std.specs.Prelude.{List, [], ◌∷◌, string_bytes}
+use Rattle.std.specs.Prelude.{ℕ, List, [], ◌∷◌, Option, Some, None, string_bytes}
 use Rattle.ac_sx.specs.declared.sx.Sx as S
 use Rattle.ac_sx.specs.declared.sx.Sx.{Row_of-Sx, end_of-Sx, more_of-Sx}
 use Rattle.ac_sx.specs.Tree.{Tree, Trees, Atom, Node, no_trees, more}
@@ -21,3 +21,11 @@ trees_in (t ∷ ts) = more (tree_of t) (trees_in ts)
 abbrev pub pushed : Trees → Tree → Trees
 pushed no_trees t = more t no_trees
 pushed (more u us) t = more u (pushed us t)
+
+abbrev pub word_in : Tree → Option (List ℕ)
+word_in (Atom word) = Some word
+word_in (Node ts) = None
+
+abbrev pub parts_in : Tree → Option Trees
+parts_in (Atom word) = None
+parts_in (Node ts) = Some ts

@@ -1,5 +1,5 @@
 -- Trees of atoms and lists (S-expressions), and their one spelling: an atom as it is, a list in parentheses with one space between its parts.
-use Rattle.std.specs.Prelude.{ℕ, suc, max, ◌==◌, nat_le, Bool, false, not, ◌&&◌, List, [], ◌∷◌, ◌++◌, IsTrue}
+use Rattle.std.specs.Prelude.{ℕ, suc, ◌+◌, max, ◌==◌, nat_le, Bool, false, not, ◌&&◌, List, [], ◌∷◌, ◌++◌, IsTrue}
 use Rattle.std.specs.List.{list_all}
 
 mutual
@@ -69,3 +69,12 @@ abbrev mutual
 -- how deep the tree of a file nests at most
 abbrev pub deepest : ℕ
 deepest = 4096
+
+abbrev mutual
+  pub nodes : Tree → ℕ
+  nodes (Atom word) = 1
+  nodes (Node ts) = suc (all_nodes ts)
+
+  pub all_nodes : Trees → ℕ
+  all_nodes no_trees = 0
+  all_nodes (more t ts) = nodes t + all_nodes ts
