@@ -7,3 +7,5 @@ pub mod Told
 pub mod Causes
 pub mod Built
 pub mod Listed
+pub mod Building
+pub mod Answered

@@ -4,8 +4,10 @@
 
 mod builder;
 mod fault;
+mod reader;
 mod recogniser;
 mod sx;
 
 pub use fault::SxFault;
+pub use reader::read;
 pub use sx::Sx;
