@@ -1,6 +1,6 @@
 -- What the recogniser's answer, and what is built, say of the reader's answer.
-use Rattle.std.proofs.Common.{◌≡◌, ℕ, ◌≤◌, List, Option, Some, None, Result, Ok, Err, ◌⊎◌, inl, inr, refl, ap, sym, subst, ◌∙◌}
-use Rattle.std.specs.Prelude.{IfErr, MatchResult}
+use Rattle.std.proofs.Common.{◌≡◌, ℕ, ◌≤◌, List, Some, None, Result, Ok, Err, ◌⊎◌, inl, inr, ap, sym, subst, ◌∙◌}
+use Rattle.std.specs.Prelude.{IfErr}
 use Rattle.std.specs.Result.{IsErrAnd}
 use Rattle.ac_sx.specs.declared.fault.SxFault.{SxFault}
 use Rattle.ac_sx.specs.declared.fault.SxFault.TheVariants.{NotText, Deep, Memory}
@@ -59,3 +59,6 @@ deep_refused r text fault at h e cause = refused r fault (Deep at) h (subst (λ 
 -- a file that isn't too deep isn't refused
 pub not_refused : (text : List ℕ) (t : Tree) (fault : SxFault) → recognised text ≡ Err fault → IsTree t → depth t ≤ deepest → text ≡ file t → ⊥
 not_refused text t fault e is low same = let passes = ap recognised same ∙ file_is_recognised t is low in absurd cc
+
+pub file_is_shallow : (t : Tree) → IsTree t → depth t ≤ deepest → IsShallow (file t)
+file_is_shallow t is low = (is_file (file t) tt (file_is_recognised t is low)).1

@@ -1,11 +1,11 @@
 -- What is built of a file is its tree.
-use Rattle.std.proofs.Common.{◌≡◌, ℕ, ◌==◌, Bool, true, false, List, [], ◌∷◌, ◌++◌, Some, refl, ap, sym, ◌∙◌, append_assoc, if◌then◌else◌}
+use Rattle.std.proofs.Common.{◌≡◌, ℕ, true, false, List, [], ◌∷◌, ◌++◌, Some, refl, ap, sym, ◌∙◌, append_assoc, if◌then◌else◌}
 use Rattle.std.specs.List.{list_all}
 use Rattle.std.proofs.lemmas.Bool.{and_parts, false≢true}
 use Rattle.std.proofs.lemmas.List.{append-nil}
-use Rattle.ac_sx.specs.Tree.{Tree, Trees, Atom, Node, no_trees, more, IsTree, AreTrees, is_atom_byte, is_atom, spelling, spellings, file, opening, closing, space, line_end}
+use Rattle.ac_sx.specs.Tree.{Tree, Trees, Atom, Node, no_trees, more, IsTree, AreTrees, is_atom_byte, spelling, spellings, file, closing, space, line_end}
 use Rattle.ac_sx.specs.CodeSx.{pushed}
-use Rattle.ac_sx.specs.CodeBuilder.{Building, nothing, placed, entered, left, flushed, acted, next_building, next_word, built_from, built}
+use Rattle.ac_sx.specs.CodeBuilder.{Building, nothing, placed, entered, left, flushed, acted, built_from, built}
 
 abbrev pub joined : Trees → Trees → Trees
 joined us no_trees = us

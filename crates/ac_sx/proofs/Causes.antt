@@ -25,27 +25,27 @@ breaks_before text a b (x, _) (y, _) lt =
     let within = y.within in
     x.no_further (omega arith) (front_up_to text (a + 1) b (omega arith) y.front)
 
-one_break : (text : List ℕ) (a b : ℕ) → IsNoText text a → IsNoText text b → a ≡ b
+pub one_break : (text : List ℕ) (a b : ℕ) → IsNoText text a → IsNoText text b → a ≡ b
 one_break text a b x y = elim (cases_order a b) [
-    inl same ↦ same
+  | inl same ↦ same
   | inr other ↦ elim other [ inl lt ↦ absurd (breaks_before text a b x y lt) | inr gt ↦ absurd (breaks_before text b a y x gt) ]
 ]
 
 shallow_before : (text : List ℕ) (k n : ℕ) → k ≤ n → ((i : ℕ) → nesting (take i (take n text)) ≤ deepest) → nesting (take k text) ≤ deepest
 shallow_before text k n le shallow = subst (λ x. nesting x ≤ deepest) (take-take k n text le) (shallow k)
 
-break_or_deep : (text : List ℕ) (a b : ℕ) → IsNoText text a → OpensTooDeep text b → ⊥
+pub break_or_deep : (text : List ℕ) (a b : ℕ) → IsNoText text a → OpensTooDeep text b → ⊥
 break_or_deep text a b (x, shallow) y = elim (cases_lt b a) [
-    inl lt ↦ let here = shallow_before text (b + 1) a (omega arith) shallow in let deep = y.deep in omega (arith, here, deep)
+  | inl lt ↦ let here = shallow_before text (b + 1) a (omega arith) shallow in let deep = y.deep in omega (arith, here, deep)
   | inr le ↦ let within = y.within in x.no_further (omega arith) (front_up_to text (a + 1) (b + 1) (omega arith) y.front)
 ]
 
 deep_before : (text : List ℕ) (a b : ℕ) → OpensTooDeep text a → OpensTooDeep text b → a < b → ⊥
 deep_before text a b x y lt = let here = shallow_before text (a + 1) b (omega arith) y.shallow in let deep = x.deep in omega (arith, here, deep)
 
-one_deep : (text : List ℕ) (a b : ℕ) → OpensTooDeep text a → OpensTooDeep text b → a ≡ b
+pub one_deep : (text : List ℕ) (a b : ℕ) → OpensTooDeep text a → OpensTooDeep text b → a ≡ b
 one_deep text a b x y = elim (cases_order a b) [
-    inl same ↦ same
+  | inl same ↦ same
   | inr other ↦ elim other [ inl lt ↦ absurd (deep_before text a b x y lt) | inr gt ↦ absurd (deep_before text b a y x gt) ]
 ]
 

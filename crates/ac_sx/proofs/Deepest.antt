@@ -1,10 +1,10 @@
 -- Somewhere in a tree's text as many lists are open as the tree is deep.
-use Rattle.std.proofs.Common.{◌≡◌, ℕ, suc, ◌+◌, ◌-◌, ◌==◌, ◌<◌, ◌≤◌, Bool, true, false, cond, ◌&&◌, List, [], ◌∷◌, ◌++◌, length, take, max, count_by, ◌⊎◌, inl, inr, refl, ap, sym, subst, ◌∙◌, append_assoc, arith}
+use Rattle.std.proofs.Common.{◌≡◌, ℕ, suc, ◌+◌, ◌==◌, ◌<◌, ◌≤◌, Bool, true, cond, List, [], ◌∷◌, ◌++◌, length, take, max, count_by, inl, inr, refl, ap, sym, subst, ◌∙◌, append_assoc, arith}
 use Rattle.std.specs.List.{list_all}
 use Rattle.std.proofs.lemmas.Bool.{and_parts, cases_lt, false≢true}
 use Rattle.std.proofs.lemmas.List.{take_at}
 use Rattle.std.proofs.lemmas.List.Sums.{sum_by-append}
-use Rattle.ac_sx.specs.Tree.{Tree, Trees, Atom, Node, no_trees, more, IsTree, AreTrees, is_atom_byte, is_atom, spelling, spellings, file, depth, depths, opening, closing, space, line_end, deepest}
+use Rattle.ac_sx.specs.Tree.{Tree, Trees, Atom, Node, no_trees, more, IsTree, AreTrees, is_atom_byte, spelling, spellings, file, depth, depths, opening, closing, space, line_end, deepest}
 use Rattle.ac_sx.specs.Front.{IsShallow, nesting}
 use Rattle.ac_sx.proofs.Reached.{opened_in, closed_in, atom_byte_is}
 
@@ -74,7 +74,7 @@ reaches_within bs n (front, rest, e, c) =
 
 higher : (bs : List ℕ) (m n : ℕ) → (m < n → Reaches bs n) → (n ≤ m → Reaches bs m) → Reaches bs (max m n)
 higher bs m n right left = elim (cases_lt m n) [
-    inl less ↦ let same : n ≡ max m n = omega arith in subst (Reaches bs) same (right less)
+  | inl less ↦ let same : n ≡ max m n = omega arith in subst (Reaches bs) same (right less)
   | inr most ↦ let same : m ≡ max m n = omega arith in subst (Reaches bs) same (left most)
 ]
 

@@ -1,12 +1,12 @@
 -- What the recogniser passes are the fronts of files.
-use Rattle.std.proofs.Common.{◌≡◌, ℕ, zero, suc, ◌+◌, ◌≤◌, Bool, true, false, cond, List, [], ◌∷◌, ◌++◌, Option, Some, None, inl, inr, refl, ap, sym, subst, ◌∙◌, append_assoc, arith}
+use Rattle.std.proofs.Common.{◌≡◌, ℕ, ◌≤◌, List, [], ◌∷◌, ◌++◌, Option, Some, None, inl, inr, refl, ap, sym, subst, ◌∙◌, append_assoc, arith}
 use Rattle.std.specs.Prelude.{nat_lt, if◌then◌else◌}
 use Rattle.std.proofs.lemmas.Bool.{ltb-false}
 use Rattle.std.proofs.lemmas.List.{append-nil}
 use Rattle.ac_sx.specs.declared.recogniser.Place.{Place}
 use Rattle.ac_sx.specs.declared.recogniser.Place.TheVariants.{Begin, Opened, Word, Ended, Whole}
 use Rattle.ac_sx.specs.declared.recogniser.Reading.{Reading}
-use Rattle.ac_sx.specs.Tree.{Tree, Trees, Atom, Node, no_trees, more, IsTree, spelling, file, depth, closing, line_end}
+use Rattle.ac_sx.specs.Tree.{Tree, Trees, Atom, Node, IsTree, spelling, file, depth, closing, line_end}
 use Rattle.ac_sx.specs.Front.{IsFile, IsFront}
 use Rattle.ac_sx.specs.CodeSx.{pushed}
 use Rattle.ac_sx.specs.CodeRecogniser.{reading, step}
@@ -25,7 +25,7 @@ after_parts most r b bs x e = go (step r b) refl e
         (next : Reading) × (step r b ≡ Some next) × (next.lists ≤ most) × (after most next bs ≡ Some x)
     go None s e = absurd cc
     go (Some next) s e = elim (branches (nat_lt most next.lists) None (after most next bs) (Some x) e) [
-        inl past ↦ absurd (let f = past.1 in cc)
+      | inl past ↦ absurd (let f = past.1 in cc)
       | inr within ↦ (next, s, ltb-false most next.lists within.0, within.1)
     ]
 

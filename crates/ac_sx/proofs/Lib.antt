@@ -9,3 +9,4 @@ pub mod Built
 pub mod Listed
 pub mod Building
 pub mod Answered
+pub mod Written

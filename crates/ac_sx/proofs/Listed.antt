@@ -1,10 +1,10 @@
 -- The parts of the code's trees as lists.
-use Rattle.std.proofs.Common.{◌≡◌, ℕ, suc, ◌+◌, ◌<◌, ◌≤◌, List, [], ◌∷◌, ◌++◌, length, get_or, set, refl, ap, ◌∙◌, arith}
+use Rattle.std.proofs.Common.{◌≡◌, suc, ◌+◌, ◌<◌, ◌≤◌, List, [], ◌∷◌, ◌++◌, length, get_or, set, refl, ap, ◌∙◌, arith}
 use Rattle.std.specs.Prelude.{Vec}
 use Rattle.std.specs.declared.alloc.Global.{Global}
 use Rattle.ac_sx.specs.declared.sx.Sx as S
 use Rattle.ac_sx.specs.declared.sx.Sx.{Row_of-Sx, end_of-Sx, more_of-Sx, items-the_row-Sx, items_hidden-the_row-Sx-0}
-use Rattle.ac_sx.specs.Tree.{Tree, Trees, Node, no_trees, more, nodes, all_nodes}
+use Rattle.ac_sx.specs.Tree.{Node, more, nodes, all_nodes}
 use Rattle.ac_sx.specs.CodeSx.{tree_of, trees_of, trees_in, pushed}
 
 row_trees : {m : _} (k : Row_of-Sx m) → trees_of k ≡ trees_in (items-the_row-Sx m k)

@@ -1,15 +1,15 @@
 -- Where the recogniser is, the text so far is that of lists that are open and of a tree in them: so each text that it passes is the front of
 -- a file.
-use Rattle.std.proofs.Common.{◌≡◌, ℕ, zero, suc, ◌+◌, ◌-◌, ◌==◌, ◌<◌, ◌≤◌, Bool, true, false, cond, not, ◌&&◌, List, [], ◌∷◌, ◌++◌, length, Option, Some, None, ◌⊎◌, inl, inr, refl, ap, sym, subst, ◌∙◌, append_assoc, arith, eqb-true, count_by, IsTrue}
-use Rattle.std.specs.Prelude.{nat_le, option_and_then, if◌then◌else◌}
+use Rattle.std.proofs.Common.{◌≡◌, ℕ, suc, ◌+◌, ◌-◌, ◌==◌, Bool, true, false, cond, not, ◌&&◌, List, [], ◌∷◌, ◌++◌, length, Some, None, ◌⊎◌, inl, inr, refl, ap, subst, ◌∙◌, append_assoc, arith, eqb-true, count_by}
+use Rattle.std.specs.Prelude.{nat_le, if◌then◌else◌}
 use Rattle.std.specs.List.{list_all}
 use Rattle.std.proofs.lemmas.Bool.{and_parts, and_from, not-true}
 use Rattle.std.proofs.lemmas.List.Sums.{sum_by-append}
 use Rattle.ac_sx.specs.declared.recogniser.Place.{Place}
 use Rattle.ac_sx.specs.declared.recogniser.Place.TheVariants.{Begin, Opened, Word, Ended, Whole}
 use Rattle.ac_sx.specs.declared.recogniser.Reading.{Reading}
-use Rattle.ac_sx.specs.Tree.{Tree, Trees, Atom, Node, no_trees, more, IsTree, AreTrees, is_atom_byte, is_atom, spelling, file, opening, closing, space, line_end}
-use Rattle.ac_sx.specs.Front.{IsFile, IsFront, nesting}
+use Rattle.ac_sx.specs.Tree.{Tree, Trees, Atom, Node, no_trees, IsTree, AreTrees, is_atom_byte, is_atom, spelling, opening, closing, space, line_end}
+use Rattle.ac_sx.specs.Front.{IsFile}
 use Rattle.ac_sx.specs.CodeSx.{pushed}
 use Rattle.ac_sx.specs.CodeRecogniser.{reading, begun, closed, followed, step, step_at}
 use Rattle.ac_sx.proofs.Spaced.{openings, AreTrees-pushed, openings-space, openings-close, openings-none}
@@ -86,29 +86,29 @@ begun_reached : (text : List ℕ) (n b : ℕ) (next : Reading) (stack : List Tre
     begun n b ≡ Some next → Reached next (text ++ b ∷ [])
 begun_reached text n b next stack trees lists stands counts e =
     elim (branches (b == opening) (Some (reading Opened (n + 1))) (if is_atom_byte b then Some (reading Word n) else None) (Some next) e) [
-        inl opens ↦
-            let is : b ≡ opening = eqb-true b opening opens.0 in
-            let there : reading Opened (n + 1) ≡ next = cc in
-            subst (λ r. Reached r (text ++ b ∷ [])) there (record {
-              stack = no_trees ∷ stack;
-              trees = (tt, trees);
-              lists = omega arith;
-              stands = (refl, ap (λ t. t ++ b ∷ []) stands ∙ ap (λ c. openings stack ++ c ∷ []) is);
-              counts = rw is (raised text (length stack) counts);
-            })
+      | inl opens ↦
+          let is : b ≡ opening = eqb-true b opening opens.0 in
+          let there : reading Opened (n + 1) ≡ next = cc in
+          subst (λ r. Reached r (text ++ b ∷ [])) there (record {
+            stack = no_trees ∷ stack;
+            trees = (tt, trees);
+            lists = omega arith;
+            stands = (refl, ap (λ t. t ++ b ∷ []) stands ∙ ap (λ c. openings stack ++ c ∷ []) is);
+            counts = rw is (raised text (length stack) counts);
+          })
       | inr other ↦ elim (branches (is_atom_byte b) (Some (reading Word n)) None (Some next) other.1) [
-            inl word ↦
-                let there : reading Word n ≡ next = cc in
-                let no = atom_byte_is b word.0 in
-                subst (λ r. Reached r (text ++ b ∷ [])) there (record {
-                  stack = stack;
-                  trees = trees;
-                  lists = lists;
-                  stands = (b ∷ [], and_from (is_atom_byte b) true word.0 refl, ap (λ t. t ++ b ∷ []) stands);
-                  counts = kept text b (length stack) no.0 no.1 counts;
-                })
-          | inr none ↦ absurd cc
-        ]
+        | inl word ↦
+            let there : reading Word n ≡ next = cc in
+            let no = atom_byte_is b word.0 in
+            subst (λ r. Reached r (text ++ b ∷ [])) there (record {
+              stack = stack;
+              trees = trees;
+              lists = lists;
+              stands = (b ∷ [], and_from (is_atom_byte b) true word.0 refl, ap (λ t. t ++ b ∷ []) stands);
+              counts = kept text b (length stack) no.0 no.1 counts;
+            })
+        | inr none ↦ absurd cc
+      ]
     ]
 
 -- the end of a list that is open, behind a tree in it
@@ -116,21 +116,21 @@ closed_reached : (text : List ℕ) (n : ℕ) (next : Reading) (stack : List Tree
     closed n ≡ Some next → Reached next (text ++ closing ∷ [])
 closed_reached text n next [] t trees lists is stands counts e =
     elim (branches (n == 0) None (Some (reading Ended (n - 1))) (Some next) e) [
-        inl none ↦ absurd cc
+      | inl none ↦ absurd cc
       | inr some ↦ absurd (let no : (n == 0) ≡ true = ap (λ m. m == 0) lists in cc)
     ]
 closed_reached text n next (ts ∷ outer) t trees lists is stands counts e =
     elim (branches (n == 0) None (Some (reading Ended (n - 1))) (Some next) e) [
-        inl none ↦ absurd cc
+      | inl none ↦ absurd cc
       | inr some ↦
-            let there : reading Ended (n - 1) ≡ next = cc in
-            subst (λ r. Reached r (text ++ closing ∷ [])) there (record {
-              stack = outer;
-              trees = trees.1;
-              lists = omega arith;
-              stands = (Node (pushed ts t), AreTrees-pushed ts t trees.0 is, ap (λ u. u ++ closing ∷ []) stands ∙ openings-close ts outer t);
-              counts = lowered text (length outer) counts;
-            })
+          let there : reading Ended (n - 1) ≡ next = cc in
+          subst (λ r. Reached r (text ++ closing ∷ [])) there (record {
+            stack = outer;
+            trees = trees.1;
+            lists = omega arith;
+            stands = (Node (pushed ts t), AreTrees-pushed ts t trees.0 is, ap (λ u. u ++ closing ∷ []) stands ∙ openings-close ts outer t);
+            counts = lowered text (length outer) counts;
+          })
     ]
 
 whole_reached : (text : List ℕ) (n b : ℕ) (next : Reading) (stack : List Trees) (t : Tree) → AreStack stack → n ≡ length stack → IsTree t → text ≡ openings stack ++ spelling t → opened_in text ≡ closed_in text + length stack →
@@ -163,35 +163,35 @@ followed_reached : (text : List ℕ) (n b : ℕ) (next : Reading) (stack : List 
     followed n b ≡ Some next → Reached next (text ++ b ∷ [])
 followed_reached text n b next stack t trees lists is stands counts e =
     elim (branches (b == closing) (closed n) (if n == 0 then (if b == line_end then Some (reading Whole 0) else None) else if b == space then Some (reading Begin n) else None) (Some next) e) [
-        inl closes ↦
-            let same : b ≡ closing = eqb-true b closing closes.0 in
-            rw same (closed_reached text n next stack t trees lists is stands counts closes.1)
+      | inl closes ↦
+          let same : b ≡ closing = eqb-true b closing closes.0 in
+          rw same (closed_reached text n next stack t trees lists is stands counts closes.1)
       | inr other ↦ elim (branches (n == 0) (if b == line_end then Some (reading Whole 0) else None) (if b == space then Some (reading Begin n) else None) (Some next) other.1) [
-            inl outside ↦ elim (branches (b == line_end) (Some (reading Whole 0)) None (Some next) outside.1) [
-                inl ends ↦ whole_reached text n b next stack t trees lists is stands counts outside.0 (eqb-true b line_end ends.0) ends.1
-              | inr none ↦ absurd cc
-            ]
-          | inr inside ↦ elim (branches (b == space) (Some (reading Begin n)) None (Some next) inside.1) [
-                inl parts ↦ parted_reached text n b next stack t trees lists is stands counts inside.0 (eqb-true b space parts.0) parts.1
-              | inr none ↦ absurd cc
-            ]
+        | inl outside ↦ elim (branches (b == line_end) (Some (reading Whole 0)) None (Some next) outside.1) [
+          | inl ends ↦ whole_reached text n b next stack t trees lists is stands counts outside.0 (eqb-true b line_end ends.0) ends.1
+          | inr none ↦ absurd cc
         ]
+        | inr inside ↦ elim (branches (b == space) (Some (reading Begin n)) None (Some next) inside.1) [
+          | inl parts ↦ parted_reached text n b next stack t trees lists is stands counts inside.0 (eqb-true b space parts.0) parts.1
+          | inr none ↦ absurd cc
+        ]
+      ]
     ]
 
 emptied : (text : List ℕ) (n b : ℕ) (next : Reading) (ts : Trees) (outer : List Trees) → AreStack (ts ∷ outer) → n ≡ length (ts ∷ outer) → ts ≡ no_trees → text ≡ openings (ts ∷ outer) → opened_in text ≡ closed_in text + length (ts ∷ outer) →
     b ≡ closing → closed n ≡ Some next → Reached next (text ++ b ∷ [])
 emptied text n b next ts outer trees lists none stands counts same e =
     elim (branches (n == 0) None (Some (reading Ended (n - 1))) (Some next) e) [
-        inl none_open ↦ absurd cc
+      | inl none_open ↦ absurd cc
       | inr some ↦
-            let there : reading Ended (n - 1) ≡ next = cc in
-            subst (λ r. Reached r (text ++ b ∷ [])) there (record {
-              stack = outer;
-              trees = trees.1;
-              lists = omega arith;
-              stands = (Node no_trees, tt, ap (λ u. u ++ b ∷ []) stands ∙ ap (λ us. openings (us ∷ outer) ++ b ∷ []) none ∙ ap (λ c. openings (no_trees ∷ outer) ++ c ∷ []) same ∙ openings-none outer);
-              counts = rw same (lowered text (length outer) counts);
-            })
+          let there : reading Ended (n - 1) ≡ next = cc in
+          subst (λ r. Reached r (text ++ b ∷ [])) there (record {
+            stack = outer;
+            trees = trees.1;
+            lists = omega arith;
+            stands = (Node no_trees, tt, ap (λ u. u ++ b ∷ []) stands ∙ ap (λ us. openings (us ∷ outer) ++ b ∷ []) none ∙ ap (λ c. openings (no_trees ∷ outer) ++ c ∷ []) same ∙ openings-none outer);
+            counts = rw same (lowered text (length outer) counts);
+          })
     ]
 
 at_place : (place : Place) (n : ℕ) (text : List ℕ) (b : ℕ) (next : Reading) (stack : List Trees) → AreStack stack → n ≡ length stack → StandsAt place stack text → opened_in text ≡ closed_in text + length stack →
@@ -200,21 +200,21 @@ at_place Begin n text b next stack trees lists stands counts e = begun_reached t
 at_place Opened n text b next [] trees lists stands counts e = absurd stands
 at_place Opened n text b next (ts ∷ outer) trees lists stands counts e =
     elim (branches (b == closing) (closed n) (begun n b) (Some next) e) [
-        inl closes ↦ emptied text n b next ts outer trees lists stands.0 stands.1 counts (eqb-true b closing closes.0) closes.1
+      | inl closes ↦ emptied text n b next ts outer trees lists stands.0 stands.1 counts (eqb-true b closing closes.0) closes.1
       | inr other ↦ begun_reached text n b next (ts ∷ outer) trees lists stands.1 counts other.1
     ]
 at_place Word n text b next stack trees lists (w, is, stands) counts e =
     elim (branches (is_atom_byte b) (Some (reading Word n)) (followed n b) (Some next) e) [
-        inl word ↦
-            let there : reading Word n ≡ next = cc in
-            let no = atom_byte_is b word.0 in
-            subst (λ r. Reached r (text ++ b ∷ [])) there (record {
-              stack = stack;
-              trees = trees;
-              lists = lists;
-              stands = (w ++ b ∷ [], is_atom-push w b is word.0, ap (λ t. t ++ b ∷ []) stands ∙ append_assoc (openings stack) w (b ∷ []));
-              counts = kept text b (length stack) no.0 no.1 counts;
-            })
+      | inl word ↦
+          let there : reading Word n ≡ next = cc in
+          let no = atom_byte_is b word.0 in
+          subst (λ r. Reached r (text ++ b ∷ [])) there (record {
+            stack = stack;
+            trees = trees;
+            lists = lists;
+            stands = (w ++ b ∷ [], is_atom-push w b is word.0, ap (λ t. t ++ b ∷ []) stands ∙ append_assoc (openings stack) w (b ∷ []));
+            counts = kept text b (length stack) no.0 no.1 counts;
+          })
       | inr other ↦ followed_reached text n b next stack (Atom w) trees lists is stands counts other.1
     ]
 at_place Ended n text b next stack trees lists (t, is, stands) counts e = followed_reached text n b next stack t trees lists is stands counts e

@@ -1,6 +1,6 @@
 -- The text of lists that are open: what stands before the place where their next parts go.
 use Rattle.std.proofs.Common.{◌≡◌, List, [], ◌∷◌, ◌++◌, ℕ, refl, ap, sym, ◌∙◌, append_assoc}
-use Rattle.ac_sx.specs.Tree.{Tree, Trees, Atom, Node, no_trees, more, IsTree, AreTrees, spelling, spellings, opening, closing, space}
+use Rattle.ac_sx.specs.Tree.{Tree, Trees, Node, no_trees, more, IsTree, AreTrees, spelling, spellings, opening, closing, space}
 use Rattle.ac_sx.specs.CodeSx.{pushed}
 
 -- each part with a space behind it

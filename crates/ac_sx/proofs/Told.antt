@@ -1,21 +1,20 @@
 -- The recogniser's answer has its cause, and of one text there is one cause alone.
-use Rattle.std.proofs.Common.{◌≡◌, ℕ, suc, ◌+◌, ◌-◌, ◌<◌, ◌≤◌, Bool, true, false, cond, List, [], ◌∷◌, ◌++◌, length, take, Option, Some, None, Result, Ok, Err, ◌⊎◌, inl, inr, refl, ap, sym, subst, ◌∙◌, append_assoc, arith}
+use Rattle.std.proofs.Common.{◌≡◌, ℕ, ◌+◌, ◌<◌, ◌≤◌, Bool, true, false, List, [], ◌∷◌, ◌++◌, length, take, Option, Some, None, Result, Ok, Err, inl, inr, refl, ap, sym, subst, ◌∙◌, append_assoc, arith}
 use Rattle.std.specs.Prelude.{nat_lt, if◌then◌else◌}
-use Rattle.std.proofs.lemmas.Bool.{ltb-true, ltb-false, le-ltb, cond-false, cases_lt, cases_order}
-use Rattle.std.proofs.lemmas.List.{append-nil, length-append, take_at, take_all, take-take, take-append-le, take-append-drop}
+use Rattle.std.proofs.lemmas.Bool.{ltb-true, ltb-false, cases_lt}
+use Rattle.std.proofs.lemmas.List.{append-nil, length-append, take_at, take_all, take-append-le}
 use Rattle.ac_sx.specs.declared.recogniser.Place.{Place}
 use Rattle.ac_sx.specs.declared.recogniser.Place.TheVariants.{Begin, Opened, Word, Ended, Whole}
 use Rattle.ac_sx.specs.declared.recogniser.Reading.{Reading}
 use Rattle.ac_sx.specs.declared.fault.SxFault.{SxFault}
-use Rattle.ac_sx.specs.declared.fault.SxFault.TheVariants.{NotText, Deep, Memory}
-use Rattle.ac_sx.specs.Tree.{Tree, Trees, Atom, Node, IsTree, file, depth, deepest}
-use Rattle.ac_sx.specs.Front.{IsFile, IsFront, BreaksOff, nesting, IsShallow, OpensTooDeep}
+use Rattle.ac_sx.specs.declared.fault.SxFault.TheVariants.{NotText, Deep}
+use Rattle.ac_sx.specs.Tree.{depth, deepest}
+use Rattle.ac_sx.specs.Front.{IsFile, IsFront, nesting, IsShallow, OpensTooDeep}
 use Rattle.ac_sx.specs.CodeRecogniser.{reading, step, ended, recognised_from, recognised}
 use Rattle.ac_sx.specs.Answer.{IsNoText, IsFaultOf}
-use Rattle.ac_sx.proofs.Reached.{Reached, StandsAt, reached_next, branches}
+use Rattle.ac_sx.proofs.Reached.{Reached, StandsAt, reached_next}
 use Rattle.ac_sx.proofs.Walked.{after, after_step}
 use Rattle.ac_sx.proofs.Fronts.{start, after_parts, after_front, after_agrees, file_passes, front_passes, reached, front_shorter, front_of_file, reached_front}
-use Rattle.ac_sx.proofs.Deepest.{shallow_file}
 
 -- the recogniser gets there
 abbrev pub Passes : List ℕ → Reading → Type 0
@@ -65,7 +64,7 @@ with_byte text b rest =
 
 shallow_next : (text : List ℕ) (b : ℕ) → IsShallow text → nesting (text ++ b ∷ []) ≤ deepest → IsShallow (text ++ b ∷ [])
 shallow_next text b shallow here = λ k. elim (cases_lt (length text) k) [
-    inl past ↦ let all = take_all k (text ++ b ∷ []) (let e = length-append text (b ∷ []) in omega (arith, e)) in subst (λ x. nesting x ≤ deepest) (sym all) here
+  | inl past ↦ let all = take_all k (text ++ b ∷ []) (let e = length-append text (b ∷ []) in omega (arith, e)) in subst (λ x. nesting x ≤ deepest) (sym all) here
   | inr within ↦ let front = take-append-le k text (b ∷ []) within in subst (λ x. nesting x ≤ deepest) (sym front) (shallow k)
 ]
 
@@ -97,8 +96,7 @@ told_at_end place n text h passes shallow = at_place place h.stack h.stands (no_
 
 told_stuck : (r : Reading) (text : List ℕ) (b : ℕ) (bs : List ℕ) → Reached r text → Passes text r → IsShallow text → step r b ≡ None → IsNoText (text ++ b ∷ bs) (length text)
 told_stuck r text b bs h passes shallow none =
-    let no = no_front text r b passes none in
-    (
+    let no = no_front text r b passes none in (
       record {
         within = let e = length-append text (b ∷ bs) in omega (arith, e);
         front = subst IsFront (sym (before_byte text (b ∷ bs))) (reached_front r text h);
@@ -134,9 +132,9 @@ told_from r text (b ∷ bs) at here h passes shallow =
     next_told : (o : Option Reading) → step r b ≡ o →
         ((next : Reading) → Reached next (text ++ b ∷ []) → Passes (text ++ b ∷ []) next → IsShallow (text ++ b ∷ []) → Told ((text ++ b ∷ []) ++ bs) (recognised_from next (at + 1) bs)) →
         Told (text ++ b ∷ bs) (elim o as (λ _. Result (Unit {0}) SxFault) [
-        None ↦ Err (NotText at)
-      | Some next ↦ if nat_lt deepest next.lists then Err (Deep at) else recognised_from next (at + 1) bs
-    ])
+          | None ↦ Err (NotText at)
+          | Some next ↦ if nat_lt deepest next.lists then Err (Deep at) else recognised_from next (at + 1) bs
+        ])
     next_told None e again = subst (IsNoText (text ++ b ∷ bs)) (sym here) (told_stuck r text b bs h passes shallow e)
     next_told (Some next) e again =
         let h' = reached_next r text b next h e in

@@ -1,14 +1,14 @@
 -- The recogniser, up to any depth, passes the text of each tree that is no deeper.
-use Rattle.std.proofs.Common.{◌≡◌, ℕ, zero, suc, ◌+◌, ◌-◌, ◌==◌, ◌<◌, ◌≤◌, Bool, true, false, cond, ◌&&◌, List, [], ◌∷◌, ◌++◌, length, max, Option, Some, None, refl, ap, sym, subst, ◌∙◌, append_assoc, arith}
+use Rattle.std.proofs.Common.{◌≡◌, ℕ, suc, ◌+◌, ◌-◌, ◌==◌, ◌≤◌, true, List, [], ◌∷◌, ◌++◌, Option, Some, None, refl, ap, ◌∙◌, append_assoc, arith}
 use Rattle.std.specs.Prelude.{nat_lt, if◌then◌else◌}
 use Rattle.std.specs.List.{list_all}
 use Rattle.std.proofs.lemmas.Bool.{and_parts, cond-true, cond-false, le-ltb, ne_eqb, false≢true}
 use Rattle.ac_sx.specs.declared.recogniser.Place.{Place}
 use Rattle.ac_sx.specs.declared.recogniser.Place.TheVariants.{Begin, Opened, Word, Ended, Whole}
 use Rattle.ac_sx.specs.declared.recogniser.Reading.{Reading}
-use Rattle.ac_sx.specs.Tree.{Tree, Trees, Atom, Node, no_trees, more, IsTree, AreTrees, is_atom_byte, is_atom, spelling, spellings, file, depth, depths, opening, closing, space, line_end}
-use Rattle.ac_sx.specs.CodeRecogniser.{reading, begun, closed, followed, step, step_at}
-use Rattle.ac_sx.proofs.Reached.{branches, atom_byte_is}
+use Rattle.ac_sx.specs.Tree.{Tree, Trees, Atom, Node, no_trees, more, IsTree, AreTrees, is_atom_byte, spelling, spellings, depth, depths, opening, closing, space, line_end}
+use Rattle.ac_sx.specs.CodeRecogniser.{reading, begun, closed, followed, step}
+use Rattle.ac_sx.proofs.Reached.{atom_byte_is}
 
 -- where the recogniser is after a text, if it gets there with no more lists open than these
 abbrev pub after : ℕ → Reading → List ℕ → Option Reading

@@ -1,5 +1,5 @@
 -- The tree of a file, built byte by byte. Of other texts it means nothing.
-use Rattle.std.specs.Prelude.{ℕ, ◌==◌, Bool, true, false, List, [], ◌∷◌, ◌++◌, Option, Some, None, map, reverse, Vec, if◌then◌else◌}
+use Rattle.std.specs.Prelude.{ℕ, ◌==◌, List, [], ◌∷◌, ◌++◌, Option, Some, None, map, reverse, Vec, if◌then◌else◌}
 use Rattle.std.specs.declared.alloc.Global.{Global}
 use Rattle.ac_sx.specs.declared.sx.Sx as S
 use Rattle.ac_sx.specs.declared.builder.Builder.{Builder}

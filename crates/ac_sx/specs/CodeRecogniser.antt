@@ -1,5 +1,5 @@
 -- The recogniser of files, step by step.
-use Rattle.std.specs.Prelude.{ℕ, ◌+◌, ◌-◌, ◌==◌, nat_lt, Bool, true, false, List, [], ◌∷◌, Option, Some, None, option_and_then, Result, Ok, Err, if◌then◌else◌}
+use Rattle.std.specs.Prelude.{ℕ, ◌+◌, ◌-◌, ◌==◌, nat_lt, List, [], ◌∷◌, Option, Some, None, Result, Ok, Err, if◌then◌else◌}
 use Rattle.ac_sx.specs.declared.recogniser.Place.{Place}
 use Rattle.ac_sx.specs.declared.recogniser.Place.TheVariants.{Begin, Opened, Word, Ended, Whole}
 use Rattle.ac_sx.specs.declared.recogniser.Reading.{Reading}
@@ -43,9 +43,9 @@ ended at _ = Err (NotText at)
 abbrev pub recognised_from : Reading → ℕ → List ℕ → Result (Unit {0}) SxFault
 recognised_from r at [] = ended at r.place
 recognised_from r at (b ∷ bs) = elim (step r b) [
-    None ↦ Err (NotText at)
+  | None ↦ Err (NotText at)
   | Some next ↦ if nat_lt deepest next.lists then Err (Deep at) else recognised_from next (at + 1) bs
-  ]
+]
 
 abbrev pub recognised : List ℕ → Result (Unit {0}) SxFault
 recognised text = recognised_from (reading Begin 0) 0 text

@@ -4,3 +4,4 @@ pub mod CodeSx
 pub mod CodeRecogniser
 pub mod Answer
 pub mod CodeBuilder
+pub mod CodeWriter

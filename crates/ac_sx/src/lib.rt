@@ -4,10 +4,13 @@
 
 mod builder;
 mod fault;
+pub mod laws;
 mod reader;
 mod recogniser;
 mod sx;
+mod writer;
 
 pub use fault::SxFault;
 pub use reader::read;
 pub use sx::Sx;
+pub use writer::write;

@@ -1,5 +1,5 @@
 -- With the bytes of an atom that have been passed, what is left builds what the text does.
-use Rattle.std.proofs.Common.{◌≡◌, ◌≤◌, ◌-◌, take, drop, true}
+use Rattle.std.proofs.Common.{◌≡◌, ◌≤◌, drop, true}
 use Rattle.std.specs.List.{list_all, slice_range}
 use Rattle.ac_sx.specs.Tree.{is_atom_byte}
 use Rattle.ac_sx.specs.CodeBuilder.{building_of, built_from, built}

@@ -1,6 +1,5 @@
-use Rattle.std.proofs.Common.{◌≡◌, ℕ, Some, Ok, Err, ap, sym, ◌∙◌}
+use Rattle.std.proofs.Common.{ap, sym, ◌∙◌}
 use Rattle.std.specs.Prelude.{option_map}
-use Rattle.ac_sx.specs.Tree.{Tree}
 use Rattle.ac_sx.specs.CodeSx.{tree_of}
 use Rattle.ac_sx.proofs.Answered.{found_tree, some_tree, only_tree, not_broken, not_deep, error_told, broken_refused, deep_refused, not_refused}
 use Rattle.ac_sx.proofs.reader.read.Goals as goal

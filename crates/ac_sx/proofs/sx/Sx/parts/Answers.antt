@@ -1,4 +1,4 @@
-use Rattle.std.proofs.Common.{◌≡◌, Some, ap, sym, ◌∙◌}
+use Rattle.std.proofs.Common.{Some, ap, sym, ◌∙◌}
 use Rattle.ac_sx.specs.CodeSx.{tree_of, trees_in, parts_in}
 use Rattle.ac_sx.proofs.Listed.{list_tree}
 use Rattle.ac_sx.proofs.sx.Sx.parts.Goals as goal

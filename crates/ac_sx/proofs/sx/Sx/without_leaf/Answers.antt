@@ -1,7 +1,5 @@
 -- The first part goes inside, and the list around it takes its place.
-use Rattle.std.proofs.Common.{◌≡◌, ℕ, zero, suc, ◌+◌, ◌==◌, ◌<◌, Bool, false, length, vec_len, get_or, ap, sym, ◌∙◌, arith}
-use Rattle.ac_sx.specs.Tree.{nodes, all_nodes}
-use Rattle.ac_sx.specs.CodeSx.{tree_of, trees_in}
+use Rattle.std.proofs.Common.{◌≡◌, ℕ, zero, suc, ◌==◌, ◌<◌, Bool, false, length, vec_len, get_or, ap, sym, ◌∙◌, arith}
 use Rattle.ac_sx.proofs.Listed.{list_nodes, all_nodes-set, first_within}
 use Rattle.ac_sx.proofs.sx.Sx.without_leaf.Goals as goal
 
