@@ -1,0 +1,5 @@
+//! The tests of the crates that read and write texts, through their public calls.
+#![tactic(auto)]
+
+#[cfg(test)]
+mod trees;
