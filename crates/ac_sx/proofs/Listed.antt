@@ -1,11 +1,11 @@
 -- The parts of the code's trees as lists.
-use Rattle.std.proofs.Common.{◌≡◌, suc, ◌+◌, ◌<◌, ◌≤◌, List, [], ◌∷◌, ◌++◌, length, get_or, set, refl, ap, ◌∙◌, arith}
+use Rattle.std.proofs.Common.{◌≡◌, suc, ◌+◌, ◌<◌, ◌≤◌, List, [], ◌∷◌, ◌++◌, length, get_or, set, refl, ap, ◌∙◌, arith, ◌==◌, Bool, true, false, Option, Some, None}
 use Rattle.std.specs.Prelude.{Vec}
 use Rattle.std.specs.declared.alloc.Global.{Global}
 use Rattle.ac_sx.specs.declared.sx.Sx as S
 use Rattle.ac_sx.specs.declared.sx.Sx.{Row_of-Sx, end_of-Sx, more_of-Sx, items-the_row-Sx, items_hidden-the_row-Sx-0}
-use Rattle.ac_sx.specs.Tree.{Node, more, nodes, all_nodes}
-use Rattle.ac_sx.specs.CodeSx.{tree_of, trees_of, trees_in, pushed}
+use Rattle.ac_sx.specs.Tree.{Tree, Trees, Node, no_trees, more, nodes, all_nodes}
+use Rattle.ac_sx.specs.CodeSx.{tree_of, trees_of, trees_in, pushed, one_of, first_of}
 
 row_trees : {m : _} (k : Row_of-Sx m) → trees_of k ≡ trees_in (items-the_row-Sx m k)
 row_trees end_of-Sx = refl
@@ -44,3 +44,10 @@ all_nodes-set (x ∷ xs) first other lt e = let same = ap (λ t. nodes (tree_of 
 pub first_within : (xs : List S.Sx) (first : S.Sx) → 0 < length xs → first ≡ get_or xs 0 first → nodes (tree_of first) ≤ all_nodes (trees_in xs)
 first_within [] first lt e = absurd (omega arith)
 first_within (x ∷ xs) first lt e = let same = ap (λ t. nodes (tree_of t)) e in omega (arith, same)
+
+-- more than one
+pub one_of-more : (ts : Trees) (t : Tree) (xs : List S.Sx) (b : Bool) → Some (t, trees_in xs) ≡ first_of ts → b ≡ (length xs == 0) → b ≡ false → None ≡ one_of ts
+one_of-more no_trees t xs b e f g = absurd cc
+one_of-more (more u no_trees) t [] b e f g = absurd cc
+one_of-more (more u no_trees) t (x ∷ xs) b e f g = absurd (let h : (t, more (tree_of x) (trees_in xs)) ≡ (u, no_trees) = cc in let k : more (tree_of x) (trees_in xs) ≡ no_trees = ap (λ (p : Tree × Trees). p.1) h in cc)
+one_of-more (more u (more v vs)) t xs b e f g = refl

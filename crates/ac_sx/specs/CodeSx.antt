@@ -29,3 +29,34 @@ word_in (Node ts) = None
 abbrev pub parts_in : Tree → Option Trees
 parts_in (Atom word) = None
 parts_in (Node ts) = Some ts
+
+-- the word that a list begins with, and its other parts
+abbrev pub headed_in : Tree → Option (List ℕ × Trees)
+headed_in (Atom word) = None
+headed_in (Node no_trees) = None
+headed_in (Node (more (Atom head) ts)) = Some (head, ts)
+headed_in (Node (more (Node us) ts)) = None
+
+-- of so many trees
+abbrev pub one_of : Trees → Option Tree
+one_of no_trees = None
+one_of (more t no_trees) = Some t
+one_of (more t (more u us)) = None
+
+abbrev pub two_of : Trees → Option (Tree × Tree)
+two_of no_trees = None
+two_of (more t no_trees) = None
+two_of (more t (more u no_trees)) = Some (t, u)
+two_of (more t (more u (more v vs))) = None
+
+abbrev pub three_of : Trees → Option (Tree × Tree × Tree)
+three_of no_trees = None
+three_of (more t no_trees) = None
+three_of (more t (more u no_trees)) = None
+three_of (more t (more u (more v no_trees))) = Some (t, u, v)
+three_of (more t (more u (more v (more w ws)))) = None
+
+-- the first, and the others
+abbrev pub first_of : Trees → Option (Tree × Trees)
+first_of no_trees = None
+first_of (more t ts) = Some (t, ts)

@@ -5,12 +5,14 @@
 mod builder;
 mod fault;
 pub mod laws;
+mod parts;
 mod reader;
 mod recogniser;
 mod sx;
 mod writer;
 
 pub use fault::SxFault;
+pub use parts::{first, headed, one, three, two};
 pub use reader::read;
 pub use sx::Sx;
 pub use writer::write;
