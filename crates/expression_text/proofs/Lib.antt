@@ -1,0 +1,3 @@
+pub mod LookedUp
+pub mod TypesRead
+pub mod NumbersRead
