@@ -1,3 +1,4 @@
 pub mod LookedUp
 pub mod TypesRead
 pub mod NumbersRead
+pub mod ExpsRead

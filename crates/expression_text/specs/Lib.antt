@@ -6,3 +6,9 @@ pub mod TypeText
 pub mod TypeReading
 pub mod CodeFault
 pub mod CodeWords
+pub mod Head
+pub mod Row
+pub mod ExpText
+pub mod ExpReading
+pub mod ExpRows
+pub mod CodeRow

@@ -1,5 +1,5 @@
 -- Numbers as texts have them: decimal, without a leading zero, a plus or `-0`, of a magnitude below 2^128.
-use Rattle.std.specs.Prelude.{ℕ, zero, suc, ◌+◌, ◌^◌, nat_lt, Bool, ◌&&◌, ℤ, pos, negsuc, List, [], ◌∷◌, Option, Some, None, Ok, Err, if◌then◌else◌}
+use Rattle.std.specs.Prelude.{ℕ, zero, suc, ◌+◌, ◌^◌, nat_lt, ◌==◌, Bool, ◌&&◌, ℤ, pos, negsuc, List, [], ◌∷◌, Option, Some, None, Ok, Err, if◌then◌else◌}
 use Rattle.std.specs.Fmt.{decimal}
 use Rattle.std.specs.Str.Parse.{digits_value}
 use Rattle.c_values.specs.Name.{same_name}
@@ -30,7 +30,7 @@ not_negated (Some n) = Some (pos n)
 
 abbrev pub number_in : List ℕ → Option ℤ
 number_in [] = None
-number_in (b ∷ bs) = if nat_lt b 46 && nat_lt 44 b then negated (natural_in bs) else not_negated (natural_in (b ∷ bs))
+number_in (b ∷ bs) = if b == 45 then negated (natural_in bs) else not_negated (natural_in (b ∷ bs))
 
 -- a natural number below a bound
 abbrev pub below : ℕ → ℕ → Option ℕ → Read ℕ
@@ -40,3 +40,11 @@ below bound at (Some n) = if nat_lt n bound then Ok (n, next at) else Err at
 abbrev pub natural_at : ℕ → ℕ → Tree → Read ℕ
 natural_at bound at (Atom word) = below bound at (natural_in word)
 natural_at bound at (Node ts) = Err at
+
+abbrev pub number_from : ℕ → Option ℤ → Read ℤ
+number_from at None = Err at
+number_from at (Some n) = Ok (n, next at)
+
+abbrev pub number_at : ℕ → Tree → Read ℤ
+number_at at (Atom word) = number_from at (number_in word)
+number_at at (Node ts) = Err at

@@ -1,10 +1,14 @@
 //! Texts of types and of expressions as trees, both ways.
 #![tactic(auto)]
 
+mod exp_reading;
 mod fault;
+mod heads;
 mod names;
 mod numbering;
 mod numbers;
+mod path_reading;
+mod rows;
 mod type_reading;
 mod words;
 

@@ -67,12 +67,7 @@ fn built_type_at(
 }
 
 #[cycle(types)]
-fn ptr_type_at(
-    alloc: Global,
-    at: u32,
-    inner: u32,
-    parts: &[Sx],
-) -> Result<(CType, u32), TextFault>
+fn ptr_type_at(alloc: Global, at: u32, inner: u32, parts: &[Sx]) -> Result<(CType, u32), TextFault>
     ensures { Gives type_of result (ptr_type_at at inner (one_of (trees_in parts.now))) }
 {
     let Some(target) = one(parts) else {
