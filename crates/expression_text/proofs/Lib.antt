@@ -2,3 +2,8 @@ pub mod LookedUp
 pub mod TypesRead
 pub mod NumbersRead
 pub mod ExpsRead
+pub mod Behind
+pub mod RowLaws
+pub mod TypesText
+pub mod LeavesText
+pub mod ExpsText
