@@ -53,10 +53,10 @@ pub fn substitution_is_exact()
 pub fn taken_is_exact()
     ensures { (u v : FinalUnit) → IsWellFormed u → IsWellFormed v → AreAlike u v →
         (p : Choice) (n : ℕ) →
-            Paired (EqualKept u) (functions_below u p n) (functions_below v p n) →
+        Paired (EqualKept u) (functions_below u p n) (functions_below v p n) →
         (fs : List Fact) (scoped : Name → Option Scalar) (t : Tree Rule) (left right : Mon)
         (given given' : List Scalar) →
-            Takes (point fs (setting_in sort_of_kind u scoped)) t left right →
+        Takes (point fs (setting_in sort_of_kind u scoped)) t left right →
         scalars_given (setting_in sort_of_kind u scoped) left ≡ Some given →
         scalars_given (setting_in sort_of_kind u scoped) right ≡ Some given' →
         (depth : Option ℕ) (env : Env) → DoesSame u v p n fs scoped left right depth env }
