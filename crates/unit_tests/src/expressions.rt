@@ -1,5 +1,11 @@
 //! Sorts and values of expressions that are known from elsewhere.
 
+ghost use Rattle.std.specs.Prelude.{◌≡◌, true, []};
+ghost use Rattle.std.specs.Option.{IsSome};
+ghost use Rattle.expression_lang.specs.Sort.{sort_of};
+ghost use Rattle.expression_lang.specs.CodeExpression.{exp_of};
+ghost use Rattle.expression_lang.specs.CodeState.{scope_in};
+
 use c_memory::ByteHeap;
 use c_values::{CType, IntType, Layout, Number, NumberOp, Target, Value, Word};
 use expression_lang::{
@@ -25,15 +31,24 @@ fn wide_test(alloc: Global) -> Result<Box<Exp>, AllocError> {
     Ok(Box::new(alloc, Exp::Lt(sum, zero))?)
 }
 
+// Whether an expression without names is well-sorted.
+fn is_sorted(e: &Exp, l: &Layout) -> bool
+    ensures { result ≡ true → IsSome (sort_of (scope_in l.now [] []) (exp_of e.now)) }
+{
+    let names = Names::new();
+    sort_of(e, &names, l, &[]).is_some()
+}
+
 // The value of an expression without names, in a heap whose words at 4096 are 7 and 8.
 fn value_of(alloc: Global, e: &Exp) -> Result<Result<Value, EvalFault>, Fail> {
     let l = Layout::build(Target::Ilp32, Vec::new(alloc))?;
     let words = Vec::from_slice(alloc, &[7, 0, 0, 0, 8, 0, 0, 0])?;
     let heap = ByteHeap::new(alloc, &l, &[(4096, words)], &[])?;
     let env: Env = Vec::new(alloc);
-    match sort_of(e, &Names::new(), &l, &[]) {
-        Some(_) => Ok(eval(alloc, e, &env, &heap, &l, &[], &[])),
-        None => Err(Fail::from("not well-sorted")),
+    if is_sorted(e, &l) {
+        Ok(eval(alloc, e, &env, &heap, &l, &[], &[]))
+    } else {
+        Err(Fail::from("not well-sorted"))
     }
 }
 
