@@ -193,7 +193,7 @@ fn outputs(locals: &[Binder], given: Option<Kind>) -> &[String]
     if given.is_none() {
         return &[];
     }
-    for local in locals {
+    'locals: for local in locals {
         if local.name.as_str() == "$ret" {
             return from_ref(&local.name);
         }
