@@ -35,12 +35,15 @@ fn sums_at_two_kinds(rt: HostRuntime) -> Result<(), Fail> {
     Ok(())
 }
 
-// Each of the parts in turn in place of the numbers in a pattern.
+// The pattern with each of the parts in turn in place of a number sign.
 fn filled(alloc: Global, pattern: &str, parts: &[&str]) -> Result<String, AllocError> {
     let mut text = String::new(alloc);
+    let mut left = parts.iter();
     for (k, rest) in pattern.split('#').enumerate() {
         if k > 0 {
-            text.push_str(parts[(k - 1) % parts.len()])?;
+            if let Some(part) = left.next() {
+                text.push_str(part)?;
+            }
         }
         text.push_str(rest)?;
     }
