@@ -1,6 +1,6 @@
 //! Tests with each guard wherever an expression may stand.
 
-use crate::chain::{ALL, are_taken};
+use crate::chain::{ALL, Chosen, are_taken};
 use c_values::Target;
 use std::alloc::{AllocError, Global};
 use std::test::Fail;
@@ -60,7 +60,7 @@ fn each_guard_in_each_place(rt: HostRuntime) -> Result<(), Fail> {
                 );
             }
             assert!(rt;
-                are_taken(alloc, text.as_str(), Target::Lp64, ALL[0])?,
+                are_taken(alloc, text.as_str(), Target::Lp64, Chosen::Defaults)?,
                 "{text}"
             );
         }

@@ -61,7 +61,7 @@ fn functions_of_many_sizes(rt: HostRuntime) -> Result<(), Fail> {
     let alloc = rt.alloc();
     for (first, part, last, count) in SHAPES {
         for times in [1u32, 2, 4, 8] {
-            let text = repeated(alloc, first, part, times * count, last)?;
+            let text = repeated(alloc, first, part, times.saturating_mul(count), last)?;
             assert!(rt; is_taken(alloc, text.as_str())?, "{text}");
         }
     }
