@@ -124,15 +124,3 @@ pub(crate) fn are_taken(
     }
     Ok(true)
 }
-
-/// The last program of the first function of a text, as it is shown for looking at it.
-pub(crate) fn shown(alloc: Global, text: &str) -> Result<String, Fail> {
-    let u = generated(alloc, text, Target::Ilp32, Chosen::Defaults)?;
-    let (Some(f), Some(s)) = (u.functions.first(), u.signatures.first()) else {
-        return Err(Fail::from("no function"));
-    };
-    match last(alloc, &u, f, s)? {
-        Some(m) => Ok(format!(in alloc; "{:?}", m)?),
-        None => Err(Fail::from("a step is refused")),
-    }
-}
