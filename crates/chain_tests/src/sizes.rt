@@ -36,19 +36,19 @@ const SHAPES: [(&str, &str, &str, u32); 4] = [
         "unsigned f(unsigned a){",
         "while(a>N){a=a-1;}",
         "return a;}",
-        10,
+        8,
     ),
     (
         "unsigned f(unsigned a,unsigned b){",
         "if(a>b)a=a-b;else b=b/2;",
         "return a;}",
-        10,
+        8,
     ),
     (
         "unsigned f(unsigned a){unsigned b=a;unsigned c=b;unsigned d=c;unsigned e=d;unsigned g=e;unsigned h=g;unsigned i=h;",
         "a=b+N;b=c;c=d;d=e;e=g;g=h;h=i;i=a;",
         "return a;}",
-        3,
+        2,
     ),
 ];
 
