@@ -1,6 +1,5 @@
-//! Tests of the rules that take programs on bytes to typed heaps. Each row has a tree of rules, two
-//! programs, and the first node that is no instance of its rule; `notation` says what the words
-//! are. Nothing is known at first.
+//! Tests of the rules that take programs on bytes to typed heaps. Each row has a tree of rules, two programs, and the first node that is
+//! no instance of its rule; `notation` says what the words are. Nothing is known at first.
 
 use crate::notation::{counted, program_of};
 use ac_expr::Facts;
@@ -49,8 +48,7 @@ fn rule(alloc: Global, name: &str) -> Result<Rule, Fail> {
     })
 }
 
-// The tree that words spell: a rule by its name, and in front of one with parts how many, as `2bind
-// same same`.
+// The tree that words spell: a rule by its name, and in front of one with parts how many, as `2bind same same`.
 fn tree(alloc: Global, words: &str) -> Result<Tree<Rule>, Fail> {
     let mut stack: Vec<Tree<Rule>> = Vec::new(alloc);
     for word in words.rsplit(' ') {
@@ -240,8 +238,7 @@ fn nodes_that_are_no_instances(rt: HostRuntime) -> Result<(), Fail> {
             "if tagged p 1ret a 1ret read p",
             6,
         ),
-        // a fact goes where its name is bound again, where it reads and something is written, and
-        // in a loop
+        // a fact goes where its name is bound again, where it reads and something is written, and in a loop
         (
             "2bind 1guard 1tagged leaf 2bind 1ret leaf 1ret 1load leaf",
             "bind guard tagged p 1bind 1ret q p 1ret load p",
@@ -302,14 +299,5 @@ fn nodes_that_are_no_instances(rt: HostRuntime) -> Result<(), Fail> {
         let found = bad_node(rt.alloc(), rules, left, right)?;
         assert!(rt; found == Some(at), "{rules}: {left}");
     }
-    Ok(())
-}
-
-// What becomes of `return 7;`, with `r` for the result and `u` for the flag of exceptions.
-#[test]
-fn a_returned_constant(rt: HostRuntime) -> Result<(), Fail> {
-    let program = "1bind 2bind 1bind 1ret seven r bind ret 2ret r true r u \
-                   if u 1ret r bind guard false 1ret r r 1ret r";
-    assert!(rt; bad_node(rt.alloc(), "same", program, program)?.is_none());
     Ok(())
 }

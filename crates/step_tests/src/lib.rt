@@ -1,5 +1,4 @@
-//! The tests of the steps to typed heaps and to numbers: of their rules by tables of words, and of
-//! what translates by them.
+//! The tests of the steps to typed heaps and to numbers: of their rules by tables of words, and of what translates by them.
 #![tactic(auto)]
 
 #[cfg(test)]
@@ -8,5 +7,3 @@ mod heaps;
 mod lifted;
 #[cfg(test)]
 mod notation;
-#[cfg(test)]
-mod words;
