@@ -1,4 +1,5 @@
-//! The tests of the steps to typed heaps and to numbers: of their rules by tables of words, and of what translates by them.
+//! The tests of the steps to typed heaps and to numbers: of their rules by tables of words, and of
+//! what translates by them.
 #![tactic(auto)]
 
 #[cfg(test)]
@@ -7,3 +8,7 @@ mod heaps;
 mod lifted;
 #[cfg(test)]
 mod notation;
+#[cfg(test)]
+mod tables;
+#[cfg(test)]
+mod words;

@@ -1,6 +1,8 @@
-//! Expressions and programs from words, heads before their parts (Polish notation). The words are read from the last to the first,
-//! with a stack for what has been read. Words are of 32 bits where nothing else is said, and objects of type `int`.
+//! Expressions and programs from words, heads before their parts (Polish notation). The words are
+//! read from the last to the first, with a stack for what has been read. Words are of 32 bits where
+//! nothing else is said, and objects of type `int`.
 
+use crate::tables::counted;
 use c_values::{
     CType, IntType, Number, NumberOp, ShiftOp, UnaryOp, Word, WordOp, WordTest, copy_of,
 };
@@ -87,16 +89,6 @@ fn element(alloc: Global, index: Box<Exp>) -> Result<Path, AllocError> {
     Ok(Path::Index(index, Box::new(alloc, Path::Here)?))
 }
 
-/// A word with a number in front, and without one.
-pub(crate) fn counted(word: &str) -> (u32, &str) {
-    for (digit, count) in [('1', 1u32), ('2', 2), ('3', 3), ('4', 4)] {
-        if let Some(name) = word.strip_prefix(digit) {
-            return (count, name);
-        }
-    }
-    (0, word)
-}
-
 // Constants.
 fn constant(word: &str) -> Option<Exp> {
     match word {
@@ -104,10 +96,12 @@ fn constant(word: &str) -> Option<Exp> {
         "false" => Some(Exp::Truth(false)),
         "one" => Some(Exp::Word(Word::new(32, 1))),
         "two" => Some(Exp::Word(Word::new(32, 2))),
+        "seven" => Some(Exp::Word(Word::new(32, 7))),
         "minus" => Some(Exp::Word(Word::new(32, 4_294_967_295))),
         "byte" => Some(Exp::Word(Word::new(8, 200))),
         "n1" => Some(Exp::Number(Number::new(false, 1))),
         "n2" => Some(Exp::Number(Number::new(false, 2))),
+        "n7" => Some(Exp::Number(Number::new(false, 7))),
         "n200" => Some(Exp::Number(Number::new(false, 200))),
         "nmax" => Some(Exp::Number(Number::new(false, 4_294_967_295))),
         "m1" => Some(Exp::Number(Number::new(true, 1))),
@@ -352,8 +346,8 @@ pub(crate) fn expression(alloc: Global, words: &str) -> Result<Exp, Fail> {
     }
 }
 
-/// The program that words spell. `2ret a b` gives two values, `1bind M x N` binds a name of M in N, `if e M N` asks e, `1loop x e g t M`
-/// begins with e under x, and `1call f a` calls f with a.
+/// The program that words spell. `2ret a b` gives two values, `1bind M x N` binds a name of M in N,
+/// `if e M N` asks e, `1loop x e g t M` begins with e under x, and `1call f a` calls f with a.
 pub(crate) fn program_of(alloc: Global, words: &str) -> Result<Mon, Fail> {
     match read_words(alloc, words)? {
         Spelled::Program(m) => Ok(m),
