@@ -22,7 +22,7 @@ abbrev pub answer : Outcome Answer Failure → Answer
 answer (Done a) = a
 answer _ = record { values = []; state = no_state }
 
-as_done : (o : Outcome Answer Failure) → is_done o ≡ true → o ≡ Done (answer o)
+pub as_done : (o : Outcome Answer Failure) → is_done o ≡ true → o ≡ Done (answer o)
 as_done (Done a) h = refl
 as_done (Failed f) h = absurd (let e : false ≡ true = h in cc)
 as_done (Stopped w) h = absurd (let e : false ≡ true = h in cc)

@@ -4,3 +4,4 @@ pub mod SimplEnd
 pub mod ProgramEnd
 pub mod Computed
 pub mod ComputedProgram
+pub mod ComputedObjects

@@ -25,3 +25,4 @@ pub mod Generation
 pub mod ExpressionRows
 pub mod StatementRows
 pub mod GeneratedFind
+pub mod Objects

@@ -10,6 +10,7 @@ mod calls;
 mod expressions;
 mod generated;
 pub mod generation_rows;
+mod objects;
 mod programs;
 mod statements;
 
