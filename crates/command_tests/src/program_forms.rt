@@ -433,7 +433,7 @@ fn long_sequences_have_an_answer(rt: HostRuntime) -> Result<(), Fail> {
 fn nested_programs_have_an_answer(rt: HostRuntime) -> Result<(), Fail> {
     let alloc = rt.alloc();
     let mut m = ret(alloc, var(alloc, "b")?)?;
-    for _ in 0..2_048u32 {
+    for _ in 0..4_095u32 {
         m = bind(alloc, m, &["x"], ret(alloc, var(alloc, "x")?)?)?;
     }
     assert!(rt; fits(alloc, m)?);

@@ -60,8 +60,8 @@ fn verdict(l: &Layout, t: &Tree<Rule>, left: &Mon, right: &Mon) -> Result<(), At
     check(t, left, right, context)
 }
 
-// Whether the kernel says what the row of a line does.
-fn is_so(alloc: Global, line: &str) -> Result<bool, Fail> {
+/// Whether the kernel says what the row of a line does.
+pub(crate) fn is_so(alloc: Global, line: &str) -> Result<bool, Fail> {
     if is_remark(line) {
         return Ok(true);
     }

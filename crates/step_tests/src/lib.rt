@@ -9,6 +9,8 @@ mod lifted;
 #[cfg(test)]
 mod notation;
 #[cfg(test)]
+mod sizes;
+#[cfg(test)]
 mod tables;
 #[cfg(test)]
 mod words;

@@ -128,7 +128,7 @@ fn deep_programs_are_lifted(rt: HostRuntime) -> Result<(), Fail> {
     let alloc = rt.alloc();
     for kind in ["bind", "if", "loop"] {
         let mut left = store(alloc)?;
-        for _ in 0..2_048 {
+        for _ in 0..4_095 {
             let part = Box::new(alloc, left)?;
             let last = Box::new(alloc, nothing(alloc))?;
             left = match kind {

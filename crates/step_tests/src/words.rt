@@ -11,10 +11,11 @@ use expression_lang::{Binder, Kind, Level, Signature};
 use monad_lang::Mon;
 use program_sorts::are_kinds;
 use rule_trees::{At, Tree};
-use rule_word::Rule;
+use rule_word::{Context, Rule};
 use simpl_lang::SimplUnit;
 use std::alloc::{AllocError, Global};
 use std::test::Fail;
+use word_abstract::{FunctionKinds, translate};
 
 // The kinds of a name, of 32 bits.
 fn kinds(alloc: Global, kind: Kind) -> Result<Vec<Kind>, AllocError> {
@@ -199,12 +200,40 @@ fn agrees(alloc: Global, kind: &str, row: &Row<'_>) -> Result<bool, Fail> {
     Ok(row.says(verdict(&u, &s, level, &t, &left, &right)?))
 }
 
-// The same of a line.
-fn is_so(alloc: Global, line: &str) -> Result<bool, Fail> {
+/// The same of a line.
+pub(crate) fn is_so(alloc: Global, line: &str) -> Result<bool, Fail> {
     match line.split_once(" | ") {
         Some((kind, cells)) => agrees(alloc, kind, &row(cells)?),
         None => Ok(is_remark(line)),
     }
+}
+
+/// Whether the left side of a row becomes its right side at the level of words, by rules that the
+/// kernel accepts. The names `x` and `y` are natural numbers.
+pub(crate) fn is_made(alloc: Global, line: &str) -> Result<bool, Fail> {
+    let (kind, cells) = line.split_once(" | ").ok_or("no kind")?;
+    let row = row(cells)?;
+    let u = unit(alloc)?;
+    let s = signature(alloc, given(kind)?)?;
+    let mut locals = Vec::new(alloc);
+    for name in ["x", "y"] {
+        locals.push(binder(alloc, name, Kind::Nat(32))?)?;
+    }
+    let context = Context {
+        layout: &u.layout,
+        globals: &u.globals,
+        functions: &u.signatures,
+    };
+    let kinds = FunctionKinds {
+        params: &s.params,
+        result: s.result,
+        locals: &locals,
+    };
+    let left = program_of(alloc, row.left)?;
+    let wanted = program_of(alloc, row.right)?;
+    let (right, tree) = translate(alloc, &left, Level::Words, context, kinds)?;
+    let found = verdict(&u, &s, Level::Words, &tree, &left, &right)?;
+    Ok(right.same(&wanted) && found.is_ok())
 }
 
 const EXPRESSIONS: &str = "\
