@@ -109,6 +109,35 @@ fn last(
     Ok(Some(right))
 }
 
+/// The program of a function before and after the step to typed heaps, and its unit.
+#[derive(Drop)]
+pub(crate) struct Sides {
+    pub(crate) unit: SimplUnit,
+    pub(crate) bytes: Box<Mon>,
+    pub(crate) heaps: Box<Mon>,
+}
+
+/// Those of a text's first function, at the level of words.
+pub(crate) fn sides(alloc: Global, text: &str) -> Result<Sides, Fail> {
+    let unit = generated(alloc, text, Target::Ilp32, Chosen::Words)?;
+    let (bytes, heaps) = both_programs(alloc, &unit)?;
+    Ok(Sides { unit, bytes, heaps })
+}
+
+fn both_programs(alloc: Global, u: &SimplUnit) -> Result<(Box<Mon>, Box<Mon>), Fail> {
+    let f = u.functions.first().ok_or("no function")?;
+    let s = u.signatures.first().ok_or("no signature")?;
+    let (flat, _) = exception_elim::translate(alloc, &f.body)?;
+    let context = rule_local::Context {
+        locals: &f.locals,
+        parameters: &s.params,
+    };
+    let outputs = named(alloc, "$ret", s.result.is_some())?;
+    let (bytes, _) = local_lift::translate(alloc, &flat, context, &outputs)?;
+    let (heaps, _) = heap_lift::translate(alloc, &bytes)?;
+    Ok((bytes, heaps))
+}
+
 /// Whether the kernels accept each step of each function of a text.
 pub(crate) fn are_taken(
     alloc: Global,

@@ -12,3 +12,5 @@ mod objects;
 mod sizes;
 #[cfg(test)]
 mod sums;
+#[cfg(test)]
+mod values;
