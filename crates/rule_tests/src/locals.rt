@@ -1,33 +1,41 @@
-//! Tests of the rules that lift locals. Each row has a tree of rules, a command, a program that
-//! gives the outputs, and the first node that is no instance of its rule; `notation` says what the
-//! words are.
+//! Tests of the rules that lift locals. In front of a row stands the output that the program
+//! gives; `test_tables` says what else is in it, and `notation` what the words are.
 
-use crate::notation::{command, program, tree};
+use crate::notation::{command, program};
 use crate::sizes::{nested, within};
 use expression_lang::{Binder, Exp, Kind};
 use local_lift::translate;
 use rule_local::{Context, Rule, check};
-use rule_trees::At;
 use simpl_lang::Simpl;
 use std::alloc::{AllocError, Global};
 use std::test::Fail;
+use test_tables::{Row, Rules, is_remark, tree};
 
 // The rules by name.
-const RULES: [(&str, Rule); 13] = [
-    ("skip", Rule::Skip),
-    ("set", Rule::Set),
-    ("dead", Rule::Dead),
-    ("global", Rule::Global),
-    ("memory", Rule::Memory),
-    ("pick", Rule::Pick),
-    ("seq", Rule::Seq),
-    ("cond", Rule::Cond),
-    ("guard", Rule::Guard),
-    ("while", Rule::While),
-    ("call", Rule::Call),
-    ("void", Rule::Void),
-    ("start", Rule::Start),
-];
+struct LocalRules;
+
+impl Rules for LocalRules {
+    type Rule = Rule;
+
+    fn named(_: Global, name: &str) -> Result<Rule, Fail> {
+        Ok(match name {
+            "skip" => Rule::Skip,
+            "set" => Rule::Set,
+            "dead" => Rule::Dead,
+            "global" => Rule::Global,
+            "memory" => Rule::Memory,
+            "pick" => Rule::Pick,
+            "seq" => Rule::Seq,
+            "cond" => Rule::Cond,
+            "guard" => Rule::Guard,
+            "while" => Rule::While,
+            "call" => Rule::Call,
+            "void" => Rule::Void,
+            "start" => Rule::Start,
+            _ => return Err(Fail::from("no such rule")),
+        })
+    }
+}
 
 fn binder(alloc: Global, name: &str, kind: Kind) -> Result<Binder, AllocError> {
     Ok(Binder {
@@ -57,165 +65,90 @@ fn locals(alloc: Global) -> Result<Vec<Binder>, AllocError> {
     Ok(locals)
 }
 
-// The first bad node, where these are the outputs.
-fn bad_node(
-    alloc: Global,
-    rules: &str,
-    left: &str,
-    right: &str,
-    outputs: &[&str],
-) -> Result<Option<u32>, Fail> {
+// Whether the kernel says what a row does, where this is the output.
+fn agrees(alloc: Global, output: &str, row: &Row<'_>) -> Result<bool, Fail> {
     let locals = locals(alloc)?;
     let parameters = parameters(alloc)?;
     let context = Context {
         locals: &locals,
         parameters: &parameters,
     };
-    let mut given = Vec::new(alloc);
-    for name in outputs {
-        given.push(String::from_str(alloc, name)?)?;
-    }
-    let tree = tree(alloc, &RULES, rules)?;
-    let left = command(alloc, left)?;
-    let right = program(alloc, right)?;
-    Ok(match check(&tree, &left, &right, &given, context) {
-        Ok(()) => None,
-        Err(At(at)) => Some(at),
-    })
+    let mut outputs = Vec::new(alloc);
+    outputs.push(String::from_str(alloc, output)?)?;
+    let t = tree::<LocalRules>(alloc, row.rules)?;
+    let left = command(alloc, row.left)?;
+    let right = program(alloc, row.right)?;
+    Ok(row.says(check(&t, &left, &right, &outputs, context)))
 }
+
+// The same of a line.
+fn is_so(alloc: Global, line: &str) -> Result<bool, Fail> {
+    match line.split_once(" | ") {
+        Some((output, cells)) => agrees(alloc, output, &Row::read(cells)?),
+        None => Ok(is_remark(line)),
+    }
+}
+
+const INSTANCES: &str = "\
+a | skip | skip | 1ret a | ok
+x | set | set | 1ret one | ok
+a | dead | set | 1ret a | ok
+a | global | gset | 0bind gset 1ret a | ok
+a | memory | store | 0bind store 1ret a | ok
+x | pick | pick | 1bind pick x 1ret x | ok
+x | 2seq set skip | seq set skip | 1bind 1ret one x 1ret x | ok
+a | 2seq dead skip | seq set skip | 0bind 0ret 1ret a | ok
+x | 2cond set pick | cond set pick | if e 1ret one 1bind pick x 1ret x | ok
+x | 1guard set | guard set | 0bind guard g 1ret one | ok
+x | 1start 1while set | while set | 1bind 1ret zero x 1bind 1loop 1ret one x x 1ret x | ok
+a | 1while dead | while set | 0bind 0loop 0ret 1ret a | ok
+x | 1start call | call | 1bind 1ret zero x 1bind call x 1ret x | ok
+x | 1start skip | skip | 1bind 1ret zero x 1ret x | ok
+# the body of a function that returns a constant, once exceptions are taken out of it
+$ret | 2seq 2seq 2seq set 2seq dead set 2cond skip 1guard skip dead | \
+    seq seq seq set_ret seq set_exn raise cond_thrown skip guard_unreached skip clear | \
+    1bind 2bind 1bind 1ret one $ret 0bind 0ret 2ret $ret true $ret $thrown if $thrown 1ret $ret 0bind guard false 1ret $ret $ret 1ret $ret | \
+    ok";
 
 #[test]
 fn instances_of_each_rule(rt: HostRuntime) -> Result<(), Fail> {
-    let rows = [
-        ("skip", "skip", "1ret a", "a"),
-        ("set", "set", "1ret one", "x"),
-        ("dead", "set", "1ret a", "a"),
-        ("global", "gset", "0bind gset 1ret a", "a"),
-        ("memory", "store", "0bind store 1ret a", "a"),
-        ("pick", "pick", "1bind pick x 1ret x", "x"),
-        (
-            "2seq set skip",
-            "seq set skip",
-            "1bind 1ret one x 1ret x",
-            "x",
-        ),
-        ("2seq dead skip", "seq set skip", "0bind 0ret 1ret a", "a"),
-        (
-            "2cond set pick",
-            "cond set pick",
-            "if e 1ret one 1bind pick x 1ret x",
-            "x",
-        ),
-        ("1guard set", "guard set", "0bind guard g 1ret one", "x"),
-        (
-            "1start 1while set",
-            "while set",
-            "1bind 1ret zero x 1bind 1loop 1ret one x x 1ret x",
-            "x",
-        ),
-        ("1while dead", "while set", "0bind 0loop 0ret 1ret a", "a"),
-        (
-            "1start call",
-            "call",
-            "1bind 1ret zero x 1bind call x 1ret x",
-            "x",
-        ),
-        ("1start skip", "skip", "1bind 1ret zero x 1ret x", "x"),
-    ];
-    for (rules, left, right, output) in rows {
-        let found = bad_node(rt.alloc(), rules, left, right, &[output])?;
-        assert!(rt; found == None, "{rules}");
+    for line in INSTANCES.lines() {
+        assert!(rt; is_so(rt.alloc(), line)?, "{line}");
     }
     Ok(())
 }
+
+const OTHERS: &str = "\
+a | set | skip | 1ret a | 0
+a | skip | skip | 1ret p | 0
+a | skip | skip | 2ret a a | 0
+a | 1skip skip | skip | 1ret a | 0
+x | dead | set | 1ret one | 0
+a | set | set | 1ret a | 0
+x | set | set | 1ret zero | 0
+a | memory | gset | 0bind gset 1ret a | 0
+a | global | gset | 0bind store 1ret a | 0
+x | pick | pick | 1bind pick y 1ret x | 0
+x | 2seq dead skip | seq set skip | 0bind 0ret 1ret x | 0
+x | 2seq skip set | seq set set | 1bind 1ret one x 1ret one | 1
+x | 2seq set skip | seq set set | 1bind 1ret one x 1ret one | 2
+x | 1seq set | seq set skip | 1bind 1ret one x 1ret x | 0
+x | 2cond set pick | cond set pick | if g 1ret one 1bind pick x 1ret x | 0
+x | 1guard set | guard set | 0bind guard h 1ret one | 0
+# a loop that leaves out a live local
+x | 1start 1while dead | while set | 1bind 1ret zero x 0bind 0loop 0ret 1ret x | 1
+# a start that sets a parameter to zero, and one with another value
+a | 1start skip | skip | 1bind 1ret zero a 1ret a | 0
+x | 1start skip | skip | 1bind 1ret one x 1ret x | 0
+# no start, and one that isn't at the root
+x | skip | skip | 1ret x | 0
+x | 1guard 1start skip | guard skip | 0bind guard g 1bind 1ret zero x 1ret x | 1";
 
 #[test]
 fn nodes_that_are_no_instances(rt: HostRuntime) -> Result<(), Fail> {
-    let rows = [
-        ("set", "skip", "1ret a", "a", 0),
-        ("skip", "skip", "1ret p", "a", 0),
-        ("skip", "skip", "2ret a a", "a", 0),
-        ("1skip skip", "skip", "1ret a", "a", 0),
-        ("dead", "set", "1ret one", "x", 0),
-        ("set", "set", "1ret a", "a", 0),
-        ("set", "set", "1ret zero", "x", 0),
-        ("memory", "gset", "0bind gset 1ret a", "a", 0),
-        ("global", "gset", "0bind store 1ret a", "a", 0),
-        ("pick", "pick", "1bind pick y 1ret x", "x", 0),
-        (
-            "2seq dead skip",
-            "seq set skip",
-            "0bind 0ret 1ret x",
-            "x",
-            0,
-        ),
-        (
-            "2seq skip set",
-            "seq set set",
-            "1bind 1ret one x 1ret one",
-            "x",
-            1,
-        ),
-        (
-            "2seq set skip",
-            "seq set set",
-            "1bind 1ret one x 1ret one",
-            "x",
-            2,
-        ),
-        (
-            "1seq set",
-            "seq set skip",
-            "1bind 1ret one x 1ret x",
-            "x",
-            0,
-        ),
-        (
-            "2cond set pick",
-            "cond set pick",
-            "if g 1ret one 1bind pick x 1ret x",
-            "x",
-            0,
-        ),
-        ("1guard set", "guard set", "0bind guard h 1ret one", "x", 0),
-        // a loop that leaves out a live local
-        (
-            "1start 1while dead",
-            "while set",
-            "1bind 1ret zero x 0bind 0loop 0ret 1ret x",
-            "x",
-            1,
-        ),
-        // a start that sets a parameter to zero, and one with another value
-        ("1start skip", "skip", "1bind 1ret zero a 1ret a", "a", 0),
-        ("1start skip", "skip", "1bind 1ret one x 1ret x", "x", 0),
-        // no start, and one that isn't at the root
-        ("skip", "skip", "1ret x", "x", 0),
-        (
-            "1guard 1start skip",
-            "guard skip",
-            "0bind guard g 1bind 1ret zero x 1ret x",
-            "x",
-            1,
-        ),
-    ];
-    for (rules, left, right, output, at) in rows {
-        let found = bad_node(rt.alloc(), rules, left, right, &[output])?;
-        assert!(rt; found == Some(at), "{rules}: {left}");
+    for line in OTHERS.lines() {
+        assert!(rt; is_so(rt.alloc(), line)?, "{line}");
     }
-    Ok(())
-}
-
-// The body of a function that returns a constant, once exceptions are taken out of it.
-#[test]
-fn a_returned_constant(rt: HostRuntime) -> Result<(), Fail> {
-    let rules = "2seq 2seq 2seq set 2seq dead set 2cond skip 1guard skip dead";
-    let left = "seq seq seq set_ret seq set_exn raise cond_thrown skip guard_unreached skip clear";
-    let set = "1bind 1ret one $ret 0bind 0ret 2ret $ret true";
-    let rest = "if $thrown 1ret $ret 0bind guard false 1ret $ret";
-    let right = format!(in rt.alloc(); "1bind 2bind {set} $ret $thrown {rest} $ret 1ret $ret")?;
-    let found = bad_node(rt.alloc(), rules, left, right.as_str(), &["$ret"])?;
-    assert!(rt; found == None);
     Ok(())
 }
 

@@ -1,13 +1,13 @@
-//! Commands, programs and trees of rules from words, heads before their parts (Polish notation).
+//! Commands and programs from words, heads before their parts (Polish notation).
 //! The words are read from the last to the first, with a stack for what has been read.
 
 use c_values::{CType, IntType, Word};
 use expression_lang::{Exp, Kind, Path};
 use monad_lang::{Mon, Place, Start};
-use rule_trees::Tree;
 use simpl_lang::{Condition, GuardKind, Simpl};
 use std::alloc::{AllocError, Global};
 use std::test::Fail;
+use test_tables::counted;
 
 fn text(alloc: Global, text: &str) -> Result<String, AllocError> {
     String::from_str(alloc, text)
@@ -152,49 +152,6 @@ pub(crate) fn command(alloc: Global, words: &str) -> Result<Simpl, Fail> {
         stack.push(read)?;
     }
     popped(&mut stack)
-}
-
-/// The tree that words spell, whose rules have these names: a rule, and in front of one with parts
-/// how many, as
-/// `2seq_plain set throw`.
-pub(crate) fn tree<R: Copy>(
-    alloc: Global,
-    rules: &[(&str, R)],
-    words: &str,
-) -> Result<Tree<R>, Fail> {
-    let mut stack = Vec::new(alloc);
-    for word in words.rsplit(' ') {
-        let (count, name) = counted(word);
-        let mut parts = Vec::new(alloc);
-        for _ in 0..count {
-            parts.push(popped(&mut stack)?)?;
-        }
-        stack.push(Tree {
-            rule: rule(rules, name)?,
-            parts,
-        })?;
-    }
-    popped(&mut stack)
-}
-
-// The rule of a name.
-fn rule<R: Copy>(rules: &[(&str, R)], name: &str) -> Result<R, Fail> {
-    for (known, rule) in rules {
-        if *known == name {
-            return Ok(*rule);
-        }
-    }
-    Err(Fail::from("no such rule"))
-}
-
-// A word with a number in front, and without one.
-fn counted(word: &str) -> (u32, &str) {
-    for (digit, count) in [('0', 0u32), ('1', 1), ('2', 2), ('3', 3)] {
-        if let Some(name) = word.strip_prefix(digit) {
-            return (count, name);
-        }
-    }
-    (0, word)
 }
 
 // An expression without parts: a constant or a name.

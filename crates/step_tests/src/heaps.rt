@@ -1,8 +1,7 @@
-//! Tests of the rules that take programs on bytes to typed heaps. `tables` says
+//! Tests of the rules that take programs on bytes to typed heaps. `test_tables` says
 //! what is in a row, and `notation` what the words are. Nothing is known at first.
 
 use crate::notation::program_of;
-use crate::tables::{Named, is_remark, row, tree};
 use ac_expr::Facts;
 use c_values::{Layout, Target};
 use expression_lang::{Exp, Names};
@@ -12,13 +11,19 @@ use rule_heap::{Context, Rule, check};
 use rule_trees::{At, Tree};
 use std::alloc::{AllocError, Global};
 use std::test::Fail;
+use test_tables::{Row, Rules, is_remark, tree};
 
 // An address that a rule says, by its name.
 fn address(alloc: Global, name: &str) -> Result<Box<Exp>, AllocError> {
     Ok(Box::new(alloc, Exp::Var(String::from_str(alloc, name)?))?)
 }
 
-impl Named for Rule {
+// The rules by name.
+struct HeapRules;
+
+impl Rules for HeapRules {
+    type Rule = Rule;
+
     fn named(alloc: Global, name: &str) -> Result<Rule, Fail> {
         Ok(match name {
             "ret" => Rule::Ret,
@@ -65,9 +70,9 @@ pub(crate) fn is_so(alloc: Global, line: &str) -> Result<bool, Fail> {
     if is_remark(line) {
         return Ok(true);
     }
-    let row = row(line)?;
+    let row = Row::read(line)?;
     let l = Layout::build(Target::Ilp32, Vec::new(alloc))?;
-    let t = tree(alloc, row.rules)?;
+    let t = tree::<HeapRules>(alloc, row.rules)?;
     let left = program_of(alloc, row.left)?;
     let right = program_of(alloc, row.right)?;
     Ok(row.says(verdict(&l, &t, &left, &right)))

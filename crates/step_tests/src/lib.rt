@@ -11,6 +11,4 @@ mod notation;
 #[cfg(test)]
 mod sizes;
 #[cfg(test)]
-mod tables;
-#[cfg(test)]
 mod words;

@@ -2,7 +2,6 @@
 //! read from the last to the first, with a stack for what has been read. Words are of 32 bits where
 //! nothing else is said, and objects of type `int`.
 
-use crate::tables::counted;
 use c_values::{
     CType, IntType, Number, NumberOp, ShiftOp, UnaryOp, Word, WordOp, WordTest, copy_of,
 };
@@ -10,6 +9,7 @@ use expression_lang::{CastOp, Exp, Kind, Path};
 use monad_lang::{Mon, Place, Start};
 use std::alloc::{AllocError, Global};
 use std::test::Fail;
+use test_tables::counted;
 
 /// What a word with its parts spells.
 #[derive(Drop)]

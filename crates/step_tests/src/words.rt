@@ -1,10 +1,9 @@
 //! Tests of the rules that make numbers of words. In front of a row stands the kind of what a function
-//! gives; `tables` says what else is in it, and `notation` what the words are. The function has the natural numbers `a` and `b`, the integers `i` and
+//! gives; `test_tables` says what else is in it, and `notation` what the words are. The function has the natural numbers `a` and `b`, the integers `i` and
 //! `j`, the words `p` and `q` and the truth value `t`; it may call `f`, which takes a natural number
 //! and gives one.
 
 use crate::notation::{int, program_of};
-use crate::tables::{Named, Row, is_remark, row, tree};
 use acceptance::{are_results, check_words, gives_on_words};
 use c_values::{GlobalVar, Layout, Target, Value, Word};
 use expression_lang::{Binder, Kind, Level, Signature};
@@ -15,6 +14,7 @@ use rule_word::{Context, Rule};
 use simpl_lang::SimplUnit;
 use std::alloc::{AllocError, Global};
 use std::test::Fail;
+use test_tables::{Row, Rules, is_remark, tree};
 use word_abstract::{FunctionKinds, translate};
 
 // The kinds of a name, of 32 bits.
@@ -88,7 +88,12 @@ fn expression_rule(name: &str) -> Result<Rule, Fail> {
     })
 }
 
-impl Named for Rule {
+// The rules by name.
+struct WordRules;
+
+impl Rules for WordRules {
+    type Rule = Rule;
+
     fn named(alloc: Global, name: &str) -> Result<Rule, Fail> {
         match program_rule(alloc, name)? {
             Some(rule) => Ok(rule),
@@ -189,7 +194,7 @@ fn verdict(
 fn agrees(alloc: Global, kind: &str, row: &Row<'_>) -> Result<bool, Fail> {
     let u = unit(alloc)?;
     let s = signature(alloc, given(kind)?)?;
-    let t = tree(alloc, row.rules)?;
+    let t = tree::<WordRules>(alloc, row.rules)?;
     let left = program_of(alloc, row.left)?;
     let right = program_of(alloc, row.right)?;
     let level = if right.is_heaps() {
@@ -203,7 +208,7 @@ fn agrees(alloc: Global, kind: &str, row: &Row<'_>) -> Result<bool, Fail> {
 /// The same of a line.
 pub(crate) fn is_so(alloc: Global, line: &str) -> Result<bool, Fail> {
     match line.split_once(" | ") {
-        Some((kind, cells)) => agrees(alloc, kind, &row(cells)?),
+        Some((kind, cells)) => agrees(alloc, kind, &Row::read(cells)?),
         None => Ok(is_remark(line)),
     }
 }
@@ -212,7 +217,7 @@ pub(crate) fn is_so(alloc: Global, line: &str) -> Result<bool, Fail> {
 /// kernel accepts. The names `x` and `y` are natural numbers.
 pub(crate) fn is_made(alloc: Global, line: &str) -> Result<bool, Fail> {
     let (kind, cells) = line.split_once(" | ").ok_or("no kind")?;
-    let row = row(cells)?;
+    let row = Row::read(cells)?;
     let u = unit(alloc)?;
     let s = signature(alloc, given(kind)?)?;
     let mut locals = Vec::new(alloc);
@@ -457,7 +462,7 @@ fn no_sum_of_words_stays_among_numbers(rt: HostRuntime) -> Result<(), Fail> {
     let alloc = rt.alloc();
     let u = unit(alloc)?;
     let s = signature(alloc, Some(Kind::Nat(32)))?;
-    let t = tree(alloc, "1ret 1unat 2op 1word_nat var 1word_nat var")?;
+    let t = tree::<WordRules>(alloc, "1ret 1unat 2op 1word_nat var 1word_nat var")?;
     let left = program_of(alloc, "1ret wadd a b")?;
     let right = program_of(alloc, "1ret nat wadd word a word b")?;
     assert!(rt; verdict(&u, &s, Level::Words, &t, &left, &right)?.is_ok());
