@@ -1,7 +1,6 @@
 //! Tests of the rules that take programs on bytes to typed heaps. `test_tables` says
-//! what is in a row, and `notation` what the words are. Nothing is known at first.
+//! what is in a row, and `test_programs` what the words are. Nothing is known at first.
 
-use crate::notation::program_of;
 use ac_expr::Facts;
 use c_values::{Layout, Target};
 use expression_lang::{Exp, Names};
@@ -11,6 +10,7 @@ use rule_heap::{Context, Rule, check};
 use rule_trees::{At, Tree};
 use std::alloc::{AllocError, Global};
 use std::test::Fail;
+use test_programs::program_of;
 use test_tables::{Row, Rules, is_remark, tree};
 
 // An address that a rule says, by its name.

@@ -7,8 +7,6 @@ mod heaps;
 #[cfg(test)]
 mod lifted;
 #[cfg(test)]
-mod notation;
-#[cfg(test)]
 mod sizes;
 #[cfg(test)]
 mod words;

@@ -1,9 +1,8 @@
 //! Tests of the rules that make numbers of words. In front of a row stands the kind of what a function
-//! gives; `test_tables` says what else is in it, and `notation` what the words are. The function has the natural numbers `a` and `b`, the integers `i` and
+//! gives; `test_tables` says what else is in it, and `test_programs` what the words are. The function has the natural numbers `a` and `b`, the integers `i` and
 //! `j`, the words `p` and `q` and the truth value `t`; it may call `f`, which takes a natural number
 //! and gives one.
 
-use crate::notation::{int, program_of};
 use acceptance::{are_results, check_words, gives_on_words};
 use c_values::{GlobalVar, Layout, Target, Value, Word};
 use expression_lang::{Binder, Kind, Level, Signature};
@@ -14,6 +13,7 @@ use rule_word::{Context, Rule};
 use simpl_lang::SimplUnit;
 use std::alloc::{AllocError, Global};
 use std::test::Fail;
+use test_programs::{int, program_of};
 use test_tables::{Row, Rules, is_remark, tree};
 use word_abstract::{FunctionKinds, translate};
 

@@ -75,7 +75,7 @@ fn starts(alloc: Global, stack: &mut Stack, count: u32) -> Result<Vec<Start>, Fa
 }
 
 /// The type of objects.
-pub(crate) fn int() -> CType {
+pub fn int() -> CType {
     CType::Int(IntType::Int)
 }
 
@@ -99,6 +99,7 @@ fn constant(word: &str) -> Option<Exp> {
         "seven" => Some(Exp::Word(Word::new(32, 7))),
         "minus" => Some(Exp::Word(Word::new(32, 4_294_967_295))),
         "byte" => Some(Exp::Word(Word::new(8, 200))),
+        "n0" => Some(Exp::Number(Number::new(false, 0))),
         "n1" => Some(Exp::Number(Number::new(false, 1))),
         "n2" => Some(Exp::Number(Number::new(false, 2))),
         "n7" => Some(Exp::Number(Number::new(false, 7))),
@@ -228,6 +229,9 @@ fn step(alloc: Global, word: &str, count: u32, stack: &mut Stack) -> Result<Mon,
         "pick" => Mon::Pick(Kind::Word(32)),
         "pick_nat" => Mon::Pick(Kind::Nat(32)),
         "pick_int" => Mon::Pick(Kind::Int(32)),
+        "pick_byte" => Mon::Pick(Kind::Nat(8)),
+        "pick_seven" => Mon::Pick(Kind::Nat(7)),
+        "pick_truth" => Mon::Pick(Kind::Bool),
         "call" => Mon::Call(name(stack)?, exps(alloc, stack, count)?),
         "store" => Mon::Write(Place::Stored(int(), exp(stack)?, Path::Here), exp(stack)?),
         "write" => Mon::Write(Place::Written(int(), exp(stack)?, Path::Here), exp(stack)?),
@@ -281,6 +285,9 @@ fn read(alloc: Global, word: &str, stack: &mut Stack) -> Result<Spelled, Fail> {
         | "pick"
         | "pick_nat"
         | "pick_int"
+        | "pick_byte"
+        | "pick_seven"
+        | "pick_truth"
         | "call"
         | "store"
         | "write"
@@ -338,17 +345,9 @@ fn read_words(alloc: Global, words: &str) -> Result<Spelled, Fail> {
     }
 }
 
-/// The expression that words spell: names of one letter, constants, and heads before their parts.
-pub(crate) fn expression(alloc: Global, words: &str) -> Result<Exp, Fail> {
-    match read_words(alloc, words)? {
-        Spelled::Exp(e) => Ok(e),
-        Spelled::Program(_) => Err(Fail::from("an expression is wanted")),
-    }
-}
-
 /// The program that words spell. `2ret a b` gives two values, `1bind M x N` binds a name of M in N,
 /// `if e M N` asks e, `1loop x e g t M` begins with e under x, and `1call f a` calls f with a.
-pub(crate) fn program_of(alloc: Global, words: &str) -> Result<Mon, Fail> {
+pub fn program_of(alloc: Global, words: &str) -> Result<Mon, Fail> {
     match read_words(alloc, words)? {
         Spelled::Program(m) => Ok(m),
         Spelled::Exp(_) => Err(Fail::from("a program is wanted")),
