@@ -10,7 +10,7 @@ use Rattle.acceptance.proofs.calls.+calls_only_lifted.Given as goal
 
 abbrev pub invariant-down : goal.invariant-down
 invariant-down l = record {
-  same : calls_only (λ f. is_lifted_there (signature (map signature_of l.signatures.now) f)) (simpl_of l.rest)
-      ≡ calls_only (λ f. is_lifted_there (signature (map signature_of l.signatures.now) f)) (simpl_of l.body);
+  same : calls_only (λ f. is_lifted_there (signature (map signature_of l.signatures) f)) (simpl_of l.rest)
+      ≡ calls_only (λ f. is_lifted_there (signature (map signature_of l.signatures) f)) (simpl_of l.body);
   smaller : size-Simpl l.rest ≤ size-Simpl l.body;
 }
