@@ -118,7 +118,7 @@ pub(crate) struct Sides {
 }
 
 /// Those of a text's first function, at the level of words.
-pub(crate) fn sides(alloc: Global, text: &str) -> Result<Sides, Fail> {
+pub(crate) fn sides_of(alloc: Global, text: &str) -> Result<Sides, Fail> {
     let unit = generated(alloc, text, Target::Ilp32, Chosen::Words)?;
     let (bytes, heaps) = both_programs(alloc, &unit)?;
     Ok(Sides { unit, bytes, heaps })

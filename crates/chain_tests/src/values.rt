@@ -15,7 +15,7 @@ ghost use Rattle.expression_lang.specs.CodeExpression.{exp_of};
 ghost use Rattle.expression_lang.specs.CodeSort.{names_of, scalar_of, scope_of};
 ghost use Rattle.expression_lang.specs.CodeState.{IsScalar, AreScalars, scalar_of_value, scalars_with, scope_in};
 
-use crate::chain::sides;
+use crate::chain::sides_of;
 use c_memory::{ByteHeap, Heap, HeapFault};
 use c_values::{CType, Layout, Value, Word, is_object};
 use expression_lang::{Env, Exp, Names, Scalar, eval, sort_of};
@@ -231,7 +231,7 @@ fn tag(alloc: Global, (address, name): (u64, &str)) -> Result<(u64, CType), Allo
 
 // Whether a function returns its row's value on both heaps.
 fn is_returned(alloc: Global, row: &Row<'_>) -> Result<bool, Fail> {
-    let sides = sides(alloc, row.text)?;
+    let sides = sides_of(alloc, row.text)?;
     let expressions = match (returned(&sides.bytes), returned(&sides.heaps)) {
         (Some(left), Some(right)) => (left, right),
         _ => return Err(Fail::from("nothing is returned")),
