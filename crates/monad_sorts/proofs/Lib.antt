@@ -9,3 +9,4 @@ pub mod SameValues
 pub mod Positions
 pub mod ToldAt
 pub mod Weights
+pub mod SameGiven

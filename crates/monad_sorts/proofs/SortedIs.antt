@@ -38,7 +38,7 @@ fits_alone : (b : Bool) (ss : List Scalar) → b ≡ is_given (where_fits b (Som
 fits_alone true ss = refl
 fits_alone false ss = refl
 
-same_is : (ss ts : List Scalar) → same_told (somes ss) (somes ts) ≡ same_scalars ss ts
+pub same_is : (ss ts : List Scalar) → same_told (somes ss) (somes ts) ≡ same_scalars ss ts
 same_is [] [] = refl
 same_is [] (t ∷ ts) = refl
 same_is (s ∷ ss) [] = refl

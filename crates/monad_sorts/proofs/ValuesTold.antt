@@ -39,7 +39,7 @@ same_scalar_is NumberSort TruthSort h = absurd cc
 same_scalar_is TruthSort (WordSort n) h = absurd cc
 same_scalar_is TruthSort NumberSort h = absurd cc
 
-same_scalars_are : (as' bs : List Scalar) → same_scalars as' bs ≡ true → as' ≡ bs
+pub same_scalars_are : (as' bs : List Scalar) → same_scalars as' bs ≡ true → as' ≡ bs
 same_scalars_are [] [] h = refl
 same_scalars_are (a ∷ as') (b ∷ bs) h =
     let p = and_parts (same_scalar a b) (same_scalars as' bs) h in
@@ -47,7 +47,7 @@ same_scalars_are (a ∷ as') (b ∷ bs) h =
 same_scalars_are [] (b ∷ bs) h = absurd cc
 same_scalars_are (a ∷ as') [] h = absurd cc
 
-scalars_are : (ss : List Scalar) (o : Option (List Scalar)) → are_scalars ss o ≡ true → o ≡ Some ss
+pub scalars_are : (ss : List Scalar) (o : Option (List Scalar)) → are_scalars ss o ≡ true → o ≡ Some ss
 scalars_are ss (Some ts) h = ap (λ cs. Some cs) (sym (same_scalars_are ss ts h))
 scalars_are ss None h = absurd cc
 

@@ -4,7 +4,7 @@ ghost use Rattle.std.specs.Prelude.{◌≡◌};
 ghost use Rattle.std.specs.Option.{option_map};
 ghost use Rattle.expression_lang.specs.CodeSort.{scalar_of};
 ghost use Rattle.monad_lang.specs.CodeProgram.{mon_of};
-ghost use Rattle.monad_sorts.specs.CodeTold.{values_told, told_at};
+ghost use Rattle.monad_sorts.specs.CodeTold.{values_told, told_at, names_after};
 ghost use Rattle.monad_sorts.specs.CodeInside.{setting_in, scalar_by, parameters_in, no_names, scalars_in};
 
 use crate::settings::Setting;
@@ -17,7 +17,7 @@ use program_sorts::Phase;
 /// What is in scope: a function's parameters, or what is in scope in a program with the names of so
 /// many last parts of it.
 #[derive(Drop)]
-pub(crate) enum Inside<'a> {
+pub enum Inside<'a> {
     Parameters(&'a [Binder], Phase),
     /// One link for any number of parts, since a chain with a link for each takes as much of the
     /// stack.
@@ -25,6 +25,14 @@ pub(crate) enum Inside<'a> {
 }
 
 impl<'a> Inside<'a> {
+    /// What is in scope after so many last parts of a program that stands here.
+    pub fn pass(&'a self, setting: Setting<'a>, m: &'a Mon, steps: usize) -> Inside<'a>
+        ensures { scalars_in result
+            ≡ names_after (setting_in setting.entry no_names) steps (scalars_in self.now) (mon_of m.now) }
+    {
+        Inside::Passed(self, setting, m, steps)
+    }
+
     /// What is told, with the names in scope.
     pub(crate) fn scalar_told(&self, told: Told<'_>) -> Option<Scalar>
         ensures { option_map scalar_of result ≡ scalar_by (scalars_in self.now) told.entry }

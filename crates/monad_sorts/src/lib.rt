@@ -1,4 +1,5 @@
-//! Which monadic programs are well-sorted, and which units are well-formed.
+//! Which monadic programs are well-sorted, which give values of the same scalars, and which units
+//! are well-formed.
 //!
 //! Nothing here takes memory. So what is in scope is no table: a scope says how far into a program
 //! the place lies, and a name is found again in the program whenever it is asked for. One look goes
@@ -8,6 +9,7 @@
 #![tactic(auto)]
 
 mod counts;
+mod given;
 mod inside;
 mod names;
 mod parts;
@@ -19,4 +21,7 @@ mod tell;
 mod values;
 mod well_formed;
 
+pub use given::{give_same, gives_as};
+pub use inside::Inside;
+pub use settings::{Functions, Setting};
 pub use well_formed::{is_body_sorted, is_program_sorted, is_well_formed};

@@ -7,16 +7,16 @@ use program_sorts::Phase;
 
 /// The functions that programs may call.
 #[derive(Clone, Copy)]
-pub(crate) enum Functions<'a> {
+pub enum Functions<'a> {
     Programs(&'a [FinalFn]),
     Signatures(&'a [Signature]),
 }
 
 /// Structs, globals and functions that programs may name, in a phase.
 #[derive(Clone, Copy)]
-pub(crate) struct Setting<'a> {
-    pub(crate) layout: &'a Layout,
-    pub(crate) globals: &'a [GlobalVar],
-    pub(crate) functions: Functions<'a>,
-    pub(crate) phase: Phase,
+pub struct Setting<'a> {
+    pub layout: &'a Layout,
+    pub globals: &'a [GlobalVar],
+    pub functions: Functions<'a>,
+    pub phase: Phase,
 }

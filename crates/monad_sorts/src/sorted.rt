@@ -174,9 +174,9 @@ fn is_call_sorted(name: &str, arguments: &[Exp], inside: &Inside<'_>, setting: S
     }
 }
 
-// Whether two programs give as many values, of the same scalars.
+/// Whether two programs give as many values, of the same scalars.
 #[inline(never)]
-fn same_values(
+pub(crate) fn same_values(
     m: &Mon,
     inside: &Inside<'_>,
     other: &Mon,

@@ -1,8 +1,7 @@
 -- A program that is decided to give values of its result's kind does.
-use Rattle.std.proofs.Common.{map, List, [], ◌∷◌, Option, sym, ap, ◌∙◌}
+use Rattle.std.proofs.Common.{map, [], ◌∷◌, sym, ap, ◌∙◌}
 use Rattle.std.specs.Option.{option_map}
 use Rattle.c_values.specs.CodeValue.{global_of}
-use Rattle.expression_lang.specs.Sort.{Kind, Scalar}
 use Rattle.expression_lang.specs.Sorted.{result_scalars}
 use Rattle.expression_lang.specs.CodeExpression.{kind_of}
 use Rattle.expression_lang.specs.CodeSignature.{signature_of}
