@@ -31,8 +31,12 @@ use std::alloc::{AllocError, Global};
 /// rules that shows it. Of the rules for a sequence, a loop and a catch the plain one is taken
 /// where the first part or the body is quiet, else, for a catch whose handler is a skip, the one
 /// for that, else the one with a test. There is no answer only where memory is wanting.
-#[tactic(auto, using(crate::proofs::Translated::taken, crate::proofs::Translated::flat, crate::proofs::Translated::sorted))]
+#[tactic(auto, using(crate::proofs::Translated::right, crate::proofs::Translated::tree, crate::proofs::Translated::taken, crate::proofs::Translated::flat, crate::proofs::Translated::sorted))]
 pub fn translate(alloc: Global, left: &Simpl) -> Result<(Box<Simpl>, Tree<Rule>), AllocError>
+    ensures right { IfOk result (λ (right, tree).
+        simpl_of right.value ≡ (spec.exceptions_eliminated (simpl_of left.now)).right) }
+    ensures tree { IfOk result (λ (right, tree).
+        tree_of tree ≡ (spec.exceptions_eliminated (simpl_of left.now)).tree) }
     ensures taken { IfOk result (λ (right, tree).
         Takes (tree_of tree) (simpl_of left.now) (simpl_of right.value)) }
     ensures flat { IfOk result (λ (right, tree). is_flat (simpl_of right.value) ≡ true) }
