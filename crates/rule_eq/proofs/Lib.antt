@@ -18,3 +18,15 @@ pub mod SimplerKept
 pub mod SimplerForms
 pub mod FormsKept
 pub mod TidyPlaces
+pub mod Putting
+pub mod ProgramPutting
+pub mod Capturing
+pub mod Taking
+pub mod Simpler
+pub mod StartNames
+pub mod OneApart
+pub mod Fitting
+pub mod DirectParts
+pub mod Along
+pub mod Walked
+pub mod States
