@@ -8,4 +8,4 @@ mod steps;
 
 pub use forms::{are_results, gives_on_words, has_result};
 pub use laws::verdicts_decide;
-pub use steps::{check_exceptions, check_heaps, check_locals, check_words};
+pub use steps::{check_equal, check_exceptions, check_heaps, check_locals, check_words};
