@@ -18,7 +18,7 @@ pub mod SimplerKept
 pub mod SimplerForms
 pub mod FormsKept
 pub mod TidyPlaces
-pub mod Putting
+pub mod PutParts
 pub mod ProgramPutting
 pub mod Capturing
 pub mod Taking

@@ -2,7 +2,7 @@
 use Rattle.std.proofs.Common.{◌≡◌, ◌↔◌, ◌==◌, suc, Bool, true, false, List, [], ◌∷◌, ◌++◌, map, length, if◌then◌else◌, refl, sym, ap, ap₂, ◌∙◌, eqb-true, arith}
 use Rattle.c_values.specs.Name.{Name, is_among}
 use Rattle.expression_lang.specs.Expression.{Exp, Path, Here, IntoField, IntoElement}
-use Rattle.ac_expr.specs.Heads.{path_head, path_children}
+use Rattle.ac_expr.specs.Heads.{hole, path_head, path_children}
 use Rattle.ac_expr.specs.Substituted.{substituted, path_substituted}
 use Rattle.ac_expr.proofs.HeadsAgree.{first, others, path_filled, left_by}
 use Rattle.monad_lang.specs.Program as M
@@ -10,7 +10,7 @@ use Rattle.monad_lang.specs.Program.{Mon, Place, Stored, Written, Global, Start}
 use Rattle.monad_lang.specs.Run.{start_names}
 use Rattle.program_facts.specs.Places.{place_head, place_children}
 use Rattle.program_facts.specs.Substituted.{each_substituted, starts_substituted, place_substituted, program_substituted}
-use Rattle.rule_eq.proofs.Putting.{path_head_put, put_before}
+use Rattle.rule_eq.proofs.PutParts.{path_head_put, put_before}
 
 -- one program of another's parts is so where its own last part is
 
@@ -101,8 +101,8 @@ module _ (x : Name) (e : Exp) where
   value_whole (Global y path) a = ap first (left_after path (a ∷ []))
 
   head_put : (place : Place) → place_head (place_substituted x e place) ≡ place_head place
-  head_put (Stored t p path) = ap (λ q. Stored t _ q) (path_head_put x e path)
-  head_put (Written t p path) = ap (λ q. Written t _ q) (path_head_put x e path)
+  head_put (Stored t p path) = ap (λ q. Stored t hole q) (path_head_put x e path)
+  head_put (Written t p path) = ap (λ q. Written t hole q) (path_head_put x e path)
   head_put (Global y path) = ap (λ q. Global y q) (path_head_put x e path)
 
   exps_put : (place : Place) (a : Exp) → exps (place_substituted x e place) (substituted x e a) ≡ each_substituted x e (exps place a)

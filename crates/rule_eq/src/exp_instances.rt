@@ -190,8 +190,8 @@ fn is_guard_apart(
         ↔ StepApart (turn_of (mon_of turn.now) [] (point_in setting.entry facts.now inside.now))
         (exp_of guard.now) (exp_of other.now) }
 {
-    let names = inside.pass(setting, turn, 1);
-    is_apart(guard, other, setting, no_facts(facts), &names)
+    let names = (&*inside).pass(setting, turn, 1);
+    is_apart(guard, other, setting, no_facts(&*facts), &names)
 }
 
 // Whether tests are one step apart, in a loop with the guard.
@@ -213,8 +213,8 @@ fn is_test_apart(
         (point_in setting.entry facts.now inside.now)) (exp_of test.now) (exp_of other.now) }
 {
     let fact = Fact::Whole(guard);
-    let guarded = no_facts(facts).with(&fact);
-    let names = inside.pass(setting, turn, 1);
+    let guarded = no_facts(&*facts).with(&fact);
+    let names = (&*inside).pass(setting, turn, 1);
     is_apart(test, other, setting, &guarded, &names)
 }
 

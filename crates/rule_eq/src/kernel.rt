@@ -157,8 +157,8 @@ fn checked(
     let mut at = at;
     let mut count = 0;
     'along: loop {
-        let known = facts.pass(head, count);
-        let names = inside.pass(setting, whole, count as usize);
+        let known = (&*facts).pass(head, count);
+        let names = (&*inside).pass(setting, whole, count as usize);
         if !is_asked(&tree.rule, left, right, setting, &known, &names) {
             return Err(at);
         }
@@ -311,7 +311,7 @@ fn checked_knowing(
         (does (knowing (fact_of fact.now) (point_in setting.entry facts.now inside.now))
         (mon_of left.now) (mon_of right.now)) at result }
 {
-    let known = facts.with(fact);
+    let known = (&*facts).with(fact);
     checked(tree, left, right, setting, &known, inside, at)
 }
 
@@ -343,10 +343,10 @@ fn checked_turn(
         return Err(at);
     };
     let guarded = Fact::Whole(guard);
-    let first = no_facts(facts).with(&guarded);
+    let first = no_facts(&*facts).with(&guarded);
     let tested = Fact::Whole(test);
     let known = first.with(&tested);
-    let names = inside.pass(setting, right, 1);
+    let names = (&*inside).pass(setting, right, 1);
     checked(part, m, n, setting, &known, &names, next(at))
 }
 

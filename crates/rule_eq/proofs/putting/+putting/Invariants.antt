@@ -6,7 +6,7 @@ use Rattle.ac_expr.specs.Substituted.{substituted}
 use Rattle.ac_expr.specs.CodeApart.{IsAmong, size}
 use Rattle.ac_expr.specs.CodeHeads.{children_in}
 use Rattle.program_facts.specs.Substituted.{each_substituted}
-use Rattle.rule_eq.proofs.Putting.{sizes}
+use Rattle.rule_eq.proofs.PutParts.{sizes}
 use Rattle.rule_eq.proofs.putting.+putting.Given as goal
 
 abbrev pub invariant-is_put-down : goal.invariant-is_put-down

@@ -3,7 +3,7 @@
 use Rattle.std.proofs.Common.{◌≡◌, ◌≢◌, ◌↔◌, ◌<◌, ◌≤◌, ℕ, suc, ◌+◌, Bool, true, false, List, [], ◌∷◌, ◌++◌, Option, Some, None, unwrap_or, if◌then◌else◌, refl, sym, ap, ap₂, ◌∙◌, subst, arith}
 use Rattle.c_values.specs.Name.{Name}
 use Rattle.expression_lang.specs.Expression.{Exp, Var, WordLit, NumberLit, TruthLit, WordBinary, WordShift, WordUnary, WordCompare, Cast, ToNat, ToInt, ToWord, Arith, Negate, Lt, Le, Between, Eq, And, Or, Imp, Not, If, Padd, At, Load, Read, Tagged, PtrOk, Global, Sel, Upd, Path, Here, IntoField, IntoElement}
-use Rattle.ac_expr.specs.Heads.{head, children, path_head, path_children}
+use Rattle.ac_expr.specs.Heads.{hole, head, children, path_head, path_children}
 use Rattle.ac_expr.specs.Substituted.{substituted, path_substituted}
 use Rattle.ac_expr.specs.CodeApart.{size, path_size}
 use Rattle.ac_expr.proofs.HeadsAgree.{filled, whole}
@@ -14,7 +14,7 @@ module _ (x : Name) (e : Exp) where
   pub path_head_put : (path : Path) → path_head (path_substituted x e path) ≡ path_head path
   path_head_put Here = refl
   path_head_put (IntoField k path) = ap (λ p. IntoField k p) (path_head_put path)
-  path_head_put (IntoElement a path) = ap (λ p. IntoElement _ p) (path_head_put path)
+  path_head_put (IntoElement a path) = ap (λ p. IntoElement hole p) (path_head_put path)
 
   path_children_put : (path : Path) → path_children (path_substituted x e path) ≡ each_substituted x e (path_children path)
   path_children_put Here = refl
@@ -33,12 +33,12 @@ module _ (x : Name) (e : Exp) where
 
   pub head_put : (a : Exp) → is_it x a ≡ false → head (substituted x e a) ≡ head a
   head_put (Var y) h = ap (λ b. head (unwrap_or (if b then Some e else None) (Var y))) h
-  head_put (At t p path) h = ap (λ q. At t _ q) (path_head_put path)
-  head_put (Load t p path) h = ap (λ q. Load t _ q) (path_head_put path)
-  head_put (Read t p path) h = ap (λ q. Read t _ q) (path_head_put path)
+  head_put (At t p path) h = ap (λ q. At t hole q) (path_head_put path)
+  head_put (Load t p path) h = ap (λ q. Load t hole q) (path_head_put path)
+  head_put (Read t p path) h = ap (λ q. Read t hole q) (path_head_put path)
   head_put (Global y path) h = ap (λ q. Global y q) (path_head_put path)
-  head_put (Sel a path) h = ap (λ q. Sel _ q) (path_head_put path)
-  head_put (Upd a path v) h = ap (λ q. Upd _ q _) (path_head_put path)
+  head_put (Sel a path) h = ap (λ q. Sel hole q) (path_head_put path)
+  head_put (Upd a path v) h = ap (λ q. Upd hole q hole) (path_head_put path)
   head_put a h = refl
 
   pub children_put : (a : Exp) → is_it x a ≡ false → children (substituted x e a) ≡ each_substituted x e (children a)
