@@ -1,17 +1,18 @@
 -- What the kernel finds along a sequence: the claims of a rule's two parts, and the point behind.
-use Rattle.std.proofs.Common.{◌≡◌, ℕ, zero, suc, ◌+◌, Bool, true, false, List, [], ◌∷◌, Option, Some, None, refl, sym, ap, ap₂, ◌∙◌, subst, arith}
+use Rattle.std.proofs.Common.{◌≡◌, ℕ, zero, suc, ◌+◌, true, false, List, [], ◌∷◌, Option, refl, sym, ap, ap₂, ◌∙◌, arith}
 use Rattle.c_values.specs.Name.{Name}
+use Rattle.expression_lang.specs.Expression.{TruthLit}
 use Rattle.expression_lang.specs.Sort.{Scalar}
 use Rattle.ac_expr.specs.Fact.{Fact}
 use Rattle.ac_expr.specs.Passed.{Part, passed, after}
 use Rattle.monad_lang.specs.Program as M
 use Rattle.monad_lang.specs.Program.{Mon}
 use Rattle.monad_lang.specs.Sorted.{Setting}
-use Rattle.monad_sorts.specs.CodeTold.{with_names, names_into, names_after, last_part, part_after}
-use Rattle.program_facts.specs.Flow.{parts, part, facts_after}
+use Rattle.monad_sorts.specs.CodeTold.{with_names, names_after, last_part, part_after}
+use Rattle.program_facts.specs.Flow.{parts}
 use Rattle.rule_eq.specs.Rule as R
 use Rattle.rule_eq.specs.Rule.{Rule, Point, Claim, does}
-use Rattle.rule_eq.specs.Table.{point, behind, row}
+use Rattle.rule_eq.specs.Table.{point, row}
 use Rattle.rule_eq.specs.CodeFits.{IsSorted, Fits}
 use Rattle.rule_eq.specs.CodeSteps.{is_along, is_leaf, left_first, right_first, left_behind, right_behind, point_behind, passes, rest_of}
 use Rattle.rule_eq.proofs.Fitting.{bind_fits, between_fits, names_behind}
@@ -45,10 +46,10 @@ leaf_parts at R.BindRet (M.Bind m xs n) b s = refl
 leaf_parts at R.BindRet a b s = refl
 leaf_parts at R.Assoc (M.Bind (M.Bind a xs b) ys c) d s = refl
 leaf_parts at R.Assoc a b s = refl
-leaf_parts at R.IfConst a b s = if_const a b
-  where
-    if_const : (a b : Mon) → (row at R.IfConst a b).parts ≡ []
-    if_const a b = refl
+leaf_parts at R.IfConst (M.If (TruthLit true) m n) b s = refl
+leaf_parts at R.IfConst (M.If (TruthLit false) m n) b s = refl
+leaf_parts at R.IfConst a b s = refl
+leaf_parts at R.GuardKnown (M.Bind (M.Guard e) [] m) b s = refl
 leaf_parts at R.GuardKnown a b s = refl
 leaf_parts at R.Exp a b s = refl
 

@@ -25,9 +25,9 @@ unfree_none e x (M.Write place a) h = refl
 unfree_none e x (M.Call f es) h = refl
 unfree_none e x (M.Pick k) h = refl
 unfree_none e x (M.If a m n) h =
-    let o = or_parts (X.names x a) (is_free x m || is_free x n) h in
-    let q = or_parts (is_free x m) (is_free x n) o.1 in
-    ap₂ (λ b c. b || c) (unfree_none e x m q.0) (unfree_none e x n q.1)
+    let o = or_parts (X.names x a || is_free x m) (is_free x n) h in
+    let q = or_parts (X.names x a) (is_free x m) o.0 in
+    ap₂ (λ b c. b || c) (unfree_none e x m q.1) (unfree_none e x n o.1)
 unfree_none e x (M.Bind m xs n) h =
     let o = or_parts (is_free x m) (not (is_among x xs) && is_free x n) h in
     ap₂ (λ b c. b || c) (unfree_none e x m o.0)
@@ -37,7 +37,7 @@ unfree_none e x (M.Loop starts guard test m) h =
     let inside = X.names x guard || X.names x test || is_free x m in
     let o = or_parts (is_in_start x starts) (not among && inside) h in
     bound_none among (is_unnamed (start_names starts) e) inside (captures e x m) o.1
-    (λ i. unfree_none e x m (or_parts (X.names x test) (is_free x m) (or_parts (X.names x guard) (X.names x test || is_free x m) i).1).1)
+    (λ i. unfree_none e x m (or_parts (X.names x guard || X.names x test) (is_free x m) i).1)
 
 -- a binder of a name of the expression alone
 captured_alone : (among named free inner : Bool) → among ≡ false → named ≡ false → (free ≡ false → inner ≡ false) →
@@ -59,4 +59,4 @@ pub turn_captures : (e : Exp) (x : Name) (starts : List Start) (guard test : Exp
 turn_captures e x starts guard test m i k =
     captured_alone (is_among x (start_names starts)) (is_unnamed (start_names starts) e)
     (X.names x guard || X.names x test || is_free x m) (captures e x m) i k
-    (λ o. unfree_none e x m (or_parts (X.names x test) (is_free x m) (or_parts (X.names x guard) (X.names x test || is_free x m) o).1).1)
+    (λ o. unfree_none e x m (or_parts (X.names x guard || X.names x test) (is_free x m) o).1)

@@ -1,5 +1,5 @@
 -- The parts of sides that fit a point fit the points of the parts.
-use Rattle.std.proofs.Common.{◌≡◌, ℕ, suc, Bool, true, false, ◌&&◌, List, [], ◌∷◌, length, map, Option, Some, None, unwrap_or, refl, sym, ap, ap₂, ◌∙◌, subst}
+use Rattle.std.proofs.Common.{◌≡◌, ℕ, suc, true, ◌&&◌, List, [], length, Option, Some, unwrap_or, sym, ap, ◌∙◌, subst}
 use Rattle.std.proofs.lemmas.Bool.{and_parts, eqb-true}
 use Rattle.c_values.specs.Name.{Name, are_distinct}
 use Rattle.expression_lang.specs.Expression.{Exp}
@@ -10,11 +10,11 @@ use Rattle.monad_lang.specs.Program as M
 use Rattle.monad_lang.specs.Program.{Mon, Start}
 use Rattle.monad_lang.specs.Run.{start_names}
 use Rattle.monad_lang.specs.Sorted.{Setting, setting_with, scalars_given, start_scalars, are_scalars, one_for_each, where_fits}
-use Rattle.monad_sorts.specs.CodeTold.{starts_told, values_told, with_names, setting_given, names_into, names_after, part_after}
+use Rattle.monad_sorts.specs.CodeTold.{starts_told, values_told, with_names, names_into, names_after, part_after}
 use Rattle.monad_sorts.proofs.ToldSorts.{starts_are}
 use Rattle.monad_sorts.proofs.ValuesTold.{then_parts, fits_parts, scalars_are, names_length, somes_length, setting_is, values_are}
 use Rattle.rule_eq.specs.Rule.{Point}
-use Rattle.rule_eq.specs.Table.{point, behind, within, IsBetween}
+use Rattle.rule_eq.specs.Table.{behind, within, IsBetween}
 use Rattle.rule_eq.specs.CodeFits.{IsSorted, IsSomewhereSorted, Fits}
 
 -- what is well-sorted in a well-sorted program
@@ -65,17 +65,19 @@ turn_sorted t starts guard test m h =
     where_fits (are_distinct (start_names starts) && is_truth (program_sort inner.scope guard)
     && is_truth (program_sort inner.scope test) && are_scalars ss (scalars_given inner m)) (Some ss)) h.0 h.1 in
     let inner = setting_with (start_names starts) o.0 t in
-    let tests = is_truth (program_sort inner.scope test) && are_scalars o.0 (scalars_given inner m) in
-    let f = fits_parts (are_distinct (start_names starts) && is_truth (program_sort inner.scope guard) && tests) (Some o.0) h.0 o.2 in
-    let p = and_parts (are_distinct (start_names starts)) (is_truth (program_sort inner.scope guard) && tests) f.0 in
-    let q = and_parts (is_truth (program_sort inner.scope guard)) tests p.1 in
-    let r = and_parts (is_truth (program_sort inner.scope test)) (are_scalars o.0 (scalars_given inner m)) q.1 in
+    let before = are_distinct (start_names starts) && is_truth (program_sort inner.scope guard) in
+    let tests = before && is_truth (program_sort inner.scope test) in
+    let body = are_scalars o.0 (scalars_given inner m) in
+    let f = fits_parts (tests && body) (Some o.0) h.0 o.2 in
+    let p = and_parts tests body f.0 in
+    let q = and_parts before (is_truth (program_sort inner.scope test)) p.0 in
+    let r = and_parts (are_distinct (start_names starts)) (is_truth (program_sort inner.scope guard)) q.0 in
     record {
       given = o.0;
       begin = o.1;
-      guard_sorted = q.0;
-      test_sorted = r.0;
-      body = (o.0, scalars_are o.0 (scalars_given inner m) r.1);
+      guard_sorted = r.1;
+      test_sorted = q.1;
+      body = (o.0, scalars_are o.0 (scalars_given inner m) p.1);
     }
 
 given_is : (o : Option (List Scalar)) (ss : List Scalar) → o ≡ Some ss → ss ≡ unwrap_or o []

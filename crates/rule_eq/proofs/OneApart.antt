@@ -1,8 +1,8 @@
 -- Which rows of expressions are one step apart in one of them, by the first of both.
-use Rattle.std.proofs.Common.{◌≡◌, ◌≢◌, ◌↔◌, List, [], ◌∷◌, ◌⊎◌, inl, inr, refl, sym, ap, ap₂, ◌∙◌, subst}
+use Rattle.std.proofs.Common.{◌≡◌, ◌≢◌, ◌↔◌, List, [], ◌∷◌, ◌⊎◌, inl, inr, refl, sym, ap₂, ◌∙◌, subst}
 use Rattle.expression_lang.specs.Expression.{Exp}
 use Rattle.ac_expr.proofs.Apart.{one_is, is_one, none_left, none_right}
-use Rattle.ac_expr.specs.Step.{OneStepApart, OneOfThem, at_each}
+use Rattle.ac_expr.specs.Step.{at_each}
 use Rattle.rule_eq.specs.Rule.{Point}
 use Rattle.rule_eq.specs.Table.{OneApart, StepApart}
 

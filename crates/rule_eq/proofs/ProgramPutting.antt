@@ -3,7 +3,7 @@ use Rattle.std.proofs.Common.{◌≡◌, ◌↔◌, ◌==◌, suc, Bool, true, f
 use Rattle.c_values.specs.Name.{Name, is_among}
 use Rattle.expression_lang.specs.Expression.{Exp, Path, Here, IntoField, IntoElement}
 use Rattle.ac_expr.specs.Heads.{hole, path_head, path_children}
-use Rattle.ac_expr.specs.Substituted.{substituted, path_substituted}
+use Rattle.ac_expr.specs.Substituted.{substituted}
 use Rattle.ac_expr.proofs.HeadsAgree.{first, others, path_filled, left_by}
 use Rattle.monad_lang.specs.Program as M
 use Rattle.monad_lang.specs.Program.{Mon, Place, Stored, Written, Global, Start}
