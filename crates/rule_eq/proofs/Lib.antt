@@ -19,6 +19,7 @@ pub mod SimplerForms
 pub mod FormsKept
 pub mod TidyPlaces
 pub mod PutParts
+pub mod PutSays
 pub mod ProgramPutting
 pub mod Capturing
 pub mod Taking

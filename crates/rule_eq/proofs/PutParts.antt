@@ -1,6 +1,6 @@
 -- An expression with another one in place of a name has the head that it had, and its children with that in place of the name, but
 -- where it is the name itself.
-use Rattle.std.proofs.Common.{◌≡◌, ◌↔◌, ◌<◌, ℕ, ◌+◌, true, false, List, [], ◌∷◌, ◌++◌, Some, None, unwrap_or, if◌then◌else◌, refl, sym, ap, ap₂, ◌∙◌, arith}
+use Rattle.std.proofs.Common.{◌≡◌, ◌↔◌, ◌<◌, ◌≤◌, ℕ, ◌+◌, ◌*◌, true, false, List, [], ◌∷◌, ◌++◌, Some, None, unwrap_or, if◌then◌else◌, refl, sym, ap, ap₂, ◌∙◌, arith}
 use Rattle.c_values.specs.Name.{Name}
 use Rattle.expression_lang.specs.Expression.{Exp, Var, WordLit, NumberLit, TruthLit, WordBinary, WordShift, WordUnary, WordCompare, Cast, ToNat, ToInt, ToWord, Arith, Negate, Lt, Le, Between, Eq, And, Or, Imp, Not, If, Padd, At, Load, Read, Tagged, PtrOk, Global, Sel, Upd, Path, Here, IntoField, IntoElement}
 use Rattle.ac_expr.specs.Heads.{hole, head, children, path_head, path_children}
@@ -61,6 +61,23 @@ module _ (x : Name) (e : Exp) where
   pub other_head : (a b : Exp) → is_it x a ≡ false → (head b ≡ head a → ⊥) → b ≡ substituted x e a → ⊥
   other_head a b h i k = i (ap head k ∙ head_put a h)
 
+  -- by rows that are the children of both
+  pub row_put : (a b : Exp) (as' bs : List Exp) → is_it x a ≡ false → head b ≡ head a → as' ≡ children a → bs ≡ children b →
+      (bs ≡ each_substituted x e as') ↔ (b ≡ substituted x e a)
+  row_put a b as' bs h i r s =
+      let put = put_by_children a b h i in
+      let row = ap (λ es. each_substituted x e es) r in
+      ((λ j. put.0 (sym s ∙ j ∙ row)), (λ j. s ∙ put.1 j ∙ sym row))
+
+  -- what is left of two rows, behind the first of both
+  pub rest_put : (a b : Exp) (as' bs ones others ls rs : List Exp) → ones ≡ a ∷ as' → others ≡ b ∷ bs → b ≡ substituted x e a →
+      (others ≡ each_substituted x e ones) ↔ (rs ≡ each_substituted x e ls) → (bs ≡ each_substituted x e as') ↔ (rs ≡ each_substituted x e ls)
+  rest_put a b as' bs ones others ls rs h i k same =
+      let row = ap (λ es. each_substituted x e es) h in (
+        (λ j. same.0 (i ∙ ap₂ (λ c cs. c ∷ cs) k j ∙ sym row)),
+        (λ j. let all : b ∷ bs ≡ substituted x e a ∷ each_substituted x e as' = sym i ∙ same.1 j ∙ row in cc),
+      )
+
 -- how many heads there are in expressions
 abbrev pub sizes : List Exp → ℕ
 sizes [] = 0
@@ -109,3 +126,16 @@ children_smaller (PtrOk t p) = omega arith
 children_smaller (Global x path) = let h = path_sizes path in omega arith
 children_smaller (Sel e path) = let h = path_sizes path in omega arith
 children_smaller (Upd e path v) = let h = sizes_before path v in omega arith
+
+-- the children of what is left of an expression
+pub children_less : (a e : Exp) (es : List Exp) → es ≡ children a → size a ≤ size e → 2 * sizes es + 1 < 2 * size e
+children_less a e es h k =
+    let less = children_smaller a in
+    let many : sizes es ≡ sizes (children a) = ap sizes h in
+    omega arith
+
+-- behind the first of a row
+pub rest_less : (a : Exp) (as' ones ls : List Exp) → ones ≡ a ∷ as' → sizes ones ≤ sizes ls → sizes as' ≤ sizes ls
+rest_less a as' ones ls h k =
+    let many : sizes ones ≡ size a + sizes as' = ap sizes h in
+    omega arith

@@ -56,7 +56,7 @@ module _ (s : Start) (t : T.Tree C.Rule) (a b : Mon) (count at : ℕ) (state : S
   decided_here r h = state.decides r (subst (λ q. Checked table (tree_of t) (does q a b) at r) same h)
 
   pub is_refused : (asked : Bool) → asked ≡ false → (IsTrue asked ↔ (row p (rule_at t) a b).holds) → Whole s (Err at)
-  is_refused asked no says = decided_here (Err at) (refused t p a b asked at no says)
+  is_refused asked denied says = decided_here (Err at) (refused t p a b asked at denied says)
 
   module _ (along : is_along (rule_at t) ≡ true) (holds : (row p (rule_at t) a b).holds) where
     pub is_miscounted : (length (parts_at t) ≡ 2 → ⊥) → Whole s (Err at)
@@ -118,10 +118,11 @@ module _ (s : Start) (t : T.Tree C.Rule) (a b : Mon) (count at : ℕ) (state : S
         again q k a' b' i j f g =
             let base : here s.setting p.facts (names_after s.setting count s.names s.right) b 0 ≡ p =
             sym (ap₂ point refl (ap (λ (z : Point). z.setting) same)) in
+            let passed_here : k ≡ 0 + passes (rule_at t) = omega arith in
             let there : q ≡ point_behind (rule_at t) b p =
             j ∙ behind_is s.setting p.facts (names_after s.setting count s.names s.right) b 0 (rule_at t) a b k along
             (subst (λ z. (row z (rule_at t) a b).holds) (sym base) holds)
-            (subst (λ (z : Point). IsSorted z.setting b) (sym base) fits_here.right) i refl refl
+            (subst (λ (z : Point). IsSorted z.setting b) (sym base) fits_here.right) passed_here refl refl
             ∙ ap (λ z. point_behind (rule_at t) b z) base in (
               subst (λ (z : Point). Fits z.setting a' b') (sym there)
                   (subst (λ m. Fits (point_behind (rule_at t) b p).setting m b') (sym f)

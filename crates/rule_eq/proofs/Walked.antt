@@ -127,7 +127,7 @@ module _ (t : T.Tree C.Rule) (at : Point) (a b : Mon) (rule : rule_at t ≡ R.Lo
 
   pub body_fits : Fits at.setting a b → Fits (within starts' (Whole test' ∷ Whole guard' ∷ []) at).setting m m'
   body_fits f =
-      turn_fits at starts starts' guard guard' test test' m m' _
+      turn_fits at starts starts' guard guard' test test' m m' (Whole test' ∷ Whole guard' ∷ [])
       (subst (λ q. Fits at.setting (M.Loop starts guard test m) q) right (subst (λ q. Fits at.setting q b) left f))
 
   pub turn_onward : (u : T.Tree C.Rule) → parts_at t ≡ u ∷ [] → (from later : ℕ) (r : Result ℕ ℕ) → later ≡ next from →

@@ -52,7 +52,7 @@ fn is_free_inside(name: &str, guard: &Exp, test: &Exp, body: &Mon) -> bool
 /// Whether a binder of a name of the expression stands above a free place of the name. It goes along
 /// the last parts by a loop. Behind a binder of a name of the expression it asks once whether the
 /// name is free: where it isn't, nothing is captured there.
-#[tactic(auto, using(crate::proofs::Capturing::free_alone, crate::proofs::Capturing::turn_alone))]
+#[tactic(auto, using(crate::proofs::Capturing::bind_captures, crate::proofs::Capturing::turn_captures))]
 pub(crate) fn captures(e: &Exp, name: &str, m: &Mon) -> bool
     ensures { result ≡ captures (exp_of e.now) name.now (mon_of m.now) }
 {

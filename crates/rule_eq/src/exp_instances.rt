@@ -26,7 +26,7 @@ use program_facts::Parts;
 /// Whether two programs are the same but for one place of one expression that stands in them
 /// directly, which is one step away.
 #[inline(never)]
-#[tactic(auto, using(crate::proofs::DirectParts::ret_exps, crate::proofs::DirectParts::guard_exp, crate::proofs::DirectParts::if_exp, crate::proofs::DirectParts::call_exps, crate::proofs::DirectParts::write_row))]
+#[tactic(auto, using(crate::proofs::DirectParts::ret_sorted, crate::proofs::DirectParts::guard_sorted, crate::proofs::DirectParts::test_sorted, crate::proofs::DirectParts::call_sorted, crate::proofs::DirectParts::write_is_sorted, crate::proofs::DirectParts::left_fits, crate::proofs::DirectParts::right_fits))]
 pub(crate) fn is_exp_apart(
     left: &Mon,
     right: &Mon,

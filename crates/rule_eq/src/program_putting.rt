@@ -49,7 +49,7 @@ pub(crate) fn is_program_put(name: &str, value: &Exp, m: &Mon, right: &Mon) -> b
 }
 
 #[cycle(programs)]
-#[tactic(auto, using(crate::proofs::ProgramPutting::behind_bind, crate::proofs::ProgramPutting::behind_if))]
+#[tactic(auto, using(crate::proofs::ProgramPutting::bind_iff, crate::proofs::ProgramPutting::if_iff))]
 fn look<'a>(name: &str, value: &Exp, m: &'a Mon, right: &'a Mon) -> Looked<'a>
     ensures says { SaysOf name.now (exp_of value.now) result
         (program_substituted name.now (exp_of value.now) (mon_of m.now)) (mon_of right.now) }
@@ -145,7 +145,7 @@ pub(crate) fn is_started(name: &str, starts: &[Start]) -> bool
 }
 
 // Whether names and what they begin with are the first ones with the value put in.
-#[tactic(auto, using(crate::proofs::ProgramPutting::starts_end, crate::proofs::ProgramPutting::starts_go_on, crate::proofs::ProgramPutting::starts_short))]
+#[tactic(auto, using(crate::proofs::ProgramPutting::starts_end, crate::proofs::ProgramPutting::starts_go_on))]
 fn are_starts_put(name: &str, value: &Exp, starts: &[Start], others: &[Start]) -> bool
     ensures { IsTrue result ↔ (map start_of others.now
         ≡ starts_substituted name.now (exp_of value.now) (map start_of starts.now)) }
@@ -218,7 +218,7 @@ fn is_step_put(name: &str, value: &Exp, m: &Mon, right: &Mon) -> bool
 }
 
 // The same of what is written, and where.
-#[tactic(auto, using(crate::proofs::ProgramPutting::write_is, crate::proofs::ProgramPutting::is_write))]
+#[tactic(auto, using(crate::proofs::ProgramPutting::write_put))]
 fn is_write_put(
     name: &str,
     value: &Exp,

@@ -16,7 +16,7 @@ use monad_lang::{Mon, is_free, is_in};
 
 /// Whether the value at a position may stand in a program in place of its name, and the right side
 /// is the program with it.
-#[tactic(auto, using(crate::proofs::Taking::is_taken, crate::proofs::Taking::not_taken))]
+#[tactic(auto, using(crate::proofs::Taking::found, crate::proofs::Taking::taken_is, crate::proofs::Taking::no_value, crate::proofs::Taking::no_name, crate::proofs::Taking::not_taken))]
 pub(crate) fn is_taken(
     position: usize,
     values: &[Exp],
@@ -39,7 +39,7 @@ pub(crate) fn is_taken(
 }
 
 // Whether the value may stand in the program in place of its name.
-#[tactic(auto, using(crate::proofs::Taking::stands, crate::proofs::Taking::state_stands, crate::proofs::Taking::others_stand, crate::proofs::Taking::captured_stands))]
+#[tactic(auto, using(crate::proofs::Taking::stands, crate::proofs::Taking::stands_uncaptured, crate::proofs::Taking::stands_apart))]
 fn can_stand(value: &Exp, name: &str, names: &[String], position: usize, m: &Mon) -> bool
     ensures { (exps : List plain.Exp) → IsTrue result ↔ CanStand (record {
       exp = exp_of value.now;
@@ -104,7 +104,7 @@ fn is_right(
 }
 
 // Whether expressions are these without the one at a position.
-#[tactic(auto, using(crate::proofs::Taking::without_end, crate::proofs::Taking::without_first, crate::proofs::Taking::without_more, crate::proofs::Taking::without_short))]
+#[tactic(auto, using(crate::proofs::Taking::without_end, crate::proofs::Taking::without_other, crate::proofs::Taking::without_more, crate::proofs::Taking::without_short))]
 fn same_exps_but(exps: &[Exp], position: usize, others: &[Exp]) -> bool
     ensures { IsTrue result ↔ (map exp_of others.now ≡ without position (map exp_of exps.now)) }
 {
@@ -129,7 +129,7 @@ fn same_exps_but(exps: &[Exp], position: usize, others: &[Exp]) -> bool
 }
 
 // The same of names.
-#[tactic(auto, using(crate::proofs::Taking::without_end, crate::proofs::Taking::without_first, crate::proofs::Taking::without_more, crate::proofs::Taking::without_short))]
+#[tactic(auto, using(crate::proofs::Taking::without_end, crate::proofs::Taking::without_other, crate::proofs::Taking::without_more, crate::proofs::Taking::without_short))]
 fn same_names_but(names: &[String], position: usize, others: &[String]) -> bool
     ensures { IsTrue result
         ↔ (map string_bytes others.now ≡ without position (map string_bytes names.now)) }
