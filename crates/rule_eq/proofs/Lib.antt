@@ -26,6 +26,7 @@ pub mod Taking
 pub mod Simpler
 pub mod StartNames
 pub mod OneApart
+pub mod RowsSorted
 pub mod Fitting
 pub mod DirectParts
 pub mod Along

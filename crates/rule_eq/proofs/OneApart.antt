@@ -72,3 +72,29 @@ module _ (at : Point) (left right ones others : List Exp) (a b : Exp) (behind re
 
   pub rest_differs : b ≡ a → others ≢ ones → rest ≢ behind
   rest_differs e differ i = differ (second ∙ ap₂ (λ c cs. c ∷ cs) e i ∙ sym first)
+
+-- where one of them is at its end
+
+module _ (at : Point) (left right ones others : List Exp) (same : OneApart at left right ↔ OneApart at ones others) where
+  pub at_left_end : ones ≡ [] → OneApart at left right → ⊥
+  at_left_end h k = none_apart at others (subst (λ es. OneApart at es others) h (same.0 k))
+
+  pub at_right_end : others ≡ [] → OneApart at left right → ⊥
+  at_right_end h k = apart_none at ones (subst (λ fs. OneApart at ones fs) h (same.0 k))
+
+-- a row that is one step apart from itself where what is left of it is
+
+module _ (at : Point) (exps rest : List Exp) (same : OneApart at rest rest ↔ OneApart at exps exps) where
+  pub none_itself : rest ≡ [] → OneApart at exps exps → ⊥
+  none_itself h k = none_apart at rest (subst (λ es. OneApart at es rest) h (same.1 k))
+
+  module _ (a : Exp) (behind : List Exp) (first : rest ≡ a ∷ behind) where
+    pub this_itself : StepApart at a a → OneApart at exps exps
+    this_itself k = same.0 (subst (λ es. OneApart at es es) (sym first) (this_apart at a behind k))
+
+    pub rest_itself : (StepApart at a a → ⊥) → OneApart at behind behind ↔ OneApart at exps exps
+    rest_itself far =
+        let k = itself_apart at a behind far in (
+          (λ h. same.0 (subst (λ es. OneApart at es es) (sym first) (k.0 h))),
+          (λ h. k.1 (subst (λ es. OneApart at es es) first (same.1 h))),
+        )

@@ -7,7 +7,6 @@ use Rattle.ac_expr.specs.CodeHeads.{children_in}
 use Rattle.ac_expr.proofs.ApartThere.{never, first_among, rest_among, child_smaller}
 use Rattle.rule_eq.proofs.PutParts.{other_head, row_put, rest_put, children_less, rest_less, sizes}
 use Rattle.rule_eq.proofs.PutSays.{says_by}
-use Rattle.rule_eq.proofs.States as s1
 use Rattle.rule_eq.proofs.putting.+putting.Goals as goal
 
 pub is_put-returns-then-not-same_head : goal.is_put-returns-then-not-same_head
@@ -17,10 +16,9 @@ is_put-returns-then-not-same_head t c = (
 )
 
 pub is_put-look-requires : goal.is_put-look-requires
-is_put-look-requires t c = (
-  subst (λ n. 2 * sizes (children_in c.children_of.result) + 1 < n) c.decreases (children_less (exp_of c.down.left.now) (exp_of c.args.e.now) (children_in c.children_of.result) c.children_of.ensures c.down.invariant.smaller),
-  tt,
-)
+is_put-look-requires t c =
+    let less : 2 * sizes (children_in c.children_of.result) + 1 < 2 * size (exp_of c.args.e.now) = children_less (exp_of c.down.left.now) (exp_of c.args.e.now) (children_in c.children_of.result) c.children_of.ensures c.down.invariant.smaller in
+    (omega (arith, less), tt)
 
 pub is_put-returns-in-Differ : goal.is_put-returns-in-Differ
 is_put-returns-in-Differ t c =
