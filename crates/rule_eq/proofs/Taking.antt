@@ -1,5 +1,5 @@
 -- The value at a position, with its name, and lists without it.
-use Rattle.std.proofs.Common.{◌≡◌, ◌↔◌, ◌==◌, ℕ, zero, suc, true, false, List, [], ◌∷◌, map, length, Option, Some, None, ◌⊎◌, inl, inr, refl, sym, ap, ap₂, ◌∙◌, subst, arith, eqb-true}
+use Rattle.std.proofs.Common.{Bool, not, ◌≡◌, ◌↔◌, ◌==◌, ℕ, zero, suc, true, false, List, [], ◌∷◌, map, length, Option, Some, None, ◌⊎◌, inl, inr, refl, sym, ap, ap₂, ◌∙◌, subst, arith, eqb-true}
 use Rattle.c_values.specs.Name.{Name}
 use Rattle.expression_lang.specs.Expression.{Exp}
 use Rattle.expression_lang.specs.Mentions.{reads}
@@ -74,6 +74,17 @@ stands_apart k m r f h = by h.state
     by : (reads k.exp ≡ false) ⊎ (is_free k.name m ≡ false) → ⊥
     by (inl i) = let clash : true ≡ false = sym r ∙ i in cc
     by (inr i) = let clash : true ≡ false = sym f ∙ i in cc
+
+pub stands_free : (k : Taken) (m : Mon) (free : Bool) → free ≡ is_free k.name m → reads k.exp ≡ true → CanStand k m → not free ≡ true
+stands_free k m free e r h = by h.state
+  where
+    by : (reads k.exp ≡ false) ⊎ (is_free k.name m ≡ false) → not free ≡ true
+    by (inl i) = let clash : true ≡ false = sym r ∙ i in cc
+    by (inr i) = ap not (e ∙ i)
+
+pub free_stands : (free other : Bool) → free ≡ other → not free ≡ true → other ≡ false
+free_stands true other e h = absurd cc
+free_stands false other e h = sym e
 
 -- the other values
 

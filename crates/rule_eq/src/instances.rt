@@ -3,6 +3,7 @@
 ghost use Rattle.std.specs.Prelude.{◌≡◌, ◌↔◌, [], map, string_bytes, IsTrue, true};
 ghost use Rattle.expression_lang.specs.Expression as plain;
 ghost use Rattle.expression_lang.specs.CodeExpression.{exp_of};
+ghost use Rattle.ac_expr.specs.Known.{IsKnown};
 ghost use Rattle.monad_lang.specs.Form.{all_kept};
 ghost use Rattle.monad_lang.specs.Program as programs;
 ghost use Rattle.monad_lang.specs.CodeProgram.{mon_of, start_of};
@@ -289,11 +290,17 @@ fn is_guard_known(left: &Mon, right: &Mon, facts: &Facts<'_, Parts<'_>>) -> bool
 {
     match left {
         Mon::Bind(first, names, last) => match &**first {
-            Mon::Guard(e) => {
-                names.is_empty() && right.same(last) && known(facts, &Fact::Whole(e))
-            }
+            Mon::Guard(e) => { names.is_empty() && right.same(last) && is_known(e, facts) }
             _ => false,
         },
         _ => false,
     }
+}
+
+// Whether an expression is known to hold.
+fn is_known(e: &Exp, facts: &Facts<'_, Parts<'_>>) -> bool
+    ensures { IsTrue result ↔ IsKnown (known_in facts.now) (exp_of e.now) }
+{
+    let fact = Fact::Whole(e);
+    known(facts, &fact)
 }

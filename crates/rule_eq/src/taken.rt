@@ -48,9 +48,16 @@ fn can_stand(value: &Exp, name: &str, names: &[String], position: usize, m: &Mon
       names = without position (map string_bytes names.now);
     }) (mon_of m.now) }
 {
-    is_unnamed_but(names, position, value)
-        && !captures(value, name, m)
-        && (!value.any(&IsReading) || !is_free(name, m))
+    if !is_unnamed_but(names, position, value) {
+        return false;
+    }
+    if captures(value, name, m) {
+        return false;
+    }
+    if !value.any(&IsReading) {
+        return true;
+    }
+    !is_free(name, m)
 }
 
 // Whether an expression has none of the names but the one at a position.
