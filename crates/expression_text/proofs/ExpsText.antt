@@ -21,13 +21,14 @@ use Rattle.expression_text.specs.Row as R
 use Rattle.expression_text.specs.TypeText.{row, type_tree, is_type}
 use Rattle.expression_text.specs.TypeReading.{type_at}
 use Rattle.expression_text.specs.ExpText.{truth_word, headed, field_word, element_word, exp_tree, step_trees, is_width, is_of_two, is_one_step, is_exp, is_path}
+use Rattle.expression_text.specs.Answer.{IsExpText}
 use Rattle.expression_text.specs.ExpReading.{width_at, row_in, StepHead, FieldStep, ElementStep, step_head, leaf_at, exp_at, built_exp_at, path_at, steps_at, step_at, built_step_at}
 use Rattle.expression_text.proofs.LookedUp.{looked_up_is, name_is}
 use Rattle.expression_text.proofs.ExpsRead.{heads_found}
 use Rattle.expression_text.proofs.Behind.{behind, all_behind, IsReadAs, AreReadAs, bind_ok, value_ok}
 use Rattle.expression_text.proofs.RowLaws.{row_head, is_bare, is_pair, is_row, head_of_row, head_has_row, row_of_head, sized_head}
 use Rattle.expression_text.proofs.TypesText.{name_reads, name_spells, natural_reads, natural_spells, type_reads, type_spells}
-use Rattle.expression_text.proofs.LeavesText.{bits_small, truth_reads, var_reads, number_leaf_reads, number_reads, number_spells, width_reads, width_spells, IsExpText, exp_moved, leaf_spells}
+use Rattle.expression_text.proofs.LeavesText.{bits_small, truth_reads, var_reads, number_leaf_reads, number_reads, number_spells, width_reads, width_spells, exp_moved, leaf_spells}
 
 -- a list with the head of a row is read by the row
 row_reads : (r : R.Row) → is_row r ≡ true → (ts : Trees) (at : ℕ) → exp_at at (headed (row_head r) ts) ≡ built_exp_at at (next (next at)) (Some r) ts

@@ -13,6 +13,7 @@ use Rattle.expression_text.specs.Reading.{Read, next}
 use Rattle.expression_text.specs.Names.{begins_name, goes_on_name, is_name}
 use Rattle.expression_text.specs.Numbers.{number_text, is_number, natural_in, negated, not_negated, number_in, number_from, number_at}
 use Rattle.expression_text.specs.ExpText.{truth_word, exp_tree, is_width, is_exp}
+use Rattle.expression_text.specs.Answer.{IsExpText}
 use Rattle.expression_text.specs.ExpReading.{width_from, width_at, number_leaf_at, leaf_at}
 use Rattle.expression_text.proofs.LookedUp.{name_is, name_same}
 use Rattle.expression_text.proofs.NumbersRead.{natural_of, natural_is, number_plain}
@@ -163,9 +164,6 @@ number_leaf_reads z at is =
     past_truths at (number_text z) p.1
     ∙ cond-false (is_name (number_text z)) (Ok (Var (number_text z), next at)) (number_leaf_at at (number_in (number_text z))) p.0
     ∙ ap (number_leaf_at at) p.2
-
-abbrev pub IsExpText : Tree → Exp → Type 0
-IsExpText t e = (t ≡ exp_tree e) × (is_exp e ≡ true)
 
 pub exp_moved : {t : Tree} (e f : Exp) → e ≡ f → t ≡ exp_tree e → is_exp e ≡ true → IsExpText t f
 exp_moved e f same is fine = (is ∙ ap exp_tree same, ap is_exp (sym same) ∙ fine)

@@ -7,3 +7,4 @@ pub mod RowLaws
 pub mod TypesText
 pub mod LeavesText
 pub mod ExpsText
+pub mod ReadBack

@@ -12,3 +12,4 @@ pub mod ExpText
 pub mod ExpReading
 pub mod ExpRows
 pub mod CodeRow
+pub mod Answer

@@ -28,7 +28,7 @@ type Read = Result<(Exp, u32), TextFault>;
 
 /// The expression that a tree is.
 #[cycle(exps)]
-pub(crate) fn exp_at(alloc: Global, tree: &Sx, at: u32) -> Read
+pub fn exp_at(alloc: Global, tree: &Sx, at: u32) -> Read
     ensures { Gives exp_of result (exp_at at (tree_of tree.now)) }
 {
     if let Some(word) = tree.word() {
@@ -45,7 +45,7 @@ pub(crate) fn exp_at(alloc: Global, tree: &Sx, at: u32) -> Read
 
 /// The same, on the heap.
 #[cycle(exps)]
-pub(crate) fn boxed_exp_at(alloc: Global, tree: &Sx, at: u32) -> Result<(Box<Exp>, u32), TextFault>
+pub fn boxed_exp_at(alloc: Global, tree: &Sx, at: u32) -> Result<(Box<Exp>, u32), TextFault>
     ensures { Gives (λ e. exp_of e.value) result (exp_at at (tree_of tree.now)) }
 {
     let (exp, at) = exp_at(alloc, tree, at)?;

@@ -9,7 +9,9 @@ mod numbering;
 mod numbers;
 mod path_reading;
 mod rows;
+mod texts;
 mod type_reading;
 mod words;
 
 pub use fault::TextFault;
+pub use texts::read_exp;

@@ -39,7 +39,7 @@ pub fn is_name(word: &str) -> bool
 }
 
 /// The name that a tree is.
-pub(crate) fn name_at(alloc: Global, tree: &Sx, at: u32) -> Result<(String, u32), TextFault>
+pub fn name_at(alloc: Global, tree: &Sx, at: u32) -> Result<(String, u32), TextFault>
     ensures { Gives string_bytes result (name_at at (tree_of tree.now)) }
 {
     match tree.word() {

@@ -71,7 +71,7 @@ fn not_negated(magnitude: Option<u128>) -> Option<Number>
 }
 
 /// The number that a tree is.
-pub(crate) fn number_at(tree: &Sx, at: u32) -> Result<(Number, u32), TextFault>
+pub fn number_at(tree: &Sx, at: u32) -> Result<(Number, u32), TextFault>
     ensures { Gives (λ n. n) result (number_at at (tree_of tree.now)) }
 {
     let Some(word) = tree.word() else {
@@ -109,7 +109,7 @@ fn fits(width: u8, bits: u64) -> bool
 }
 
 /// The width that a tree is.
-pub(crate) fn width_at(tree: &Sx, at: u32) -> Result<(u8, u32), TextFault>
+pub fn width_at(tree: &Sx, at: u32) -> Result<(u8, u32), TextFault>
     ensures gives { Gives (λ n. n) result (width_at at (tree_of tree.now)) }
     ensures width { IfOk result (λ x. is_width x.0 ≡ true) }
 {

@@ -18,7 +18,7 @@ use std::alloc::{AllocError, Global};
 
 /// The path that a list of steps is.
 #[cycle(exps)]
-pub(crate) fn path_at(alloc: Global, tree: &Sx, at: u32) -> Result<(Path, u32), TextFault>
+pub fn path_at(alloc: Global, tree: &Sx, at: u32) -> Result<(Path, u32), TextFault>
     ensures { Gives path_of result (path_at at (tree_of tree.now)) }
 {
     match tree.parts() {

@@ -18,7 +18,7 @@ use std::alloc::Global;
 
 /// The type that a tree is.
 #[cycle(types)]
-pub(crate) fn type_at(alloc: Global, tree: &Sx, at: u32) -> Result<(CType, u32), TextFault>
+pub fn type_at(alloc: Global, tree: &Sx, at: u32) -> Result<(CType, u32), TextFault>
     ensures { Gives type_of result (type_at at (tree_of tree.now)) }
 {
     if let Some(word) = tree.word() {

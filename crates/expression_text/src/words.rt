@@ -49,3 +49,22 @@ pub(crate) fn type_head(word: &str) -> Option<TypeHead>
         _ => None,
     }
 }
+
+/// The word of an integer type.
+pub(crate) fn int_type_word(integer: IntType) -> &'static str
+    ensures { result.now ≡ int_type_word (int_type_of integer) }
+{
+    match integer {
+        IntType::Char => "char",
+        IntType::SChar => "schar",
+        IntType::UChar => "uchar",
+        IntType::Short => "short",
+        IntType::UShort => "ushort",
+        IntType::Int => "int",
+        IntType::UInt => "uint",
+        IntType::Long => "long",
+        IntType::ULong => "ulong",
+        IntType::LLong => "llong",
+        IntType::ULLong => "ullong",
+    }
+}
