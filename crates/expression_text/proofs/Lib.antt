@@ -8,3 +8,4 @@ pub mod TypesText
 pub mod LeavesText
 pub mod ExpsText
 pub mod ReadBack
+pub mod Filling

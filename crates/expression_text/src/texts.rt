@@ -3,15 +3,17 @@ ghost use Rattle.std.specs.Prelude.{◌≡◌, ℕ, Err, IfOk, IfErr};
 ghost use Rattle.ac_sx.specs.CodeSx.{tree_of};
 ghost use Rattle.expression_lang.specs.Expression as plain;
 ghost use Rattle.expression_lang.specs.CodeExpression.{exp_of};
+ghost use Rattle.expression_text.specs.ExpText as text;
 ghost use Rattle.expression_text.specs.ExpReading as reading;
 ghost use Rattle.expression_text.specs.CodeFault.{Fails};
 ghost use Rattle.expression_text.specs.Answer.{IsExpText, IsRead, IsRefused};
 
 use crate::exp_reading::exp_at;
+use crate::exp_writing::exp_tree;
 use crate::fault::TextFault;
 use ac_sx::Sx;
 use expression_lang::Exp;
-use std::alloc::Global;
+use std::alloc::{AllocError, Global};
 
 /// The expression whose text a tree is.
 ///
@@ -30,4 +32,11 @@ pub fn read_exp(alloc: Global, tree: &Sx) -> Result<Exp, TextFault>
         Ok((exp, _behind)) => Ok(exp),
         Err(fault) => Err(fault),
     }
+}
+
+/// The tree of an expression, which is its text where it has one.
+pub fn write_exp(alloc: Global, e: &Exp) -> Result<Sx, AllocError>
+    ensures { IfOk result (λ tree. tree_of tree ≡ text.exp_tree (exp_of e.now)) }
+{
+    exp_tree(alloc, e)
 }
