@@ -1,10 +1,10 @@
 -- Words that are numbers, names and truth values.
-use Rattle.std.proofs.Common.{◌≡◌, ℕ, zero, suc, ◌+◌, ◌%◌, ◌^◌, ◌<◌, ◌≤◌, ◌⊎◌, inl, inr, Bool, true, false, cond, ◌||◌, ℤ, List, [], ◌∷◌, ◌++◌, Option, Some, None, Result, Ok, Err, refl, ap, sym, ◌∙◌, arith, add-one, eqb-true, subst, lit<, lit≤, if◌then◌else◌}
-use Rattle.std.specs.Prelude.{◌==◌, ◌&&◌, nat_lt, pos, negsuc}
+use Rattle.std.proofs.Common.{◌≡◌, ℕ, zero, suc, ◌+◌, ◌%◌, ◌^◌, ◌<◌, ◌≤◌, inl, inr, Bool, true, false, cond, ◌||◌, ℤ, List, [], ◌∷◌, ◌++◌, Option, Some, None, Ok, Err, refl, ap, sym, ◌∙◌, arith, add-one, eqb-true, subst, lit<, lit≤, if◌then◌else◌}
+use Rattle.std.specs.Prelude.{◌==◌, ◌&&◌, pos, negsuc}
 use Rattle.std.specs.List.{list_all}
 use Rattle.std.specs.Fmt.{decimal}
 use Rattle.std.proofs.lemmas.Fmt.{decimal_by_steps_wide}
-use Rattle.std.proofs.lemmas.Bool.{cond-true, cond-false, ltb-true, lt-ltb, false_from_ne_true, false≢true, eq-eqb, or_cases}
+use Rattle.std.proofs.lemmas.Bool.{cond-true, cond-false, ltb-true, lt-ltb, false_from_ne_true, or_cases}
 use Rattle.std.proofs.lemmas.Bool.Decides.{nat_tests}
 use Rattle.c_values.specs.Name.{Name, same_name}
 use Rattle.ac_sx.specs.Tree.{Tree, Atom, Node}
@@ -15,7 +15,7 @@ use Rattle.expression_text.specs.Numbers.{number_text, is_number, natural_in, ne
 use Rattle.expression_text.specs.ExpText.{truth_word, exp_tree, is_width, is_exp}
 use Rattle.expression_text.specs.Answer.{IsExpText}
 use Rattle.expression_text.specs.ExpReading.{width_from, width_at, number_leaf_at, leaf_at}
-use Rattle.expression_text.proofs.LookedUp.{name_is, name_same}
+use Rattle.expression_text.proofs.LookedUp.{name_is}
 use Rattle.expression_text.proofs.NumbersRead.{natural_of, natural_is, number_plain}
 use Rattle.expression_text.proofs.Behind.{IsReadAs, kept_ok, value_ok}
 

@@ -5,7 +5,7 @@ use Rattle.expression_lang.specs.Expression.{Exp}
 use Rattle.expression_text.specs.declared.fault.TextFault.{TextFault}
 use Rattle.expression_text.specs.declared.fault.TextFault.TheVariants as F
 use Rattle.expression_text.specs.Reading.{Read}
-use Rattle.expression_text.specs.ExpText.{exp_tree, is_exp}
+use Rattle.expression_text.specs.ExpText.{exp_tree}
 use Rattle.expression_text.specs.ExpReading.{exp_at}
 use Rattle.expression_text.specs.CodeFault.{Fails}
 use Rattle.expression_text.specs.Answer.{IsExpText}

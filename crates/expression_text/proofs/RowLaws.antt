@@ -1,5 +1,5 @@
 -- Each head has a row of its own.
-use Rattle.std.proofs.Common.{◌≡◌, ℕ, Bool, true, false, refl, ap, sym, ◌∙◌}
+use Rattle.std.proofs.Common.{◌≡◌, Bool, true, false, refl}
 use Rattle.std.proofs.lemmas.Bool.{false≢true}
 use Rattle.c_values.specs.Word as W
 use Rattle.c_values.specs.Number as N

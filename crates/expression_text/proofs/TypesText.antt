@@ -1,18 +1,18 @@
 -- A type's tree is read as the type, and what is read as a type is its tree.
-use Rattle.std.proofs.Common.{◌≡◌, ℕ, ◌^◌, ◌<◌, ◌≤◌, Bool, true, false, ◌&&◌, List, Option, Some, None, Result, Ok, Err, ◌⊎◌, inl, inr, refl, ap, ap₂, sym, ◌∙◌, arith, if◌then◌else◌}
+use Rattle.std.proofs.Common.{◌≡◌, ℕ, ◌^◌, ◌<◌, ◌≤◌, true, Option, Some, None, Ok, Err, refl, ap, ap₂, sym, ◌∙◌, arith}
 use Rattle.std.specs.Prelude.{nat_lt, codes}
 use Rattle.std.specs.Fmt.{decimal}
-use Rattle.std.proofs.lemmas.Bool.{and_parts, and_from, cond-true, cond-false, ltb-true, lt-ltb}
+use Rattle.std.proofs.lemmas.Bool.{and_parts, and_from, cond-true, ltb-true, lt-ltb}
 use Rattle.c_values.specs.Name.{Name, same_name}
 use Rattle.c_values.specs.Types.{IntType, CType, Integer, Void, Ptr, Struct, Array}
 use Rattle.ac_sx.specs.Tree.{Tree, Trees, Atom, Node, no_trees, more}
-use Rattle.expression_text.specs.Reading.{Read, next, ◌>>=◌}
+use Rattle.expression_text.specs.Reading.{next, ◌>>=◌}
 use Rattle.expression_text.specs.Names.{is_name, name_at}
 use Rattle.expression_text.specs.Numbers.{natural_in, below, natural_at}
 use Rattle.expression_text.specs.Words.{looked_up, int_type_word, int_types, TypeHead, PtrHead, StructHead, ArrayHead, type_head_word, type_heads}
 use Rattle.expression_text.specs.TypeText.{type_tree, is_type}
 use Rattle.expression_text.specs.TypeReading.{plain_type_at, type_at, built_type_at}
-use Rattle.expression_text.proofs.LookedUp.{looked_up_is, looked_up_from, name_is, name_same}
+use Rattle.expression_text.proofs.LookedUp.{looked_up_is, name_is}
 use Rattle.expression_text.proofs.NumbersRead.{natural_of, natural_is}
 use Rattle.expression_text.proofs.TypesRead.{int_types_found, type_heads_found}
 use Rattle.expression_text.proofs.Behind.{behind, IsReadAs, bind_ok, kept_ok, value_ok}

@@ -1,18 +1,17 @@
 -- Trees read as expressions.
-use Rattle.std.specs.Prelude.{ℕ, ◌^◌, ℤ, Bool, true, false, Option, Some, None, Ok, Err, codes, if◌then◌else◌}
+use Rattle.std.specs.Prelude.{ℕ, ◌^◌, ℤ, true, false, Option, Some, None, Ok, Err, if◌then◌else◌}
 use Rattle.c_values.specs.Name.{Name, same_name}
-use Rattle.c_values.specs.Word.{Word}
 use Rattle.expression_lang.specs.Expression.{Exp, Var, WordLit, NumberLit, TruthLit, Between, If, Padd, Global, Sel, Upd, Path, Here, IntoField, IntoElement}
-use Rattle.expression_lang.specs.CodeShape.{One, Two, RootTest, PlaceHead, whole_one, whole_two, whole_root, whole_place}
+use Rattle.expression_lang.specs.CodeShape.{whole_one, whole_two, whole_root, whole_place}
 use Rattle.ac_sx.specs.Tree.{Tree, Trees, Atom, Node, no_trees, more}
 use Rattle.expression_text.specs.declared.heads.Head.{Head}
-use Rattle.expression_text.specs.Reading.{Read, next, ◌>>=◌, made}
+use Rattle.expression_text.specs.Reading.{Read, next, ◌>>=◌}
 use Rattle.expression_text.specs.Names.{is_name, name_at}
 use Rattle.expression_text.specs.Numbers.{natural_in, natural_at, number_in, number_at}
 use Rattle.expression_text.specs.Words.{looked_up}
 use Rattle.expression_text.specs.TypeReading.{type_at}
 use Rattle.expression_text.specs.Head.{head_word, heads}
-use Rattle.expression_text.specs.Row.{Sized, sized_one, Row, WordRow, UnaryRow, SizedRow, TwoRow, BetweenRow, IfRow, PaddRow, RootRow, PlaceRow, GlobalRow, SelRow, UpdRow, row_of}
+use Rattle.expression_text.specs.Row.{sized_one, Row, WordRow, UnaryRow, SizedRow, TwoRow, BetweenRow, IfRow, PaddRow, RootRow, PlaceRow, GlobalRow, SelRow, UpdRow, row_of}
 use Rattle.expression_text.specs.ExpText.{is_width, truth_word, field_word, element_word}
 
 -- a number that is a width

@@ -11,7 +11,7 @@ use Rattle.expression_text.specs.Numbers.{natural_at, number_at}
 use Rattle.expression_text.specs.Words.{looked_up}
 use Rattle.expression_text.specs.TypeReading.{type_at}
 use Rattle.expression_text.specs.Head.{head_word, heads}
-use Rattle.expression_text.specs.Row.{Sized, sized_one, Row, WordRow, UnaryRow, SizedRow, TwoRow, BetweenRow, IfRow, PaddRow, RootRow, PlaceRow, GlobalRow, SelRow, UpdRow, row_of}
+use Rattle.expression_text.specs.Row.{Sized, sized_one, Row, WordRow, UnaryRow, SizedRow, TwoRow, BetweenRow, IfRow, PaddRow, RootRow, PlaceRow, GlobalRow, SelRow, UpdRow}
 use Rattle.expression_text.specs.ExpReading.{width_at, leaf_at, row_in, StepHead, FieldStep, ElementStep, step_head, exp_at, path_at, steps_at, step_at}
 
 abbrev pub word_row : ℕ → ℕ → Option (Tree × Tree) → Read Exp

@@ -1,8 +1,7 @@
 -- Expressions as trees.
-use Rattle.std.specs.Prelude.{ℕ, ◌^◌, ◌==◌, nat_lt, Bool, true, false, ◌&&◌, ◌||◌, List, [], ◌∷◌, codes}
+use Rattle.std.specs.Prelude.{ℕ, ◌^◌, ◌==◌, nat_lt, Bool, true, false, ◌&&◌, ◌||◌, [], ◌∷◌, codes}
 use Rattle.std.specs.Fmt.{decimal}
 use Rattle.c_values.specs.Name.{Name}
-use Rattle.c_values.specs.Word as W
 use Rattle.c_values.specs.Number as N
 use Rattle.expression_lang.specs.Expression as E
 use Rattle.expression_lang.specs.CodeShape as S

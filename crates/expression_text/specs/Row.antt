@@ -1,7 +1,6 @@
 -- How lists that are expressions go on behind their heads.
 use Rattle.c_values.specs.Word as W
 use Rattle.c_values.specs.Number as N
-use Rattle.c_values.specs.Name.{Name}
 use Rattle.expression_lang.specs.Expression.{CastOp, Zext, Sext, Trunc}
 use Rattle.std.specs.Prelude.{ℕ}
 use Rattle.expression_lang.specs.CodeShape.{One, UnaryOne, CastOne, ToNatOne, ToIntOne, ToWordOne, NegateOne, NotOne, Two, BinaryTwo, ShiftTwo, CompareTwo, ArithTwo, LtTwo, LeTwo, EqTwo, AndTwo, OrTwo, ImpTwo, RootTest, TaggedRoot, PtrOkRoot, PlaceHead, AtPlace, LoadPlace, ReadPlace}

@@ -1,5 +1,5 @@
 -- A part has fewer nodes.
-use Rattle.std.proofs.Common.{◌≡◌, ◌+◌, ◌*◌, take, drop}
+use Rattle.std.proofs.Common.{◌≡◌, ◌+◌, ◌*◌, drop}
 use Rattle.ac_sx.specs.Tree.{nodes, all_nodes}
 use Rattle.ac_sx.specs.CodeSx.{tree_of, trees_in}
 use Rattle.expression_lang.specs.CodeShapeView.{with_steps}
