@@ -1,31 +1,29 @@
 -- An expression's tree is read as the expression, and what is read as an expression is its tree.
-use Rattle.std.proofs.Common.{◌≡◌, ℕ, ◌^◌, ◌<◌, Bool, true, false, List, [], ◌∷◌, Option, Some, None, Result, Ok, Err, refl, ap, ap₂, sym, subst, ◌∙◌, arith, if◌then◌else◌}
+use Rattle.std.proofs.Common.{◌≡◌, ℕ, ◌^◌, ◌<◌, Bool, true, false, Option, Some, None, Ok, refl, ap, sym, subst, ◌∙◌, arith, if◌then◌else◌}
 use Rattle.std.specs.Prelude.{◌&&◌, nat_lt}
 use Rattle.std.specs.Fmt.{decimal}
 use Rattle.std.proofs.lemmas.Bool.{and_parts, and_from, ltb-true, lt-ltb, false≢true}
 use Rattle.c_values.specs.Name.{Name, same_name}
 use Rattle.c_values.specs.Types.{CType}
-use Rattle.c_values.specs.Word as W
-use Rattle.c_values.specs.Number as N
 use Rattle.ac_sx.specs.Tree.{Tree, Trees, Atom, Node, no_trees, more}
 use Rattle.expression_lang.specs.Expression as E
 use Rattle.expression_lang.specs.CodeShape as S
 use Rattle.expression_text.specs.declared.heads.Head.{Head}
 use Rattle.expression_text.specs.declared.heads.Head.TheVariants as H
-use Rattle.expression_text.specs.Reading.{Read, next, ◌>>=◌}
+use Rattle.expression_text.specs.Reading.{next, ◌>>=◌}
 use Rattle.expression_text.specs.Names.{is_name, name_at}
 use Rattle.expression_text.specs.Numbers.{number_text, is_number, natural_at, number_at}
 use Rattle.expression_text.specs.Words.{looked_up}
 use Rattle.expression_text.specs.Head.{head_word, heads}
 use Rattle.expression_text.specs.Row as R
-use Rattle.expression_text.specs.TypeText.{row, type_tree, is_type}
+use Rattle.expression_text.specs.TypeText.{type_tree, is_type}
 use Rattle.expression_text.specs.TypeReading.{type_at}
-use Rattle.expression_text.specs.ExpText.{truth_word, headed, field_word, element_word, exp_tree, step_trees, is_width, is_of_two, is_one_step, is_exp, is_path}
+use Rattle.expression_text.specs.ExpText.{headed, field_word, element_word, exp_tree, step_trees, is_width, is_of_two, is_one_step, is_exp, is_path}
 use Rattle.expression_text.specs.Answer.{IsExpText}
-use Rattle.expression_text.specs.ExpReading.{width_at, row_in, StepHead, FieldStep, ElementStep, step_head, leaf_at, exp_at, built_exp_at, path_at, steps_at, step_at, built_step_at}
+use Rattle.expression_text.specs.ExpReading.{width_at, row_in, StepHead, FieldStep, ElementStep, step_head, exp_at, built_exp_at, path_at, steps_at, step_at, built_step_at}
 use Rattle.expression_text.proofs.LookedUp.{looked_up_is, name_is}
 use Rattle.expression_text.proofs.ExpsRead.{heads_found}
-use Rattle.expression_text.proofs.Behind.{behind, all_behind, IsReadAs, AreReadAs, bind_ok, value_ok}
+use Rattle.expression_text.proofs.Behind.{behind, IsReadAs, AreReadAs, bind_ok, value_ok}
 use Rattle.expression_text.proofs.RowLaws.{row_head, is_bare, is_pair, is_row, head_of_row, head_has_row, row_of_head, sized_head}
 use Rattle.expression_text.proofs.TypesText.{name_reads, name_spells, natural_reads, natural_spells, type_reads, type_spells}
 use Rattle.expression_text.proofs.LeavesText.{bits_small, truth_reads, var_reads, number_leaf_reads, number_reads, number_spells, width_reads, width_spells, exp_moved, leaf_spells}
@@ -483,7 +481,7 @@ mutual
   built_spells word None (more t (more u no_trees)) at inner e n found read = absurd cc
   built_spells word None (more t (more u (more v ws))) at inner e n found read = absurd cc
 
-  path_spells : (t : Tree) (at : ℕ) (path : E.Path) (n : ℕ) → path_at at t ≡ Ok (path, n) → (t ≡ Node (step_trees path)) × (is_path path ≡ true)
+  pub path_spells : (t : Tree) (at : ℕ) (path : E.Path) (n : ℕ) → path_at at t ≡ Ok (path, n) → (t ≡ Node (step_trees path)) × (is_path path ≡ true)
   path_spells (Atom word) at path n read = absurd cc
   path_spells (Node ts) at path n read = let h = steps_spells ts (next at) path n read in (ap Node h.0, h.1)
 

@@ -1,5 +1,5 @@
 -- Trees around a place, one list more, and the trees of shapes.
-use Rattle.std.proofs.Common.{◌≡◌, List, [], ◌∷◌, ◌++◌, refl, ap, sym, ◌∙◌}
+use Rattle.std.proofs.Common.{◌≡◌, List, [], ◌∷◌, ◌++◌, length, map, refl, ap, sym, ◌∙◌}
 use Rattle.ac_sx.specs.declared.sx.Sx as S
 use Rattle.ac_sx.specs.Tree.{Tree, Trees, no_trees, more}
 use Rattle.ac_sx.specs.CodeSx.{tree_of, trees_in, pushed}
@@ -7,6 +7,7 @@ use Rattle.expression_lang.specs.Expression as E
 use Rattle.expression_lang.specs.CodeShape.{shape_of}
 use Rattle.expression_text.specs.declared.building.Around.{Around}
 use Rattle.expression_text.specs.ExpText.{exp_tree}
+use Rattle.expression_text.specs.Lists.{trees_for}
 use Rattle.expression_text.specs.CodeAround.{joined, filled, all_filled}
 use Rattle.expression_text.specs.CodeWriting.{shape_tree}
 
@@ -36,9 +37,10 @@ pub joined_push : (xs : List S.Sx) (x : S.Sx) (us : Trees) → joined (trees_in 
 joined_push [] x us = refl
 joined_push (y ∷ ys) x us = ap (λ ts. more (tree_of y) ts) (joined_push ys x us)
 
-pub step_more : (before now : List S.Sx) (x : S.Sx) (step : Tree) (rest whole all : Trees) → now ≡ before ++ x ∷ [] → tree_of x ≡ step → joined (trees_in before) all ≡ whole → all ≡ more step rest → joined (trees_in now) rest ≡ whole
-step_more before now x step rest whole all pushed is so_far there =
-    ap (λ xs. joined (trees_in xs) rest) pushed ∙ joined_push before x rest ∙ ap (λ t. joined (trees_in before) (more t rest)) is ∙ ap (joined (trees_in before)) (sym there) ∙ so_far
+-- no part is left
+pub ended : {X A : Type 0} (view : X → A) (tree : A → Tree) (ts whole : Trees) (xs : List X) → length xs ≡ 0 → joined ts (trees_for tree (map view xs)) ≡ whole → ts ≡ whole
+ended view tree ts whole [] none so_far = sym (joined_nothing ts) ∙ so_far
+ended view tree ts whole (x ∷ xs) none so_far = absurd cc
 
 pub shape_text : (e : E.Exp) → shape_tree (shape_of e) ≡ exp_tree e
 shape_text (E.Var x) = refl

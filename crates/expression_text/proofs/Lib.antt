@@ -9,3 +9,5 @@ pub mod LeavesText
 pub mod ExpsText
 pub mod ReadBack
 pub mod Filling
+pub mod ListsRead
+pub mod ListLaws

@@ -15,3 +15,4 @@ pub mod CodeRow
 pub mod Answer
 pub mod CodeAround
 pub mod CodeWriting
+pub mod Lists

@@ -6,6 +6,8 @@ mod exp_reading;
 mod exp_writing;
 mod fault;
 mod heads;
+mod list_reading;
+mod list_writing;
 mod names;
 mod numbering;
 mod numbers;
@@ -17,5 +19,18 @@ mod type_reading;
 mod type_writing;
 mod words;
 
+pub use building::{
+    Around, all_filled, atom, begun, list_of, natural_tree, number_tree, with_part, with_parts,
+};
+pub use exp_reading::exp_at;
+pub use exp_writing::{exp_tree, steps_of};
 pub use fault::TextFault;
+pub use list_reading::{exps_at, names_at, new_name_at};
+pub use list_writing::{names_tree, with_exps};
+pub use names::{is_name, name_at};
+pub use numbering::next;
+pub use numbers::{number_at, width_at};
+pub use path_reading::path_at;
 pub use texts::{read_exp, write_exp};
+pub use type_reading::type_at;
+pub use type_writing::type_tree;
