@@ -1,0 +1,39 @@
+//! Texts of kinds.
+ghost use Rattle.std.specs.Prelude.{◌≡◌, ℕ, Err, IfOk, IfErr};
+ghost use Rattle.ac_sx.specs.CodeSx.{tree_of};
+ghost use Rattle.expression_lang.specs.Sort as sorts;
+ghost use Rattle.expression_lang.specs.CodeExpression.{kind_of};
+ghost use Rattle.expression_text.specs.CodeFault.{Fails};
+ghost use Rattle.expression_text.specs.Answer.{IsRead, IsRefused};
+ghost use Rattle.program_text.specs.Kinds as kinds;
+ghost use Rattle.program_text.specs.Answer.{IsKindText};
+
+use crate::kinds::{kind_at, kind_tree};
+use ac_sx::Sx;
+use expression_lang::Kind;
+use expression_text::TextFault;
+use std::alloc::{AllocError, Global};
+
+/// The kind whose text a tree is.
+pub fn read_kind(tree: &Sx) -> Result<Kind, TextFault>
+    // Ok is the kind whose text the tree is, and where the tree is the text of one, it is this one, unless memory runs out.
+    ensures found { IfOk result (λ k. IsKindText (tree_of tree.now) (kind_of k)) }
+    ensures only { (k : sorts.Kind) → IsKindText (tree_of tree.now) k → IsRead kind_of result k }
+
+    // An error tells the first bad node, and where there is one, it is told, unless memory runs out.
+    ensures fault { IfErr result (λ fault. Fails fault (kinds.kind_at 0 (tree_of tree.now))) }
+    ensures shape { (at : ℕ) → kinds.kind_at 0 (tree_of tree.now) ≡ Err at →
+        IsRefused result at }
+{
+    match kind_at(tree, 0) {
+        Ok((kind, _behind)) => Ok(kind),
+        Err(fault) => Err(fault),
+    }
+}
+
+/// The tree of a kind, which is its text where the kind is of a width.
+pub fn write_kind(alloc: Global, kind: Kind) -> Result<Sx, AllocError>
+    ensures { IfOk result (λ tree. tree_of tree ≡ kinds.kind_tree (kind_of kind)) }
+{
+    kind_tree(alloc, kind)
+}
