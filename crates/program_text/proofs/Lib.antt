@@ -1,1 +1,5 @@
 pub mod KindLaws
+pub mod PartLaws
+pub mod MonRows
+pub mod MonLaws
+pub mod ReadBack
