@@ -11,7 +11,7 @@ use Rattle.program_text.specs.declared.heads.MonHead.{MonHead}
 use Rattle.program_text.specs.declared.heads.MonHead.TheVariants as H
 use Rattle.program_text.specs.MonText.{mon_word, mon_heads}
 use Rattle.program_text.specs.MonReading.{four_of, mon_at, built_mon_at}
-use Rattle.program_text.specs.CodeMonRows.{if_row, loop_row, row_at, list_at, mon_by}
+use Rattle.program_text.specs.CodeMonRows.{do_row, if_row, loop_row, row_at, list_at, mon_by}
 
 pub mon_heads_found : AreFound mon_word mon_heads
 mon_heads_found H.Ret = refl
@@ -40,9 +40,14 @@ loop_is at inner (more t (more u (more v no_trees))) = refl
 loop_is at inner (more t (more u (more v (more w no_trees)))) = refl
 loop_is at inner (more t (more u (more v (more w (more z zs))))) = refl
 
+do_is : (at inner : ℕ) (ts : Trees) → built_mon_at at inner (Some H.Do) ts ≡ do_row at inner ts
+do_is at inner no_trees = refl
+do_is at inner (more t no_trees) = refl
+do_is at inner (more t (more u us)) = refl
+
 row_is : (at inner : ℕ) (h : MonHead) (ts : Trees) → built_mon_at at inner (Some h) ts ≡ row_at at inner h ts
 row_is at inner H.Ret ts = refl
-row_is at inner H.Do ts = refl
+row_is at inner H.Do ts = do_is at inner ts
 row_is at inner H.Guard ts = refl
 row_is at inner H.If ts = if_is at inner ts
 row_is at inner H.Store ts = refl

@@ -111,7 +111,13 @@ abbrev mutual
   pub built_mon_at : ℕ → ℕ → Option MonHead → Trees → Read Mon
   built_mon_at at inner None ts = Err at
   built_mon_at at inner (Some H.Ret) ts = ret_row inner ts
-  built_mon_at at inner (Some H.Do) ts = if is_sequence ts then sequence_at inner ts else Err at
+  built_mon_at at inner (Some H.Do) (more xs (more m ns)) =
+      if is_odd ns then (do
+        x ← names_at inner xs
+        y ← mon_at x.1 m
+        z ← sequence_at y.1 ns
+        Ok (Bind y.0 x.0 z.0, z.1)) else Err at
+  built_mon_at at inner (Some H.Do) _ = Err at
   built_mon_at at inner (Some H.Guard) ts = guard_row at inner (one_of ts)
   built_mon_at at inner (Some H.If) (more e (more m (more n no_trees))) = do
     x ← exp_at inner e
