@@ -1,5 +1,6 @@
 pub mod KindLaws
 pub mod PartLaws
+pub mod SequencesRead
 pub mod MonRows
 pub mod MonLaws
 pub mod ReadBack
