@@ -71,9 +71,9 @@ both (Bind m xs n) is =
     let first = both m q.0 in
     let last = both n q.1 in
     let parts : AreReadAs sequence_at (sequence_parts (Bind m xs n)) (Bind m xs n) = λ at.
-        ap (λ r. r >>= λ x. mon_at x.1 (mon_tree m) >>= λ y. sequence_at y.1 (sequence_parts n) >>= λ z. Ok (Bind y.0 x.0 z.0, z.1)) (names_read xs names.0 names.1 at)
-        ∙ ap (λ r. r >>= λ y. sequence_at y.1 (sequence_parts n) >>= λ z. Ok (Bind y.0 xs z.0, z.1)) (first.0 (behind at (names_tree xs)))
-        ∙ ap (λ r. r >>= λ z. Ok (Bind m xs z.0, z.1)) (last.1 (behind (behind at (names_tree xs)) (mon_tree m)))
+    ap (λ r. r >>= λ x. mon_at x.1 (mon_tree m) >>= λ y. sequence_at y.1 (sequence_parts n) >>= λ z. Ok (Bind y.0 x.0 z.0, z.1)) (names_read xs names.0 names.1 at)
+    ∙ ap (λ r. r >>= λ y. sequence_at y.1 (sequence_parts n) >>= λ z. Ok (Bind y.0 xs z.0, z.1)) (first.0 (behind at (names_tree xs)))
+    ∙ ap (λ r. r >>= λ z. Ok (Bind m xs z.0, z.1)) (last.1 (behind (behind at (names_tree xs)) (mon_tree m)))
     in (
       λ at.
           row_reads H.Do (sequence_parts (Bind m xs n)) at
@@ -89,26 +89,26 @@ both (If e m n) is =
     let first = (both m q.0).0 in
     let last = (both n q.1).0 in
     alone (mon_tree (If e m n)) (If e m n) refl (λ at.
-        row_reads H.If (three (exp_tree e) (mon_tree m) (mon_tree n)) at
-        ∙ ap (λ r. r >>= λ x. mon_at x.1 (mon_tree m) >>= λ y. mon_at y.1 (mon_tree n) >>= λ z. Ok (If x.0 y.0 z.0, z.1)) (exp_reads e p.0 (next (next at)))
-        ∙ ap (λ r. r >>= λ y. mon_at y.1 (mon_tree n) >>= λ z. Ok (If e y.0 z.0, z.1)) (first (behind (next (next at)) (exp_tree e)))
-        ∙ ap (λ r. r >>= λ z. Ok (If e m z.0, z.1)) (last (behind (behind (next (next at)) (exp_tree e)) (mon_tree m))))
+    row_reads H.If (three (exp_tree e) (mon_tree m) (mon_tree n)) at
+    ∙ ap (λ r. r >>= λ x. mon_at x.1 (mon_tree m) >>= λ y. mon_at y.1 (mon_tree n) >>= λ z. Ok (If x.0 y.0 z.0, z.1)) (exp_reads e p.0 (next (next at)))
+    ∙ ap (λ r. r >>= λ y. mon_at y.1 (mon_tree n) >>= λ z. Ok (If e y.0 z.0, z.1)) (first (behind (next (next at)) (exp_tree e)))
+    ∙ ap (λ r. r >>= λ z. Ok (If e m z.0, z.1)) (last (behind (behind (next (next at)) (exp_tree e)) (mon_tree m))))
 both (Write (Stored ty p path) e) is =
     let q = and_parts (is_place (Stored ty p path)) (is_exp e) is in
     alone (mon_tree (Write (Stored ty p path) e)) (Write (Stored ty p path) e) refl (λ at.
-        row_reads H.Store (four (type_tree ty) (exp_tree p) (Node (step_trees path)) (exp_tree e)) at ∙ write_reads Stored ty p path e q.0 q.1 at (next (next at)))
+    row_reads H.Store (four (type_tree ty) (exp_tree p) (Node (step_trees path)) (exp_tree e)) at ∙ write_reads Stored ty p path e q.0 q.1 at (next (next at)))
 both (Write (Written ty p path) e) is =
     let q = and_parts (is_place (Written ty p path)) (is_exp e) is in
     alone (mon_tree (Write (Written ty p path) e)) (Write (Written ty p path) e) refl (λ at.
-        row_reads H.Write (four (type_tree ty) (exp_tree p) (Node (step_trees path)) (exp_tree e)) at ∙ write_reads Written ty p path e q.0 q.1 at (next (next at)))
+    row_reads H.Write (four (type_tree ty) (exp_tree p) (Node (step_trees path)) (exp_tree e)) at ∙ write_reads Written ty p path e q.0 q.1 at (next (next at)))
 both (Write (Global x path) e) is =
     let q = and_parts (is_place (Global x path)) (is_exp e) is in
     let s = and_parts (is_name x) (is_path path) q.0 in
     alone (mon_tree (Write (Global x path) e)) (Write (Global x path) e) refl (λ at.
-        row_reads H.Gset (three (Atom x) (Node (step_trees path)) (exp_tree e)) at
-        ∙ ap (λ r. r >>= λ y. path_at y.1 (Node (step_trees path)) >>= λ z. exp_at z.1 (exp_tree e) >>= λ w. Ok (Write (Global y.0 z.0) w.0, w.1)) (name_reads x s.0 (next (next at)))
-        ∙ ap (λ r. r >>= λ z. exp_at z.1 (exp_tree e) >>= λ w. Ok (Write (Global x z.0) w.0, w.1)) (path_reads path s.1 (next (next (next (next at)))))
-        ∙ ap (λ r. r >>= λ w. Ok (Write (Global x path) w.0, w.1)) (exp_reads e q.1 (behind (next (next (next at))) (Node (step_trees path)))))
+    row_reads H.Gset (three (Atom x) (Node (step_trees path)) (exp_tree e)) at
+    ∙ ap (λ r. r >>= λ y. path_at y.1 (Node (step_trees path)) >>= λ z. exp_at z.1 (exp_tree e) >>= λ w. Ok (Write (Global y.0 z.0) w.0, w.1)) (name_reads x s.0 (next (next at)))
+    ∙ ap (λ r. r >>= λ z. exp_at z.1 (exp_tree e) >>= λ w. Ok (Write (Global x z.0) w.0, w.1)) (path_reads path s.1 (next (next (next (next at)))))
+    ∙ ap (λ r. r >>= λ w. Ok (Write (Global x path) w.0, w.1)) (exp_reads e q.1 (behind (next (next (next at))) (Node (step_trees path)))))
 both (Loop starts guard test m) is =
     let p = and_parts (each is_start starts && are_distinct (start_names starts)) (is_exp guard && (is_exp test && is_mon m)) is in
     let names = and_parts (each is_start starts) (are_distinct (start_names starts)) p.0 in
@@ -117,17 +117,17 @@ both (Loop starts guard test m) is =
     let body = (both m s.1).0 in
     let t = Node (trees_for start_tree starts) in
     alone (mon_tree (Loop starts guard test m)) (Loop starts guard test m) refl (λ at.
-        row_reads H.Loop (four t (exp_tree guard) (exp_tree test) (mon_tree m)) at
-        ∙ ap (λ r. r >>= λ x. exp_at x.1 (exp_tree guard) >>= λ y. exp_at y.1 (exp_tree test) >>= λ z. mon_at z.1 (mon_tree m) >>= λ w. Ok (Loop x.0 y.0 z.0 w.0, w.1)) (starts_read starts names.0 names.1 (next (next at)))
-        ∙ ap (λ r. r >>= λ y. exp_at y.1 (exp_tree test) >>= λ z. mon_at z.1 (mon_tree m) >>= λ w. Ok (Loop starts y.0 z.0 w.0, w.1)) (exp_reads guard q.0 (behind (next (next at)) t))
-        ∙ ap (λ r. r >>= λ z. mon_at z.1 (mon_tree m) >>= λ w. Ok (Loop starts guard z.0 w.0, w.1)) (exp_reads test s.0 (behind (behind (next (next at)) t) (exp_tree guard)))
-        ∙ ap (λ r. r >>= λ w. Ok (Loop starts guard test w.0, w.1)) (body (behind (behind (behind (next (next at)) t) (exp_tree guard)) (exp_tree test))))
+    row_reads H.Loop (four t (exp_tree guard) (exp_tree test) (mon_tree m)) at
+    ∙ ap (λ r. r >>= λ x. exp_at x.1 (exp_tree guard) >>= λ y. exp_at y.1 (exp_tree test) >>= λ z. mon_at z.1 (mon_tree m) >>= λ w. Ok (Loop x.0 y.0 z.0 w.0, w.1)) (starts_read starts names.0 names.1 (next (next at)))
+    ∙ ap (λ r. r >>= λ y. exp_at y.1 (exp_tree test) >>= λ z. mon_at z.1 (mon_tree m) >>= λ w. Ok (Loop starts y.0 z.0 w.0, w.1)) (exp_reads guard q.0 (behind (next (next at)) t))
+    ∙ ap (λ r. r >>= λ z. mon_at z.1 (mon_tree m) >>= λ w. Ok (Loop starts guard z.0 w.0, w.1)) (exp_reads test s.0 (behind (behind (next (next at)) t) (exp_tree guard)))
+    ∙ ap (λ r. r >>= λ w. Ok (Loop starts guard test w.0, w.1)) (body (behind (behind (behind (next (next at)) t) (exp_tree guard)) (exp_tree test))))
 both (Call f es) is =
     let p = and_parts (is_name f) (each is_exp es) is in
     alone (mon_tree (Call f es)) (Call f es) refl (λ at.
-        row_reads H.Call (more (Atom f) (exp_trees es)) at
-        ∙ ap (λ r. r >>= λ x. exps_at x.1 (exp_trees es) >>= λ y. Ok (Call x.0 y.0, y.1)) (name_reads f p.0 (next (next at)))
-        ∙ ap (λ r. r >>= λ y. Ok (Call f y.0, y.1)) (exps_read es p.1 (next (next (next at)))))
+    row_reads H.Call (more (Atom f) (exp_trees es)) at
+    ∙ ap (λ r. r >>= λ x. exps_at x.1 (exp_trees es) >>= λ y. Ok (Call x.0 y.0, y.1)) (name_reads f p.0 (next (next at)))
+    ∙ ap (λ r. r >>= λ y. Ok (Call f y.0, y.1)) (exps_read es p.1 (next (next (next at)))))
 both (Pick k) is = alone (mon_tree (Pick k)) (Pick k) refl (λ at.
     row_reads H.Pick (more (kind_tree k) no_trees) at ∙ ap (λ r. r >>= λ x. Ok (Pick x.0, x.1)) (kind_reads k is (next (next at))))
 

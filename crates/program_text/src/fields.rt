@@ -28,11 +28,7 @@ pub(crate) fn four(parts: &[Sx]) -> Option<(&Sx, &Sx, &Sx, &Sx)>
 }
 
 /// The names with their start expressions that a list is, no two names the same.
-pub(crate) fn starts_at(
-    alloc: Global,
-    tree: &Sx,
-    at: u32,
-) -> Result<(Vec<Start>, u32), TextFault>
+pub(crate) fn starts_at(alloc: Global, tree: &Sx, at: u32) -> Result<(Vec<Start>, u32), TextFault>
     ensures { Gives (λ starts. map start_of starts.items) result
         (starts_at at (tree_of tree.now)) }
 {
@@ -57,12 +53,7 @@ fn new_starts_at(alloc: Global, parts: &[Sx], at: u32) -> Result<(Vec<Start>, u3
 }
 
 // A name that none of those before it has, with an expression.
-fn start_at(
-    alloc: Global,
-    before: &[Start],
-    tree: &Sx,
-    at: u32,
-) -> Result<(Start, u32), TextFault>
+fn start_at(alloc: Global, before: &[Start], tree: &Sx, at: u32) -> Result<(Start, u32), TextFault>
     ensures { Gives start_of result
         (start_at (map (λ s. (start_of s).name) before.now) at (tree_of tree.now)) }
 {

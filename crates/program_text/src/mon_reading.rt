@@ -161,11 +161,7 @@ fn begins_do(tree: &Sx) -> bool
 
 // A program with fronts before it, the first one first.
 #[tactic(auto, using(monad_lang::proofs::WithFronts::with_fronts_push))]
-fn with_all(
-    alloc: Global,
-    mut fronts: Vec<Front>,
-    last: Box<Mon>,
-) -> Result<Box<Mon>, AllocError>
+fn with_all(alloc: Global, mut fronts: Vec<Front>, last: Box<Mon>) -> Result<Box<Mon>, AllocError>
     ensures { IfOk result (λ m. mon_of m.value ≡ with_fronts fronts.items (mon_of last.value)) }
 {
     let mut all = last;

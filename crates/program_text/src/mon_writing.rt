@@ -156,9 +156,7 @@ fn place_parts(alloc: Global, place: &Place) -> Result<Vec<Sx>, AllocError>
     ensures { IfOk result (λ parts. trees_in parts.items ≡ place_parts (place_of place.now)) }
 {
     match place {
-        Place::Stored(ty, pointer, path) => {
-            heap_parts(alloc, MonHead::Store, ty, pointer, path)
-        }
+        Place::Stored(ty, pointer, path) => { heap_parts(alloc, MonHead::Store, ty, pointer, path) }
         Place::Written(ty, pointer, path) => {
             heap_parts(alloc, MonHead::Write, ty, pointer, path)
         }
@@ -180,7 +178,7 @@ fn heap_parts(
 ) -> Result<Vec<Sx>, AllocError>
     ensures { IfOk result (λ parts. trees_in parts.items ≡ more (Atom (mon_word head))
         (more (type_tree (type_of ty.now)) (more (exp_tree (exp_of pointer.now))
-            (more (Node (step_trees (path_of path.now))) no_trees)))) }
+        (more (Node (step_trees (path_of path.now))) no_trees)))) }
 {
     let parts = begun(alloc, head.word())?;
     let ty = type_tree(alloc, ty)?;
@@ -210,12 +208,7 @@ fn if_list(alloc: Global, test: &Exp, first: Sx) -> Result<Around, AllocError>
     Ok(Around::ending(alloc, before))
 }
 
-fn loop_list(
-    alloc: Global,
-    starts: &[Start],
-    guard: &Exp,
-    test: &Exp,
-) -> Result<Around, AllocError>
+fn loop_list(alloc: Global, starts: &[Start], guard: &Exp, test: &Exp) -> Result<Around, AllocError>
     ensures before { IfOk result (λ list. trees_in list.before.items
         ≡ more (Atom (mon_word H.Loop)) (more (Node (trees_for start_tree (map start_of starts.now))) (more (exp_tree (exp_of guard.now)) (more (exp_tree (exp_of test.now)) no_trees)))) }
     ensures behind { IfOk result (λ list. trees_in list.behind.items ≡ no_trees) }

@@ -55,7 +55,11 @@ pub(crate) fn store_row(alloc: Global, at: u32, inner: u32, parts: &[Sx]) -> Rea
     let (pointer, at) = exp_at(alloc, pointer, at)?;
     let (path, at) = path_at(alloc, steps, at)?;
     let (value, at) = exp_at(alloc, value, at)?;
-    read(alloc, Mon::Write(Place::Stored(ty, pointer, path), value), at)
+    read(
+        alloc,
+        Mon::Write(Place::Stored(ty, pointer, path), value),
+        at,
+    )
 }
 
 pub(crate) fn write_row(alloc: Global, at: u32, inner: u32, parts: &[Sx]) -> Read
@@ -69,7 +73,11 @@ pub(crate) fn write_row(alloc: Global, at: u32, inner: u32, parts: &[Sx]) -> Rea
     let (pointer, at) = exp_at(alloc, pointer, at)?;
     let (path, at) = path_at(alloc, steps, at)?;
     let (value, at) = exp_at(alloc, value, at)?;
-    read(alloc, Mon::Write(Place::Written(ty, pointer, path), value), at)
+    read(
+        alloc,
+        Mon::Write(Place::Written(ty, pointer, path), value),
+        at,
+    )
 }
 
 pub(crate) fn gset_row(alloc: Global, at: u32, inner: u32, parts: &[Sx]) -> Read

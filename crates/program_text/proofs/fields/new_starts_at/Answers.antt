@@ -17,8 +17,8 @@ parts-preserved c =
 pub returns-in_err-start : goal.returns-in_err-start
 returns-in_err-start c =
     let bad =
-      named_refused start_of (λ (x : Start). x.name) start_at c.parts.starts.items c.in_err-start.field-0.0 c.parts.at c.args.parts.now c.parts.part-index c.part-item.result (named_at (λ (x : Start). x.name) start_at [] c.args.at (trees_in c.args.parts.now))
-      c.parts-test.true c.part-item.is
-      (subst (Fails c.in_err-start.field-0.0) (ap (λ ss. start_at (map (λ s. (start_of s).name) ss) c.parts.at (tree_of c.part-item.result)) c.deref.ensures.value) c.in_err-start.ensures) c.parts.invariant in
+    named_refused start_of (λ (x : Start). x.name) start_at c.parts.starts.items c.in_err-start.field-0.0 c.parts.at c.args.parts.now c.parts.part-index c.part-item.result (named_at (λ (x : Start). x.name) start_at [] c.args.at (trees_in c.args.parts.now))
+    c.parts-test.true c.part-item.is
+    (subst (Fails c.in_err-start.field-0.0) (ap (λ ss. start_at (map (λ s. (start_of s).name) ss) c.parts.at (tree_of c.part-item.result)) c.deref.ensures.value) c.in_err-start.ensures) c.parts.invariant in
     let p = err_from_is_err_and c.from_residual.result c.from_residual.ensures.1 in
     rw (p.1, p.2) bad

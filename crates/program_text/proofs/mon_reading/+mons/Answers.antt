@@ -1,8 +1,11 @@
-use Rattle.std.proofs.Common.{ap, subst, ◌∙◌}
+use Rattle.std.proofs.Common.{arith, map, string_bytes, refl, ap, subst, ◌∙◌}
 use Rattle.ac_sx.specs.CodeSx.{tree_of, trees_in}
 use Rattle.expression_text.specs.Reading.{next}
 use Rattle.expression_text.specs.CodeFault.{Gives}
+use Rattle.monad_lang.specs.declared.fronts.Front as F
 use Rattle.monad_lang.specs.CodeProgram.{mon_of}
+use Rattle.program_text.specs.MonReading.{sequence_at}
+use Rattle.program_text.proofs.SequencesRead.{sequence_more}
 use Rattle.program_text.proofs.MonRows.{mon_given, mon_refused}
 use Rattle.program_text.proofs.mon_reading.+mons.Goals as goal
 
@@ -14,3 +17,11 @@ mon_at-returns-in-Some-mon_head t c =
 
 pub mon_at-returns-in-None : goal.mon_at-returns-in-None
 mon_at-returns-in-None t c = mon_refused c.args.at c.in-Some.word.now (trees_in c.in-Some.parts.now) (tree_of c.args.tree.now) c.in-Some.ensures.parts c.in-None.ensures.none
+
+pub sequence_at-binds-preserved : goal.sequence_at-binds-preserved
+sequence_at-binds-preserved t c = record {
+  same =
+      sequence_more c.binds.fronts.items c.push.new.self.items (F.TheVariants.Bind c.in_ok-first.first c.in_ok-names.names) c.binds.at c.in_ok-names.behind c.in_ok-first.behind (trees_in c.binds.rest.now) (tree_of c.in-Some.names.now, tree_of c.in-Some.first.now, trees_in c.in-Some.others.now) (map string_bytes c.in_ok-names.names.items)
+      (mon_of c.in_ok-first.first.value) (sequence_at c.args.at (trees_in c.args.parts.now)) c.in-Some.ensures.parts c.in_ok-push.ensures.items c.in_ok-names.ensures c.in_ok-first.ensures (λ l. refl) c.binds.invariant.same;
+  smaller = omega (arith, c.in-Some.ensures.smaller, c.binds.invariant.smaller);
+}
