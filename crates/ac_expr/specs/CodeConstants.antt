@@ -13,6 +13,7 @@ use Rattle.c_memory.specs.Tags.{is_pointer_ok}
 use Rattle.expression_lang.specs.Expression.{Exp, WordLit, NumberLit, TruthLit, WordBinary, WordShift, WordUnary, WordCompare, Cast, ToNat, ToInt, ToWord, Arith, Negate, Lt, Le, Between, Eq, And, Or, Imp, Not, If, Padd, At, PtrOk, Path, Here, IntoField, IntoElement}
 use Rattle.expression_lang.specs.Evaluation.{cast_op, if_truth}
 use Rattle.expression_lang.specs.Sort.{is_width}
+use Rattle.ac_expr.specs.Step.{constant}
 
 abbrev pub of_one : Option Value → (Value → Option Value) → Option Value
 of_one None f = None
@@ -136,3 +137,8 @@ abbrev mutual
   computed_at l (IntoElement e path) s a =
       at_index (number_of (computed l e))
       (λ n. at_place (place_from (space l) a (step_spot s (Index n))) (λ q b. computed_at l path q b))
+
+-- the constant that a value is
+abbrev pub as_constant : Option Value → Option Exp
+as_constant None = None
+as_constant (Some v) = constant v

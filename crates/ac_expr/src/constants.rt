@@ -17,7 +17,7 @@ ghost use Rattle.expression_lang.specs.Evaluation.{cast_op, if_truth};
 ghost use Rattle.expression_lang.specs.CodeExpression.{exp_of, path_of, cast_op_of};
 ghost use Rattle.expression_lang.specs.Sort.{is_width};
 ghost use Rattle.ac_expr.specs.CodeConstant.{constant_in};
-ghost use Rattle.ac_expr.specs.CodeConstants.{of_one, by_truth, by_word, by_number, by_words, by_numbers, by_truths, narrow, join_words, test_words, of_width, address_of, by_address, pointer, moved_by, object_ok, number_of, computed, computed_at};
+ghost use Rattle.ac_expr.specs.CodeConstants.{of_one, by_truth, by_word, by_number, by_words, by_numbers, by_truths, narrow, join_words, test_words, of_width, address_of, by_address, pointer, moved_by, object_ok, number_of, computed, computed_at, as_constant};
 
 use c_memory::{Place, Step, element_address, place_at};
 use c_values::views::word;
@@ -423,6 +423,19 @@ fn number_of(a: Option<Constant>) -> Option<Number>
     match a? {
         Constant::Number(n) => Some(n),
         _ => None,
+    }
+}
+
+/// The constant that an expression of constants alone is, as far as 128 bits go. There is none
+/// where a part of it is no constant, or isn't of the sort that its head asks for. It takes no
+/// memory.
+pub fn constant_of(e: &Exp, l: &Layout) -> Option<Exp>
+    ensures { option_map exp_of result ≡ as_constant (computed l.now (exp_of e.now)) }
+{
+    match computed(e, l)? {
+        Constant::Word(w) => Some(Exp::Word(w)),
+        Constant::Number(n) => Some(Exp::Number(n)),
+        Constant::Truth(b) => Some(Exp::Truth(b)),
     }
 }
 

@@ -15,6 +15,7 @@ mod step_laws;
 mod steps;
 
 pub use chain::{Facts, Sequence, Split};
+pub use constants::constant_of;
 pub use differences::one_step;
 pub use expression_lang::{
     Binder, CastOp, Env, EvalFault, Exp, Kind, Level, Names, Path, Scalar, Signature, Sort, eval,
