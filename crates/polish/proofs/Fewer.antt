@@ -356,7 +356,7 @@ fold_shrinks l fs (Upd e path v) r h = omega (arith, one_node l (Upd e path v) r
 
 pub back_shrinks : Shrinks converted_back
 back_shrinks fs (ToNat (ToWord n a)) b h =
-    let e = ap nodes (in_range fs (Between (least false n) a (greatest false n)) a b h).1 in omega (arith, e)
+    let e = ap nodes (in_range n fs (Between (least false n) a (greatest false n)) a b h).1 in omega (arith, e)
 back_shrinks fs (ToInt (ToWord n a)) b h =
-    let e = ap nodes (in_range fs (Between (least true n) a (greatest true n)) a b h).1 in omega (arith, e)
+    let e = ap nodes (in_range n fs (Between (least true n) a (greatest true n)) a b h).1 in omega (arith, e)
 back_shrinks fs e b h = absurd cc

@@ -1,6 +1,6 @@
 -- Folding makes one step: the value of constants alone stands in their place, has their sort, and passes no test of heads that
 -- no constant passes.
-use Rattle.std.proofs.Common.{◌≡◌, ℕ, ◌^◌, ◌<◌, nat_lt, Bool, true, false, cond, ◌&&◌, ◌||◌, List, [], Some, None, inr, refl, sym, ap, ◌∙◌, subst}
+use Rattle.std.proofs.Common.{◌≡◌, ℕ, ◌^◌, ◌<◌, nat_lt, Bool, true, false, cond, ◌&&◌, ◌||◌, List, [], Option, Some, None, inr, refl, sym, ap, ◌∙◌, subst}
 use Rattle.std.proofs.lemmas.Bool.{and_from, or_parts, lt-ltb}
 use Rattle.c_values.specs.Word.{Word, IsWord}
 use Rattle.c_values.specs.Value.{Value, Bits, Number, Truth, Parts}
@@ -11,6 +11,8 @@ use Rattle.expression_lang.specs.Sort.{WordSort, NumberSort, TruthSort, Sort, Of
 use Rattle.expression_lang.specs.Signature.{no_env}
 use Rattle.expression_lang.proofs.Fine.{HasSort, fine}
 use Rattle.ac_expr.specs.Fact.{Fact}
+use Rattle.ac_expr.specs.CodeConstants.{computed, as_constant}
+use Rattle.ac_expr.proofs.ConstantsSound.{right}
 use Rattle.ac_expr.specs.Step.{is_open, no_state, constant_value, is_wide, AreConstants, constant, IsItsValue}
 use Rattle.monad_lang.specs.Program.{Mon}
 use Rattle.program_facts.proofs.Sorts.{none_is}
@@ -24,16 +26,15 @@ use Rattle.polish.proofs.TestsKept.{KeepsFree}
 use Rattle.polish.proofs.Closed.{closed_sort, weaker, IsGood, closed_good}
 use Rattle.polish.proofs.Accepted.{IsReached, steps_reach, program_reached}
 
-by_test : (l : Layout) (e r : Exp) (b : Bool) → has (λ x. is_open x || is_wide (constant_value l x)) e ≡ b →
-    cond b None (constant (constant_value l e)) ≡ Some r → IsItsValue l e r
-by_test l e r true h k = absurd cc
-by_test l e r false h k = (h, k)
+by_value : (l : Layout) (e r : Exp) (o : Option Value) → computed l e ≡ o → as_constant o ≡ Some r → IsItsValue l e r
+by_value l e r None h k = absurd cc
+by_value l e r (Some v) h k = let x = right l e v h in (x.constants, ap constant x.value ∙ k)
 
 pub folds : (l : Layout) (fs : List Fact) (e r : Exp) → folded l fs e ≡ Some r → IsItsValue l e r
 folds l fs (WordLit w) r h = absurd cc
 folds l fs (NumberLit n) r h = absurd cc
 folds l fs (TruthLit b) r h = absurd cc
-folds l fs e r h = by_test l e r (has (λ x. is_open x || is_wide (constant_value l x)) e) refl h
+folds l fs e r h = by_value l e r (computed l e) refl h
 
 -- whatever is known
 abbrev pub Whatever : List Fact → List Fact → Type 0

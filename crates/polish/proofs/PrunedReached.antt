@@ -35,11 +35,11 @@ use Rattle.polish.proofs.KnownIs.{known_exactly}
 
 -- a conversion back
 
-pub in_range : (fs : List Fact) (range a r : Exp) → where_in_range fs range a ≡ Some r → IsKnown fs range × (r ≡ a)
-in_range fs range a r h = by_test (is_known fs range) refl h
+pub in_range : (n : ℕ) (fs : List Fact) (range a r : Exp) → where_in_range n fs range a ≡ Some r → IsKnown fs range × (r ≡ a)
+in_range n fs range a r h = by_test (is_width n && is_known fs range) refl h
   where
-    by_test : (b : Bool) → is_known fs range ≡ b → cond b (Some a) None ≡ Some r → IsKnown fs range × (r ≡ a)
-    by_test true e k = ((known_exactly fs range).0 e, sym (some_same a r k))
+    by_test : (b : Bool) → (is_width n && is_known fs range) ≡ b → cond b (Some a) None ≡ Some r → IsKnown fs range × (r ≡ a)
+    by_test true e k = ((known_exactly fs range).0 (and_parts (is_width n) (is_known fs range) e).1, sym (some_same a r k))
     by_test false e k = absurd cc
 
 abbrev SameFacts : List Fact → List Fact → Type 0
@@ -50,10 +50,10 @@ same_facts = record { none = refl; more = λ k fs gs u. ap (λ hs. k ∷ hs) u }
 
 back_steps : (l : Layout) → MakesSteps SameFacts l converted_back
 back_steps l g same fs gs u (ToNat (ToWord n a)) b h =
-    let i = in_range fs (Between (least false n) a (greatest false n)) a b h in
+    let i = in_range n fs (Between (least false n) a (greatest false n)) a b h in
     inl (subst (λ ks. IsKnown ks (Between (least false n) a (greatest false n))) u i.0, i.1)
 back_steps l g same fs gs u (ToInt (ToWord n a)) b h =
-    let i = in_range fs (Between (least true n) a (greatest true n)) a b h in
+    let i = in_range n fs (Between (least true n) a (greatest true n)) a b h in
     inl (subst (λ ks. IsKnown ks (Between (least true n) a (greatest true n))) u i.0, i.1)
 back_steps l g same fs gs u e b h = absurd cc
 
@@ -66,17 +66,17 @@ number_under g n a o k =
 
 back_sorts : (g : Scope) → KeepsSorts g converted_back
 back_sorts g fs (ToNat (ToWord n a)) b h o k =
-    ap (λ e. sort_of g e) (in_range fs (Between (least false n) a (greatest false n)) a b h).1 ∙ number_under g n a o k
+    ap (λ e. sort_of g e) (in_range n fs (Between (least false n) a (greatest false n)) a b h).1 ∙ number_under g n a o k
 back_sorts g fs (ToInt (ToWord n a)) b h o k =
-    ap (λ e. sort_of g e) (in_range fs (Between (least true n) a (greatest true n)) a b h).1 ∙ number_under g n a o k
+    ap (λ e. sort_of g e) (in_range n fs (Between (least true n) a (greatest true n)) a b h).1 ∙ number_under g n a o k
 back_sorts g fs e b h o k = absurd cc
 
 pub back_free : (test : Exp → Bool) → KeepsFree test converted_back
 back_free test fs (ToNat (ToWord n a)) b h k =
-    subst (λ e. has test e ≡ false) (sym (in_range fs (Between (least false n) a (greatest false n)) a b h).1)
+    subst (λ e. has test e ≡ false) (sym (in_range n fs (Between (least false n) a (greatest false n)) a b h).1)
     (or_parts (test (ToWord n a)) (has test a) (or_parts (test (ToNat (ToWord n a))) (has test (ToWord n a)) k).1).1
 back_free test fs (ToInt (ToWord n a)) b h k =
-    subst (λ e. has test e ≡ false) (sym (in_range fs (Between (least true n) a (greatest true n)) a b h).1)
+    subst (λ e. has test e ≡ false) (sym (in_range n fs (Between (least true n) a (greatest true n)) a b h).1)
     (or_parts (test (ToWord n a)) (has test a) (or_parts (test (ToInt (ToWord n a))) (has test (ToWord n a)) k).1).1
 back_free test fs e b h k = absurd cc
 

@@ -1,10 +1,11 @@
 -- Guards that are known from what comes before them go, and so do conversions of a number to a word and back, where its range
 -- is known. What is left is made tidy again.
-use Rattle.std.specs.Prelude.{true, false, List, [], ◌∷◌, Option, Some, None, if◌then◌else◌}
+use Rattle.std.specs.Prelude.{ℕ, true, false, ◌&&◌, List, [], ◌∷◌, Option, Some, None, if◌then◌else◌}
 use Rattle.c_values.specs.Name.{Name}
 use Rattle.c_values.specs.Number.{least, greatest}
 use Rattle.c_values.specs.Layout.{Layout}
 use Rattle.expression_lang.specs.Expression.{Exp, ToNat, ToInt, ToWord, Between}
+use Rattle.expression_lang.specs.Sort.{is_width}
 use Rattle.ac_expr.specs.Fact.{Fact, Whole, NotTrue}
 use Rattle.monad_lang.specs.Program as M
 use Rattle.monad_lang.specs.Program.{Mon}
@@ -14,14 +15,14 @@ use Rattle.polish.specs.Rewritten.{direct_steps, direct_nodes}
 use Rattle.polish.specs.Known.{is_known}
 use Rattle.polish.specs.Polished.{Polished, is_refl, bind_tree, if_tree, loop_tree, exp_tree, last_of, unchanged, at_once, and_then, polished}
 
--- the number, where it is known to be in the range
-abbrev pub where_in_range : List Fact → Exp → Exp → Option Exp
-where_in_range fs range a = if is_known fs range then Some a else None
+-- the number, where it is known to be in the range of words of the width
+abbrev pub where_in_range : ℕ → List Fact → Exp → Exp → Option Exp
+where_in_range n fs range a = if is_width n && is_known fs range then Some a else None
 
 -- a number that was made a word, as a number
 abbrev pub converted_back : List Fact → Exp → Option Exp
-converted_back fs (ToNat (ToWord n a)) = where_in_range fs (Between (least false n) a (greatest false n)) a
-converted_back fs (ToInt (ToWord n a)) = where_in_range fs (Between (least true n) a (greatest true n)) a
+converted_back fs (ToNat (ToWord n a)) = where_in_range n fs (Between (least false n) a (greatest false n)) a
+converted_back fs (ToInt (ToWord n a)) = where_in_range n fs (Between (least true n) a (greatest true n)) a
 converted_back fs e = None
 
 abbrev pub converted_in : List Fact → Mon → Polished
