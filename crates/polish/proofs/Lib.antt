@@ -22,3 +22,15 @@ pub mod Worked
 pub mod Shallow
 pub mod AllFolded
 pub mod TidyStays
+pub mod Lists
+pub mod CapturedNames
+pub mod ShapeSteps
+pub mod ListSteps
+pub mod FirstPut
+pub mod Takings
+pub mod Chains
+pub mod Nexts
+pub mod KnownTest
+pub mod Walks
+pub mod RewrittenSteps
+pub mod PolishedParts

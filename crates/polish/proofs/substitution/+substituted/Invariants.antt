@@ -1,0 +1,17 @@
+-- The fronts put aside, around what becomes of what is left, are the whole.
+use Rattle.std.proofs.Common.{◌≡◌, ◌≤◌}
+use Rattle.expression_lang.specs.CodeExpression.{exp_of}
+use Rattle.monad_lang.specs.declared.program.Mon.{size-Mon}
+use Rattle.monad_lang.specs.CodeProgram.{mon_of}
+use Rattle.monad_lang.specs.CodeFront.{with_fronts}
+use Rattle.program_facts.specs.Substituted.{program_substituted}
+use Rattle.polish.proofs.substitution.+substituted.Given as goal
+
+abbrev pub invariant-substituted-along : goal.invariant-substituted-along
+invariant-substituted-along l = record {
+  same : with_fronts l.fronts.items (program_substituted l.change.name.now (exp_of l.change.exp.now) (mon_of l.rest)) ≡ program_substituted l.change.name.now (exp_of l.change.exp.now) (mon_of l.m);
+  smaller : size-Mon l.rest ≤ size-Mon l.m;
+}
+
+abbrev pub decreases-substituted-along : goal.decreases-substituted-along
+decreases-substituted-along l = size-Mon l.rest
