@@ -56,12 +56,7 @@ pub(crate) fn with_body(alloc: Global, m: &Mon, body: Polished) -> Result<Polish
 }
 
 // A program by one step, and what was done to it then.
-fn and_then(
-    alloc: Global,
-    rule: Rule,
-    m: &Mon,
-    then: Polished,
-) -> Result<Polished, AllocError>
+fn and_then(alloc: Global, rule: Rule, m: &Mon, then: Polished) -> Result<Polished, AllocError>
     ensures { IfOk result (λ p. made_in p ≡ then_seen (one_walk (leaf (rule_of rule))) (mon_of m.now) (made_in then)) }
 {
     let Polished { program, walk } = then;

@@ -30,7 +30,11 @@ struct Placed {
 
 /// Expressions, and then copies of others.
 #[tactic(auto, using(crate::proofs::Lists::mapped_push))]
-pub(crate) fn and_others(alloc: Global, before: Vec<Exp>, exps: &[Exp]) -> Result<Vec<Exp>, AllocError>
+pub(crate) fn and_others(
+    alloc: Global,
+    before: Vec<Exp>,
+    exps: &[Exp],
+) -> Result<Vec<Exp>, AllocError>
     ensures { IfOk result (λ all.
         map exp_of all.items ≡ map exp_of before.items ++ map exp_of exps.now) }
 {
@@ -118,11 +122,7 @@ fn copy_of_start(alloc: Global, start: &Start) -> Result<Start, AllocError>
 
 // Starts, and then copies of others.
 #[tactic(auto, using(crate::proofs::Lists::mapped_push))]
-fn and_starts(
-    alloc: Global,
-    before: Vec<Start>,
-    starts: &[Start],
-) -> Result<Vec<Start>, AllocError>
+fn and_starts(alloc: Global, before: Vec<Start>, starts: &[Start]) -> Result<Vec<Start>, AllocError>
     ensures { IfOk result (λ all.
         map start_of all.items ≡ map start_of before.items ++ map start_of starts.now) }
 {

@@ -152,12 +152,15 @@ pub(crate) fn put(
     let Mon::Ret(values) = first else {
         return Ok(None);
     };
-    let Some(Taken {
-        exp,
-        name,
-        exps,
-        names,
-    }) = taken_from(alloc, position, values, names)? else {
+    let Some(
+        Taken {
+            exp,
+            name,
+            exps,
+            names,
+        },
+    ) = taken_from(alloc, position, values, names)?
+    else {
         return Ok(None);
     };
     let new = substituted(alloc, InPlaceOf { name, exp }, rest)?;

@@ -89,11 +89,7 @@ fn tree_over_two(
 }
 
 // Two trees as one, with the program between.
-fn both(
-    alloc: Global,
-    first: Step,
-    last: Tree<Rule>,
-) -> Result<Tree<Rule>, AllocError>
+fn both(alloc: Global, first: Step, last: Tree<Rule>) -> Result<Tree<Rule>, AllocError>
     ensures { IfOk result (λ t. tree_of t ≡ node (plain.Trans (mon_of first.program.value))
         (trees.tree (tree_of first.tree) (trees.tree (tree_of last) no_trees))) }
 {

@@ -81,11 +81,7 @@ pub(crate) enum Opening<'a> {
 }
 
 #[cycle(substituted)]
-fn opened<'a>(
-    alloc: Global,
-    change: InPlaceOf<'_>,
-    m: &'a Mon,
-) -> Result<Opening<'a>, AllocError>
+fn opened<'a>(alloc: Global, change: InPlaceOf<'_>, m: &'a Mon) -> Result<Opening<'a>, AllocError>
     ensures same { IfOk result (λ new.
         becomes (program_substituted change.entry.name.now (exp_of change.entry.exp.now)) new
         ≡ program_substituted change.entry.name.now (exp_of change.entry.exp.now) (mon_of m.now)) }
