@@ -24,6 +24,7 @@ pub mod AllFolded
 pub mod TidyStays
 pub mod Lists
 pub mod CapturedNames
+pub mod Substitutions
 pub mod ShapeSteps
 pub mod ListSteps
 pub mod FirstPut

@@ -21,15 +21,18 @@ chained_on : (c d e : Chain) (m n : Mon) → chained c m (chained d n e) ≡ cha
 chained_on (single t) d e m n = refl
 chained_on (before t k c) d e m n = ap (λ x. before t k x) (chained_on c d e m n)
 
+abbrev seen_at : Mon → Walk → Seen
+seen_at n w = record { program = n; walk = w }
+
 pub walks_on : (c : Chain) (m : Mon) (t : Tree Rule) (n : Mon) (s : Seen) →
     then_seen (went c) m (then_seen (one_walk t) n s) ≡ then_seen (went (chained c m (single t))) n s
 walks_on c m t n s = by s.walk.stayed
   where
     by : (b : Bool) →
-        record { program = s.program; walk = joined_walks (went c) m (cond b (one_walk t) (went (before t n s.walk.steps))) }
-        ≡ record { program = s.program; walk = cond b (went (chained c m (single t))) (went (chained (chained c m (single t)) n s.walk.steps)) }
+        seen_at s.program (joined_walks (went c) m (cond b (one_walk t) (went (before t n s.walk.steps))))
+        ≡ seen_at s.program (cond b (went (chained c m (single t))) (went (chained (chained c m (single t)) n s.walk.steps)))
     by true = refl
-    by false = ap (λ x. record { program = s.program; walk = went x }) (chained_on c (single t) s.walk.steps m n)
+    by false = ap (λ x. seen_at s.program (went x)) (chained_on c (single t) s.walk.steps m n)
 
 pub with_steps_push : (ss : List S.Step) (s : S.Step) (c : Chain) →
     with_steps (ss ++ s ∷ []) c ≡ with_steps ss (before (tree_of s.tree) (mon_of s.program.value) c)
@@ -49,7 +52,7 @@ module _ (f : Choice) (shrinks : IsShrinking f) (fs : List Fact) (m : Mon) where
   pub rewritten_on : (x : Mon) → direct_step f fs m ≡ Some x → rewritten_by f fs m ≡ then_seen (one_walk (leaf R.Exp)) x (rewritten_by f fs x)
   rewritten_on x h =
       ap (λ ms. after_steps m ms) (steps_go_on f shrinks fs m ∙ ap (λ o. more o (λ y. direct_steps f fs (direct_nodes y) y)) h)
-      ∙ ap (λ w. record { program = last_of x (direct_steps f fs (direct_nodes x) x); walk = w })
+      ∙ ap (λ w. seen_at (last_of x (direct_steps f fs (direct_nodes x) x)) w)
       (walk_joined (leaf R.Exp) x (exp_tree (direct_steps f fs (direct_nodes x) x)))
 
   pub rewritten_no_more : direct_step f fs m ≡ None → rewritten_by f fs m ≡ stays_at m

@@ -144,6 +144,7 @@ pruned_loop fs starts guard test m =
 pub once_more_walk : (l : Layout) (p q : Polished) → seen (once_more l p q) ≡ once_more_seen l (seen p) (seen q)
 once_more_walk l p q = by (is_refl q.tree)
   where
+    r : Polished
     r = polished l q.program
 
     by : (b : Bool) → seen (cond b p (and_then p.tree p.program (and_then q.tree q.program r)))

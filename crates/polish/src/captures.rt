@@ -1,16 +1,17 @@
 //! Which names binders would capture, and which are left free.
 
-ghost use Rattle.std.specs.Prelude.{◌≡◌, ◌||◌, not, map, string_bytes};
+ghost use Rattle.std.specs.Prelude.{◌≡◌, ◌||◌, not, map, string_bytes, IfSome, IfNone};
 ghost use Rattle.c_values.specs.Name.{is_among};
 ghost use Rattle.expression_lang.specs.CodeExpression.{exp_of};
 ghost use Rattle.expression_lang.specs.Mentions.{names};
-ghost use Rattle.monad_lang.specs.CodeProgram.{mon_of};
+ghost use Rattle.monad_lang.specs.Program.{Loop};
+ghost use Rattle.monad_lang.specs.CodeProgram.{start_of, mon_of};
 ghost use Rattle.monad_lang.specs.Form.{all_kept};
 ghost use Rattle.monad_lang.specs.Names.{is_free, is_captured};
 
 use crate::substitution::is_started;
 use expression_lang::Exp;
-use monad_lang::{Mon, is_among, is_free, is_in};
+use monad_lang::{Mon, Start, is_among, is_free, is_in};
 
 // Whether a loop's guard, its test or its body has the name free.
 fn is_free_in_turn(name: &str, guard: &Exp, test: &Exp, body: &Mon) -> bool
@@ -20,9 +21,33 @@ fn is_free_in_turn(name: &str, guard: &Exp, test: &Exp, body: &Mon) -> bool
     is_in(name, guard) || is_in(name, test) || is_free(name, body)
 }
 
+// Whether the name is captured in a loop that starts one of the names.
+#[tactic(auto, using(crate::proofs::CapturedNames::started_captured))]
+fn is_captured_at_start(
+    binder: &str,
+    name: &str,
+    starts: &[Start],
+    guard: &Exp,
+    test: &Exp,
+    body: &Mon,
+) -> Option<bool>
+    ensures some { IfSome result (λ it. it ≡ is_captured binder.now name.now
+        (Loop (map start_of starts.now) (exp_of guard.now) (exp_of test.now) (mon_of body.now))) }
+    ensures none { IfNone result (is_captured binder.now name.now (mon_of body.now) ≡ is_captured binder.now name.now
+        (Loop (map start_of starts.now) (exp_of guard.now) (exp_of test.now) (mon_of body.now))) }
+{
+    if is_started(name, starts) {
+        return Some(false);
+    }
+    if is_started(binder, starts) {
+        return Some(is_free_in_turn(name, guard, test, body));
+    }
+    None
+}
+
 /// Whether a binder of the one name stands above a place where the other is free. It goes along the
 /// last parts by a loop.
-#[tactic(auto, using(crate::proofs::CapturedNames::bound_captured, crate::proofs::CapturedNames::started_captured))]
+#[tactic(auto, using(crate::proofs::CapturedNames::bound_captured))]
 pub(crate) fn is_captured(binder: &str, name: &str, m: &Mon) -> bool
     ensures { result ≡ is_captured binder.now name.now (mon_of m.now) }
 {
@@ -51,13 +76,10 @@ pub(crate) fn is_captured(binder: &str, name: &str, m: &Mon) -> bool
                 rest = &**last;
             }
             Mon::Loop(starts, guard, test, last) => {
-                if is_started(name, starts) {
-                    return false;
+                match is_captured_at_start(binder, name, starts, guard, test, last) {
+                    Some(it) => return it,
+                    None => rest = &**last,
                 }
-                if is_started(binder, starts) {
-                    return is_free_in_turn(name, guard, test, last);
-                }
-                rest = &**last;
             }
         }
     }

@@ -1,6 +1,7 @@
 //! Programs with an expression in place of a name.
 
 ghost use Rattle.std.specs.Prelude.{◌≡◌, IfOk, map};
+ghost use Rattle.c_values.specs.CodeTypes.{type_of};
 ghost use Rattle.c_values.specs.Name.{is_among};
 ghost use Rattle.expression_lang.specs.CodeExpression.{exp_of};
 ghost use Rattle.monad_lang.specs.declared.program.Mon.{size-Mon};
@@ -81,6 +82,7 @@ pub(crate) enum Opening<'a> {
 }
 
 #[cycle(substituted)]
+#[tactic(auto, using(crate::proofs::Substitutions::loop_changed))]
 fn opened<'a>(alloc: Global, change: InPlaceOf<'_>, m: &'a Mon) -> Result<Opening<'a>, AllocError>
     ensures same { IfOk result (λ new.
         becomes (program_substituted change.entry.name.now (exp_of change.entry.exp.now)) new

@@ -5,4 +5,4 @@ use Rattle.program_facts.specs.Substituted.{each_substituted}
 use Rattle.polish.proofs.substitution.in_each.Given as goal
 
 abbrev pub invariant-exps : goal.invariant-exps
-invariant-exps l = map exp_of l.new.items ≡ each_substituted l.change.name (exp_of l.change.exp) (map exp_of (take l.exp-index l.exps))
+invariant-exps l = map exp_of l.new.items ≡ each_substituted l.change.name.now (exp_of l.change.exp.now) (map exp_of (take l.exp-index l.exps))

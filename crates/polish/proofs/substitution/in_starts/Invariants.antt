@@ -6,4 +6,4 @@ use Rattle.program_facts.specs.Substituted.{starts_substituted}
 use Rattle.polish.proofs.substitution.in_starts.Given as goal
 
 abbrev pub invariant-starts : goal.invariant-starts
-invariant-starts l = map start_of l.new.items ≡ starts_substituted l.change.name (exp_of l.change.exp) (map start_of (take l.start-index l.starts))
+invariant-starts l = map start_of l.new.items ≡ starts_substituted l.change.name.now (exp_of l.change.exp.now) (map start_of (take l.start-index l.starts))
