@@ -3,7 +3,8 @@
 ghost use Rattle.std.specs.Prelude.{◌≡◌, IfOk, map};
 ghost use Rattle.c_values.specs.CodeTypes.{type_of};
 ghost use Rattle.c_values.specs.Name.{is_among};
-ghost use Rattle.expression_lang.specs.CodeExpression.{exp_of};
+ghost use Rattle.expression_lang.specs.CodeExpression.{exp_of, path_of};
+ghost use Rattle.ac_expr.specs.Substituted.{substituted, path_substituted};
 ghost use Rattle.monad_lang.specs.declared.program.Mon.{size-Mon};
 ghost use Rattle.monad_lang.specs.Run.{start_names};
 ghost use Rattle.monad_lang.specs.CodeProgram.{place_of, start_of, mon_of};
@@ -12,7 +13,7 @@ ghost use Rattle.program_facts.specs.Substituted.{each_substituted, starts_subst
 ghost use Rattle.polish.specs.CodeSubstitution.{start_substituted, becomes, IsEnded, LastIsSmaller};
 
 use c_values::copy_of;
-use expression_lang::{Change, Exp, copy_names};
+use expression_lang::{Change, Exp, Path, copy_names};
 use monad_lang::{Front, Mon, Place, Start, boxed, is_among, whole};
 use std::alloc::{AllocError, Global};
 
@@ -35,6 +36,21 @@ impl Change for InPlaceOf<'_> {
             _ => Ok(None),
         }
     }
+}
+
+// An expression, and a path, with the expression in place of the name.
+fn in_exp(alloc: Global, change: InPlaceOf<'_>, e: &Exp) -> Result<Box<Exp>, AllocError>
+    ensures { IfOk result (λ new. exp_of new.value
+        ≡ substituted change.entry.name.now (exp_of change.entry.exp.now) (exp_of e.now)) }
+{
+    e.changed(alloc, &change)
+}
+
+fn in_path(alloc: Global, change: InPlaceOf<'_>, path: &Path) -> Result<Path, AllocError>
+    ensures { IfOk result (λ new. path_of new
+        ≡ path_substituted change.entry.name.now (exp_of change.entry.exp.now) (path_of path.now)) }
+{
+    path.changed(alloc, &change)
 }
 
 /// Whether one of the starts has the name.
@@ -103,7 +119,7 @@ fn opened<'a>(alloc: Global, change: InPlaceOf<'_>, m: &'a Mon) -> Result<Openin
             }
         }
         Mon::If(test, first, last) => {
-            let test = test.changed(alloc, &change)?;
+            let test = in_exp(alloc, change, test)?;
             let first = substituted(alloc, change, first)?;
             Ok(Opening::Last(Front::If(test, first), &**last))
         }
@@ -114,8 +130,8 @@ fn opened<'a>(alloc: Global, change: InPlaceOf<'_>, m: &'a Mon) -> Result<Openin
                 let test = test.boxed_copy(alloc)?;
                 ended(alloc, Front::Loop(own, guard, test), last)
             } else {
-                let guard = guard.changed(alloc, &change)?;
-                let test = test.changed(alloc, &change)?;
+                let guard = in_exp(alloc, change, guard)?;
+                let test = in_exp(alloc, change, test)?;
                 Ok(Opening::Last(Front::Loop(own, guard, test), &**last))
             }
         }
@@ -139,11 +155,11 @@ fn in_step(alloc: Global, change: InPlaceOf<'_>, m: &Mon) -> Result<Box<Mon>, Al
     match m {
         Mon::Ret(values) => boxed(alloc, Mon::Ret(in_each(alloc, change, values)?)),
         Mon::Guard(condition) => {
-            let condition = condition.changed(alloc, &change)?;
+            let condition = in_exp(alloc, change, condition)?;
             boxed(alloc, Mon::Guard(Box::into_inner(condition)))
         }
         Mon::Write(place, value) => {
-            let value = value.changed(alloc, &change)?;
+            let value = in_exp(alloc, change, value)?;
             let place = in_place(alloc, change, place)?;
             boxed(alloc, Mon::Write(place, Box::into_inner(value)))
         }
@@ -157,13 +173,14 @@ fn in_step(alloc: Global, change: InPlaceOf<'_>, m: &Mon) -> Result<Box<Mon>, Al
     }
 }
 
+#[tactic(auto, using(crate::proofs::Lists::mapped_push))]
 fn in_each(alloc: Global, change: InPlaceOf<'_>, exps: &[Exp]) -> Result<Vec<Exp>, AllocError>
     ensures { IfOk result (λ new. map exp_of new.items
         ≡ each_substituted change.entry.name.now (exp_of change.entry.exp.now) (map exp_of exps.now)) }
 {
     let mut new = Vec::new(alloc);
     'exps: for exp in exps {
-        let exp = exp.changed(alloc, &change)?;
+        let exp = in_exp(alloc, change, exp)?;
         new.push(Box::into_inner(exp))?;
     }
     Ok(new)
@@ -173,7 +190,7 @@ fn in_start(alloc: Global, change: InPlaceOf<'_>, start: &Start) -> Result<Start
     ensures { IfOk result (λ new. start_of new
         ≡ start_substituted change.entry.name.now (exp_of change.entry.exp.now) (start_of start.now)) }
 {
-    let exp = start.exp.changed(alloc, &change)?;
+    let exp = in_exp(alloc, change, &start.exp)?;
     let name = start.name.clone()?;
     Ok(Start {
         name,
@@ -181,6 +198,7 @@ fn in_start(alloc: Global, change: InPlaceOf<'_>, start: &Start) -> Result<Start
     })
 }
 
+#[tactic(auto, using(crate::proofs::Lists::mapped_push))]
 fn in_starts(
     alloc: Global,
     change: InPlaceOf<'_>,
@@ -202,17 +220,17 @@ fn in_place(alloc: Global, change: InPlaceOf<'_>, place: &Place) -> Result<Place
 {
     match place {
         Place::Stored(ty, pointer, path) => {
-            let pointer = pointer.changed(alloc, &change)?;
-            let path = path.changed(alloc, &change)?;
+            let pointer = in_exp(alloc, change, pointer)?;
+            let path = in_path(alloc, change, path)?;
             Ok(Place::Stored(copy_of(alloc, ty)?, Box::into_inner(pointer), path))
         }
         Place::Written(ty, pointer, path) => {
-            let pointer = pointer.changed(alloc, &change)?;
-            let path = path.changed(alloc, &change)?;
+            let pointer = in_exp(alloc, change, pointer)?;
+            let path = in_path(alloc, change, path)?;
             Ok(Place::Written(copy_of(alloc, ty)?, Box::into_inner(pointer), path))
         }
         Place::Global(name, path) => {
-            let path = path.changed(alloc, &change)?;
+            let path = in_path(alloc, change, path)?;
             Ok(Place::Global(name.clone()?, path))
         }
     }
