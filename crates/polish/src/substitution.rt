@@ -214,6 +214,7 @@ fn in_starts(
     Ok(new)
 }
 
+#[tactic(auto, using(crate::proofs::Substitutions::stored_changed, crate::proofs::Substitutions::written_changed))]
 fn in_place(alloc: Global, change: InPlaceOf<'_>, place: &Place) -> Result<Place, AllocError>
     ensures { IfOk result (λ new. place_of new
         ≡ place_substituted change.entry.name.now (exp_of change.entry.exp.now) (place_of place.now)) }
