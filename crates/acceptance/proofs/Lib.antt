@@ -1,2 +1,3 @@
 pub mod OnWords
 pub mod Verdicts
+pub mod Formed

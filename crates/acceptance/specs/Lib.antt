@@ -3,3 +3,5 @@ pub mod Accepted
 pub mod Verdict
 pub mod Decided
 pub mod CodeOutputs
+pub mod CodeCertificate
+pub mod CodePlace
