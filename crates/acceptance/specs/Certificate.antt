@@ -1,5 +1,5 @@
 -- What a certificate has for each function: the program of each step, and the tree of rules that takes the one before to it.
-use Rattle.std.specs.Prelude.{List, Option, Some, None}
+use Rattle.std.specs.Prelude.{Option, Some, None}
 use Rattle.c_values.specs.Name.{Name}
 use Rattle.expression_lang.specs.Sort.{Level}
 use Rattle.simpl_lang.specs.Command.{Simpl}

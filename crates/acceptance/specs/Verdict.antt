@@ -1,7 +1,7 @@
 -- What a checker answers of a certificate: it is accepted, or this is the first bad place. Functions come in their order; of each,
 -- first its calls, and then its steps; of a step, node 0 where the program isn't formed as it should be, and then the first
 -- node of the tree that is no instance of its rule.
-use Rattle.std.specs.Prelude.{◌≡◌, ℕ, Bool, true, false, ◌&&◌, List, [], ◌∷◌, Option, Some, None, ◌⊎◌, Result, Ok, Err}
+use Rattle.std.specs.Prelude.{◌≡◌, ℕ, Bool, true, false, ◌&&◌, [], Option, Some, None, ◌⊎◌, Result, Ok, Err}
 use Rattle.expression_lang.specs.Sort.{is_lifted, sort_of_kind}
 use Rattle.expression_lang.specs.Signature.{Signature, names_of, kinds_of}
 use Rattle.simpl_lang.specs.Command.{SimplFn, SimplUnit}
@@ -9,7 +9,7 @@ use Rattle.simpl_lang.specs.Form.{is_flat}
 use Rattle.monad_lang.specs.Program.{Mon}
 use Rattle.monad_lang.specs.Form.{is_bytes, is_heaps}
 use Rattle.monad_lang.specs.Sorted.{setting_signed}
-use Rattle.rule_trees.specs.RuleTree.{Tree, IsVerdict}
+use Rattle.rule_trees.specs.RuleTree.{IsVerdict}
 use Rattle.rule_exn.specs.Rule.{◌to◌}
 use Rattle.rule_exn.specs.Table as Exceptions
 use Rattle.rule_local.specs.Rule.{whole}
