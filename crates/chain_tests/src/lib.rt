@@ -1,5 +1,5 @@
-//! Tests of all steps from C texts: each function's body is taken through them, and the kernels accept
-//! each tree.
+//! Tests of all steps from C texts: each function's body is taken through them, and the kernels
+//! accept each tree.
 #![tactic(auto)]
 
 #[cfg(test)]

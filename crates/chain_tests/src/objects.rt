@@ -1,5 +1,5 @@
-//! Tests of objects: structs in structs, arrays in structs, pointers to members, and two pointers to one
-//! object.
+//! Tests of objects: structs in structs, arrays in structs, pointers to members, and two pointers
+//! to one object.
 
 use crate::chain::{ALL, are_taken};
 use c_values::Target;

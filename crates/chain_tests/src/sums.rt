@@ -1,4 +1,5 @@
-//! Tests of arithmetic: sums, shifts and comparisons of each type, and conversions between all types.
+//! Tests of arithmetic: sums, shifts and comparisons of each type, and conversions between all
+//! types.
 
 use crate::chain::{ALL, Chosen, are_taken};
 use c_values::Target;

@@ -161,8 +161,8 @@ fn returned(m: &Mon) -> Option<&Exp> {
     }
 }
 
-// A function of two parameters `p` and `q`, with their values, the objects that there are, and what it
-// returns.
+// A function of two parameters `p` and `q`, with their values, the objects that there are, and what
+// it returns.
 struct Row<'a> {
     text: &'a str,
     arguments: (u64, u64),

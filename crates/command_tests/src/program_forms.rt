@@ -1,6 +1,7 @@
-//! Tests of which units of programs are well-formed: a good unit, and others that miss one thing. The
-//! programs are those of the function `f`, which takes the word `a` and the number `b` below 256 and
-//! gives a number; `q` gives nothing, and `g` is a global. `test_programs` says what the words are.
+//! Tests of which units of programs are well-formed: a good unit, and others that miss one thing.
+//! The programs are those of the function `f`, which takes the word `a` and the number `b` below
+//! 256 and gives a number; `q` gives nothing, and `g` is a global. `test_programs` says what the
+//! words are.
 
 use c_values::{GlobalVar, Layout, Target, Value, Word};
 use expression_lang::{Binder, Kind, Level};

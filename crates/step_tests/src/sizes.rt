@@ -1,6 +1,7 @@
-//! Programs of many sizes, through the kernels of both steps and the translator to numbers: deep ones, and ones where what is
-//! wanted is known from far before. A row is one of `heaps` or `words`; in a cell `A*B*C*D` stands
-//! for so many A, one B, so many C and one D. What the kernels cost is counted in `docs/PERFORMANCE.md`.
+//! Programs of many sizes, through the kernels of both steps and the translator to numbers: deep
+//! ones, and ones where what is wanted is known from far before. A row is one of `heaps` or
+//! `words`; in a cell `A*B*C*D` stands for so many A, one B, so many C and one D. What the kernels
+//! cost is counted in `docs/PERFORMANCE.md`.
 
 use crate::{heaps, words};
 use std::alloc::{AllocError, Global};

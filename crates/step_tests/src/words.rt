@@ -1,7 +1,7 @@
-//! Tests of the rules that make numbers of words. In front of a row stands the kind of what a function
-//! gives; `test_tables` says what else is in it, and `test_programs` what the words are. The function has the natural numbers `a` and `b`, the integers `i` and
-//! `j`, the words `p` and `q` and the truth value `t`; it may call `f`, which takes a natural number
-//! and gives one.
+//! Tests of the rules that make numbers of words. In front of a row stands the kind of what a
+//! function gives; `test_tables` says what else is in it, and `test_programs` what the words are.
+//! The function has the natural numbers `a` and `b`, the integers `i` and `j`, the words `p` and
+//! `q` and the truth value `t`; it may call `f`, which takes a natural number and gives one.
 
 use acceptance::{are_results, check_words, gives_on_words};
 use c_values::{GlobalVar, Layout, Target, Value, Word};
