@@ -1,5 +1,5 @@
 -- What a ready expression is abstracted to has no operation on words that numbers have, and looks at the heap as its left side does.
-use Rattle.std.proofs.Common.{◌≡◌, ℕ, Bool, true, false, ◌&&◌, ◌||◌, List, ◌∷◌, Option, Some, None, refl, ◌∙◌}
+use Rattle.std.proofs.Common.{◌≡◌, ℕ, Bool, true, false, ◌&&◌, ◌||◌, List, Option, Some, None, refl, ◌∙◌}
 use Rattle.std.proofs.lemmas.Bool.{and_parts, or_parts}
 use Rattle.c_values.specs.Name.{Name}
 use Rattle.c_values.specs.Types.{CType}

@@ -5,6 +5,7 @@ use Rattle.c_values.specs.Layout.{IsLayout}
 use Rattle.expression_lang.specs.Expression as X
 use Rattle.expression_lang.specs.Expression.{Exp}
 use Rattle.expression_lang.specs.Sort.{Kind, Scope}
+use Rattle.expression_lang.specs.Signature.{Binder}
 use Rattle.ac_expr.specs.Fact.{Whole}
 use Rattle.ac_expr.specs.Passed.{Part, passed}
 use Rattle.monad_lang.specs.Program.{Mon}
@@ -21,11 +22,11 @@ use Rattle.rule_trees.proofs.Checking.{checked_accepts}
 use Rattle.rule_word.specs.declared.rule.Rule as C
 use Rattle.rule_word.specs.Rule as R
 use Rattle.rule_word.specs.Rule.{Rule, Context, Point, Claim, expression, program}
-use Rattle.rule_word.specs.Scopes.{words, own}
+use Rattle.rule_word.specs.Scopes.{words, own, with_kinds}
 use Rattle.rule_word.specs.Table.{knowing, program_row, table}
 use Rattle.rule_word.specs.CodeFits.{Fits, ClaimFits, FitInTurn}
 use Rattle.rule_word.specs.CodeNames.{with_passed, are_binders, are_results}
-use Rattle.rule_word.specs.CodeClaims.{first_of, behind}
+use Rattle.rule_word.specs.CodeClaims.{first_of, behind, names_bound}
 use Rattle.rule_word.specs.CodeRule.{rule_of, rule_at, tree_of}
 use Rattle.rule_word.proofs.Steps.{sides, and_parts, and_fit, two_programs, binds, next_point, bind_parts, bind_fits, recast_parts}
 use Rattle.rule_word.proofs.KindsStay.{bound_stay}
@@ -144,6 +145,17 @@ module _ (ctx : Context) (t u v : T.Tree C.Rule) (items : parts_at t ≡ u ∷ v
       pub behind_names : NamesLeft (tree_of v) (behind m) (count + 1) whole program'
       behind_names =
           more_names_passed js (tree_of u) (tree_of v) (first_of m) (binds ctx here js ks m m' held).names (behind m) (tree_of t) m count whole program' (tree_is (R.Bind js) rule) (binds ctx here js ks m m' held).left names
+
+      -- the names that the step binds
+      step_names : names_bound m ≡ xs
+      unfolding xs
+      step_names = ap names_bound (binds ctx here js ks m m' held).left
+
+      pub step_binds : (bs : List Binder) → with_kinds (names_bound m) js (with_passed count whole program' bs) ≡ with_passed (count + 1) whole program' bs
+      unfolding xs
+      step_binds bs =
+          ap (λ ys. with_kinds ys js (with_passed count whole program' bs)) step_names
+          ∙ one_name_passed js (tree_of u) (tree_of v) (first_of m) (binds ctx here js ks m m' held).names (behind m) (tree_of t) m count whole program' (tree_is (R.Bind js) rule) (binds ctx here js ks m m' held).left names bs
 
       pub behind_kinds : IsLayout ctx.layout → are_results ctx.functions ≡ true → are_binders here.names ≡ true → (later n : ℕ) →
           Checked (table ctx) (tree_of u) (program here (first_of m) (first_of m') js) later (Ok n) → are_binders there.names ≡ true

@@ -1,11 +1,11 @@
 -- The width along first operands is that of the sort, where there is one.
-use Rattle.std.proofs.Common.{◌≡◌, ℕ, ◌^◌, nat_lt, Bool, true, false, cond, not, ◌&&◌, Option, Some, None, refl, sym, subst, ap, ◌∙◌}
+use Rattle.std.proofs.Common.{◌≡◌, ◌^◌, nat_lt, Bool, true, false, cond, not, ◌&&◌, Option, Some, None, sym, ap, ◌∙◌}
 use Rattle.c_values.specs.Types.{CType, address_width}
 use Rattle.c_values.specs.Layout.{Shape, Incomplete, Scalar as WordShape, Record, Row as Elements, shape_of, is_object}
 use Rattle.c_values.specs.Path.{member_spot, Spot}
 use Rattle.expression_lang.specs.Expression as X
 use Rattle.expression_lang.specs.Expression.{Exp, Path}
-use Rattle.expression_lang.specs.Sort.{Sort, Of, WordSort, Scope, sort_of, shape_along, shape_in, sort_at, word_sort, number_sort, truth_sort, word_width, is_width, is_number, is_truth, is_word_of, is_unary, are_same, cast_fits, where_holds, of_words, of_word, of_shape, of_type}
+use Rattle.expression_lang.specs.Sort.{Sort, Of, WordSort, Scope, sort_of, shape_along, shape_in, sort_at, word_sort, number_sort, truth_sort, word_width, is_width, is_number, is_truth, is_word_of, is_unary, are_same, cast_fits, where_holds, of_word, of_shape, of_type}
 use Rattle.expression_lang.proofs.Inversion.{where_inv, words_inv, word_inv, width_inv, shape_inv, type_inv}
 use Rattle.rule_word.specs.LeftWidth.{shape_there, left_width}
 

@@ -35,6 +35,8 @@ pub mod LeftSorts
 pub mod Rows
 pub mod ProgramRows
 pub mod KindsAmong
+pub mod Stretches
+pub mod SteppedOn
 pub mod TypeWidths
 pub mod StepsThere
 pub mod Asked

@@ -1,5 +1,5 @@
 -- No part of a value is selected or replaced on the right where none is on the left.
-use Rattle.std.proofs.Common.{◌≡◌, Bool, true, false, ◌||◌, List, [], ◌∷◌, length, suc, Option, Some, None, refl, sym, subst, ap, ◌∙◌}
+use Rattle.std.proofs.Common.{◌≡◌, Bool, true, false, ◌||◌, List, [], ◌∷◌, length, Option, Some, None, refl, subst, ap, ◌∙◌}
 use Rattle.std.proofs.lemmas.Bool.{or_parts, or_from}
 use Rattle.c_values.specs.Word.{Wadd, Wsub, Wmul, Wudiv, Wumod, Wsdiv, Wsmod, Wneg, Wult, Wule, Wslt, Wsle}
 use Rattle.c_values.specs.Number as N

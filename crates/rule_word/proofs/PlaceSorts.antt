@@ -1,16 +1,15 @@
 -- Places with one head have one sort where their children do: a place is as the expression that looks there.
-use Rattle.std.proofs.Common.{◌≡◌, Bool, true, false, cond, ◌&&◌, ◌||◌, List, Option, Some, None, refl, sym, ap, ap₂, ◌∙◌}
+use Rattle.std.proofs.Common.{◌≡◌, Bool, true, false, cond, ◌&&◌, ◌||◌, Option, Some, None, refl, sym, ap, ap₂, ◌∙◌}
 use Rattle.std.proofs.lemmas.Bool.{and_parts, or_parts, or_from}
-use Rattle.c_values.specs.Name.{Name}
 use Rattle.c_values.specs.Types.{CType, address_width}
-use Rattle.c_values.specs.Layout.{Layout, Shape, shape_of, is_object}
+use Rattle.c_values.specs.Layout.{Shape, shape_of, is_object}
 use Rattle.expression_lang.specs.Expression as X
 use Rattle.expression_lang.specs.Expression.{Exp, Path}
 use Rattle.expression_lang.specs.Form.{has, path_has, is_part_of_value}
 use Rattle.expression_lang.specs.Sort.{WordSort, Sort, Of, Scope, sort_of, sort_at, shape_along, is_word_of, where_holds, of_shape, of_type}
 use Rattle.expression_lang.specs.Sorted.{program_sort, typed_place, global_place, part_place, sort_in}
 use Rattle.expression_lang.proofs.Inversion.{word_of_inv}
-use Rattle.ac_expr.specs.Heads.{head, children, hole, path_head}
+use Rattle.ac_expr.specs.Heads.{head, children}
 use Rattle.monad_lang.specs.Program as M
 use Rattle.monad_lang.specs.Program.{Place}
 use Rattle.monad_lang.specs.Sorted.{place_sort}

@@ -1,9 +1,9 @@
 -- The words that a well-sorted program gives have one of the four widths, where those of names and of functions' results have.
-use Rattle.std.proofs.Common.{◌≡◌, ℕ, Bool, true, false, cond, ◌&&◌, List, [], ◌∷◌, Option, Some, None, refl, sym, subst}
+use Rattle.std.proofs.Common.{◌≡◌, ℕ, Bool, true, false, cond, ◌&&◌, List, [], ◌∷◌, Option, Some, sym, subst}
 use Rattle.c_values.specs.Name.{Name, same_name, with_name, are_distinct}
 use Rattle.c_values.specs.Layout.{IsLayout}
 use Rattle.expression_lang.specs.Expression.{Exp}
-use Rattle.expression_lang.specs.Sort.{Scalar, WordSort, NumberSort, TruthSort, Sort, Of, Kind, WordKind, NatKind, IntKind, BoolKind, Scope, sort_of, is_width, is_truth, is_kind, sort_of_kind}
+use Rattle.expression_lang.specs.Sort.{Scalar, WordSort, Of, Kind, WordKind, NatKind, IntKind, BoolKind, Scope, is_width, is_truth, is_kind, sort_of_kind}
 use Rattle.expression_lang.specs.Sorted.{names_with, scope_with, program_sort, scalar_in, scalars_of, fits_place, call_scalars}
 use Rattle.expression_lang.specs.Signature.{Signature, signature}
 use Rattle.monad_lang.specs.Program as M

@@ -1,21 +1,21 @@
 -- What the rules take a well-sorted program to at kinds gives words of these kinds: each part's claim says its sorts.
-use Rattle.std.proofs.Common.{◌≡◌, ◌&&◌, List, [], ◌∷◌, ◌++◌, map, Option, Some, None, refl, sym, subst, ap, ap₂, ◌∙◌}
-use Rattle.c_values.specs.Name.{Name, are_distinct}
+use Rattle.std.proofs.Common.{◌≡◌, ◌&&◌, List, [], ◌∷◌, ◌++◌, map, Option, Some, None, refl, sym, ap, ap₂, ◌∙◌}
+use Rattle.c_values.specs.Name.{are_distinct}
 use Rattle.expression_lang.specs.Expression.{Exp}
 use Rattle.expression_lang.specs.Sort.{Scalar, Of, Kind, WordKind, NatKind, IntKind, Scope, sort_of, is_truth, is_kind, sort_of_kind, word_sort_of}
 use Rattle.expression_lang.specs.Sorted.{program_sort, scalar_in, with_scalar, scalars_of, fits_place, call_scalars}
-use Rattle.expression_lang.specs.Signature.{Signature, signature, kinds_of}
+use Rattle.expression_lang.specs.Signature.{Signature, signature}
 use Rattle.monad_lang.specs.Program as M
 use Rattle.monad_lang.specs.Program.{Mon, Place, Start}
 use Rattle.monad_lang.specs.Run.{start_names}
-use Rattle.monad_lang.specs.Sorted.{setting_with, scalars_given, start_scalars, place_sort, one_for_each, are_scalars, where_fits}
+use Rattle.monad_lang.specs.Sorted.{setting_with, scalars_given, start_scalars, place_sort, one_for_each, where_fits}
 use Rattle.rule_trees.specs.RuleTree.{AllHold, Tree, Accepts}
 use Rattle.rule_trees.proofs.Induction.{holds as accepted_holds}
 use Rattle.rule_word.specs.Rule as R
 use Rattle.rule_word.specs.Rule.{Rule, Context, Point, View, Claim, expression, program}
-use Rattle.rule_word.specs.Scopes.{with_kinds, words, sort_seen, view_for}
+use Rattle.rule_word.specs.Scopes.{words, sort_seen, view_for}
 use Rattle.rule_word.specs.Table.{each, AreMatched, views_for, start_exps, call_row, program_row, table}
-use Rattle.rule_word.proofs.ProgramSorts.{some_is, then_inv, fits_inv, if_inv, are_inv, call_inv, result_sorts, scalar_first, scalar_there, program_sorted, loop_parts}
+use Rattle.rule_word.proofs.ProgramSorts.{some_is, then_inv, fits_inv, if_inv, call_inv, result_sorts, scalar_first, scalar_there, program_sorted, loop_parts}
 use Rattle.rule_word.proofs.Recasts.{recast_sorts}
 use Rattle.rule_word.proofs.ScopesAfter.{sort_of_view, setting_after}
 

@@ -3,14 +3,13 @@ use Rattle.std.proofs.Common.{◌≡◌, Bool, true, false, cond, ◌&&◌, List
 use Rattle.std.proofs.lemmas.Bool.{and_parts}
 use Rattle.c_values.specs.Name.{Name, are_distinct}
 use Rattle.c_values.specs.Types.{CType, address_width}
-use Rattle.c_values.specs.Layout.{Shape, shape_of, is_object, global_type}
+use Rattle.c_values.specs.Layout.{shape_of, is_object, global_type}
 use Rattle.expression_lang.specs.Expression as X
 use Rattle.expression_lang.specs.Expression.{Exp, Path}
-use Rattle.expression_lang.specs.Form.{has, path_has, is_part_of_value}
-use Rattle.expression_lang.specs.Sort.{Scalar, WordSort, NumberSort, TruthSort, Sort, Of, PartsSort, Kind, WordKind, NatKind, IntKind, BoolKind, Scope, sort_of, shape_along, is_truth, is_word_of, same_scalar, word_sort_of, sort_of_kind, is_kind, truth_sort}
-use Rattle.expression_lang.specs.Sorted.{program_sort, scalar_in, with_scalar, scalars_of, same_scalars, typed_place, global_place, part_place, sort_in, fits_place, call_scalars, result_scalars}
+use Rattle.expression_lang.specs.Sort.{Scalar, WordSort, NumberSort, TruthSort, Sort, Of, Kind, WordKind, NatKind, IntKind, BoolKind, Scope, sort_of, is_truth, is_word_of, same_scalar, word_sort_of, sort_of_kind, is_kind, truth_sort}
+use Rattle.expression_lang.specs.Sorted.{program_sort, scalar_in, with_scalar, scalars_of, typed_place, global_place, part_place, fits_place, call_scalars}
 use Rattle.expression_lang.specs.Signature.{Binder, Signature, kinds_of, signature}
-use Rattle.expression_lang.proofs.Inversion.{where_inv, truth_inv, word_of_inv, same_inv}
+use Rattle.expression_lang.proofs.Inversion.{where_inv, truth_inv, word_of_inv}
 use Rattle.ac_expr.specs.Fact.{Fact, Whole, NotTrue}
 use Rattle.ac_expr.specs.Heads.{hole}
 use Rattle.monad_lang.specs.Program as M

@@ -1,5 +1,5 @@
 -- What the rules take a well-sorted program to is well-sorted: it gives what stands for words at the kinds.
-use Rattle.std.proofs.Common.{◌≡◌, ◌==◌, ℕ, suc, Bool, true, false, cond, not, ◌&&◌, ◌||◌, List, [], ◌∷◌, ◌++◌, length, map, Option, Some, None, refl, sym, subst, ap, ap₂, ◌∙◌}
+use Rattle.std.proofs.Common.{◌≡◌, ◌==◌, ℕ, suc, Bool, true, false, not, ◌&&◌, List, [], ◌∷◌, ◌++◌, length, map, Option, Some, None, refl, sym, subst, ap, ap₂, ◌∙◌}
 use Rattle.std.proofs.lemmas.Bool.{and_parts, and_from, or_parts, cond-true, cond-false}
 use Rattle.std.proofs.lemmas.Bool.Decides.{Decides-eqb}
 use Rattle.c_values.specs.Name.{Name, same_name, with_name, is_among, are_distinct}
@@ -8,12 +8,11 @@ use Rattle.c_values.proofs.Laid.{same_name-refl, other_name}
 use Rattle.expression_lang.specs.Expression as X
 use Rattle.expression_lang.specs.Expression.{Exp}
 use Rattle.expression_lang.specs.Form.{has, is_part_of_value}
-use Rattle.expression_lang.specs.Sort.{Scalar, WordSort, NumberSort, TruthSort, Sort, Of, PartsSort, Kind, WordKind, NatKind, IntKind, BoolKind, Scope, sort_of, sort_of_kind, word_sort_of, is_width, is_kind, is_truth, is_number, word_width, of_word, number_sort, same_scalar, same_sort, where_holds, word_sort, scalar_sort, truth_sort}
+use Rattle.expression_lang.specs.Sort.{Scalar, WordSort, NumberSort, TruthSort, Sort, Of, Kind, WordKind, NatKind, IntKind, BoolKind, Scope, sort_of, sort_of_kind, word_sort_of, is_width, is_kind, is_truth, is_number, word_width, of_word, number_sort, same_scalar, where_holds, word_sort, scalar_sort}
 use Rattle.expression_lang.specs.Sorted.{names_with, scope_with, program_sort, scalar_in, with_scalar, scalars_of, same_scalars, fits_place, call_scalars, result_scalars}
-use Rattle.expression_lang.specs.Signature.{Binder, Signature, kinds_of, signature}
+use Rattle.expression_lang.specs.Signature.{Signature, kinds_of, signature}
 use Rattle.expression_lang.proofs.Inversion.{truth_inv}
 use Rattle.ac_expr.specs.Fact.{Fact, Whole}
-use Rattle.ac_expr.specs.Heads.{children}
 use Rattle.program_facts.specs.Flow.{facts_after}
 use Rattle.monad_lang.specs.Program as M
 use Rattle.monad_lang.specs.Program.{Mon, Place, Start}
@@ -27,7 +26,7 @@ use Rattle.rule_word.specs.Rule.{Rule, Context, Point, View, AsIs, Claim, expres
 use Rattle.rule_word.specs.Scopes.{names_in, with_kinds, words, numbers, view_for, result_as_list}
 use Rattle.rule_word.specs.Table.{truth, each, owns, AreMatched, views_for, start_exps, recast, recasts, call_row, program_row, table}
 use Rattle.rule_word.proofs.HeadSorts.{heads_sorted, sorts_in, IsNoName}
-use Rattle.rule_word.proofs.NoParts.{IsPlain, ArePlain, StaysPlain, PlainThere, claim_plain, plain_children, heads_plain}
+use Rattle.rule_word.proofs.NoParts.{ArePlain, StaysPlain, PlainThere, claim_plain, plain_children, heads_plain}
 use Rattle.rule_word.proofs.PlaceSorts.{looking_at, same_children, heads_looking, place_looked_at, place_plain, plain_there, program_sort_plain}
 use Rattle.program_facts.proofs.PlacesAgree.{place_as_many}
 use Rattle.rule_word.proofs.ProgramSorts.{some_is, then_inv, fits_inv, are_inv, scalar_first, scalar_there, fits_there, call_inv}

@@ -1,5 +1,5 @@
 -- The rules take each body of a well-formed unit to that of the unit that it is abstracted to.
-use Rattle.std.proofs.Common.{◌≡◌, Bool, true, false, cond, ◌&&◌, List, [], ◌∷◌, map, Option, Some, None, refl, sym, subst, ap, ap₂, ◌∙◌}
+use Rattle.std.proofs.Common.{◌≡◌, Bool, true, false, cond, List, [], ◌∷◌, map, Option, Some, None, refl, sym, subst, ap, ap₂, ◌∙◌}
 use Rattle.std.proofs.lemmas.Bool.{and_parts}
 use Rattle.c_values.specs.Name.{Name, same_name}
 use Rattle.c_values.specs.Layout.{Layout, global_type}
@@ -8,15 +8,15 @@ use Rattle.expression_lang.specs.Expression.{Exp}
 use Rattle.expression_lang.specs.Sort.{Scalar, Kind, Scope, sort_of_kind, word_sort_of}
 use Rattle.expression_lang.specs.Sorted.{scope_with, result_scalars}
 use Rattle.expression_lang.specs.Signature.{Signature, signature, names_of, kinds_of}
-use Rattle.monad_lang.specs.Program.{Mon, FinalFn, FinalUnit}
+use Rattle.monad_lang.specs.Program.{FinalFn, FinalUnit}
 use Rattle.monad_lang.specs.Sorted.{scalars_given, signature_of, setting_of, is_fn_sorted, are_fns_sorted, IsWellFormed}
 use Rattle.rule_word.specs.Rule.{Context}
-use Rattle.rule_word.specs.Scopes.{names_in, words, result_as_list}
+use Rattle.rule_word.specs.Scopes.{words, result_as_list}
 use Rattle.rule_word.specs.Table.{Takes}
 use Rattle.rule_word.specs.Kept.{context_of}
 use Rattle.rule_word.specs.Ready.{is_numbers_level}
 use Rattle.rule_word.specs.UnitAbstracted.{FunctionKinds, right_signature, right_signatures, scope_for, kinds_there, body_abstracted, function_abstracted, functions_abstracted, right_context, unit_abstracted, IsFor, AreFor}
-use Rattle.rule_word.specs.Units.{IsAbstractedTo, AreAbstractedTo, IsUnitAbstractedTo}
+use Rattle.rule_word.specs.Units.{AreAbstractedTo, IsUnitAbstractedTo}
 use Rattle.rule_word.proofs.ProgramsTaken.{program_taken}
 use Rattle.rule_word.proofs.ScopesAfter.{names_after}
 use Rattle.rule_word.proofs.SettingsAlike.{TakesAlike, SignedAlike, given_alike}

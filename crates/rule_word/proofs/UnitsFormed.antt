@@ -1,7 +1,7 @@
 -- Units that the rules take well-formed units to are well-formed.
-use Rattle.std.proofs.Common.{◌≡◌, ℕ, Bool, true, false, cond, ◌&&◌, List, [], ◌∷◌, map, Option, Some, None, refl, sym, subst, ap, ap₂, ◌∙◌}
+use Rattle.std.proofs.Common.{◌≡◌, Bool, true, false, cond, ◌&&◌, List, [], ◌∷◌, map, Option, Some, None, refl, sym, subst, ap, ap₂, ◌∙◌}
 use Rattle.std.proofs.lemmas.Bool.{and_parts, and_from}
-use Rattle.c_values.specs.Name.{Name, same_name, are_distinct}
+use Rattle.c_values.specs.Name.{same_name, are_distinct}
 use Rattle.c_values.specs.Layout.{IsLayout}
 use Rattle.expression_lang.specs.Sort.{Scalar, Kind, WordKind, NatKind, IntKind, BoolKind, Of, sort_of_kind, word_sort_of, is_kind, are_kinds}
 use Rattle.expression_lang.specs.Sorted.{call_scalars, result_scalars}
@@ -9,7 +9,7 @@ use Rattle.expression_lang.specs.Signature.{Signature, signature, names_of, kind
 use Rattle.monad_lang.specs.Program.{FinalFn, FinalUnit}
 use Rattle.monad_lang.specs.Sorted.{scalars_given, signature_of, setting_of, has_few, is_fn_sorted, are_fns_sorted, are_scalars, IsWellFormed}
 use Rattle.rule_word.specs.Rule.{Context}
-use Rattle.rule_word.specs.Scopes.{names_in, numbers}
+use Rattle.rule_word.specs.Scopes.{names_in}
 use Rattle.rule_word.specs.Kept.{context_of}
 use Rattle.rule_word.specs.Units.{in_scope, IsAbstractedTo, AreAbstractedTo, IsUnitAbstractedTo}
 use Rattle.rule_word.proofs.ProgramSorts.{call_inv}

@@ -1,8 +1,8 @@
 -- A word that a well-sorted expression gives is of one of the four widths, where those of the names in scope are.
-use Rattle.std.proofs.Common.{◌≡◌, ◌==◌, ◌*◌, ◌/◌, ◌^◌, nat_lt, ℕ, Bool, true, false, not, cond, ◌&&◌, ◌⊎◌, inl, inr, Option, Some, None, refl, sym, subst, ap, ◌∙◌}
+use Rattle.std.proofs.Common.{◌≡◌, ◌==◌, ◌*◌, ◌/◌, ◌^◌, nat_lt, ℕ, Bool, true, false, not, cond, ◌&&◌, inl, inr, Option, Some, None, refl, subst, ap, ◌∙◌}
 use Rattle.std.proofs.lemmas.Bool.{and_parts}
 use Rattle.c_values.specs.Types.{Target, Ilp32, Lp64, CType, address_width}
-use Rattle.c_values.specs.Layout.{Layout, IsLayout, Shape, Incomplete, Scalar as WordShape, Record, Row as Elements, shape_of, is_object}
+use Rattle.c_values.specs.Layout.{IsLayout, Shape, Incomplete, Scalar as WordShape, Record, Row as Elements, shape_of, is_object}
 use Rattle.c_values.specs.Path.{Spot, member_spot}
 use Rattle.c_values.proofs.Formed.{IsAlignment}
 use Rattle.c_values.proofs.Laid.{shape_good}

@@ -1,6 +1,7 @@
 -- The claims of a row as the code goes along them: first expressions in pairs, each seen in a way that its left side shows, and then what
 -- is under more or under other facts.
 use Rattle.std.specs.Prelude.{ℕ, Bool, true, false, List, [], ◌∷◌, ◌++◌, map, Option, Some, None}
+use Rattle.c_values.specs.Name.{Name}
 use Rattle.c_values.specs.Word.{WordTest, Wult, Wule, Wslt, Wsle}
 use Rattle.expression_lang.specs.Expression as X
 use Rattle.expression_lang.specs.Expression.{Exp}
@@ -159,3 +160,8 @@ first_of m = m
 abbrev pub behind : Mon → Mon
 behind (M.Bind m xs n) = n
 behind m = m
+
+-- the names that a program binds to its first part's values
+abbrev pub names_bound : Mon → List Name
+names_bound (M.Bind m xs n) = xs
+names_bound m = []

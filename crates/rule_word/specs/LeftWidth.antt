@@ -1,6 +1,6 @@
 -- The width of a word, by a walk along first operands alone: of a well-sorted expression it is the width of its sort. So a checker need
 -- not sort an operand to know at which width it is seen, and walks that begin at different rules don't meet.
-use Rattle.std.specs.Prelude.{ℕ, List, Option, Some, None}
+use Rattle.std.specs.Prelude.{ℕ, Option, Some, None}
 use Rattle.c_values.specs.Types.{address_width}
 use Rattle.c_values.specs.Layout.{Shape, Record, Row, shape_of}
 use Rattle.c_values.specs.Path.{member_spot}

@@ -13,6 +13,7 @@ pub mod LeftWidth
 pub mod CodePassed
 pub mod CodeRule
 pub mod CodeNames
+pub mod CodeStretch
 pub mod CodeKinds
 pub mod CodeFits
 pub mod CodeSorts

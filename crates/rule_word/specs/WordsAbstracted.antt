@@ -1,6 +1,6 @@
 -- Words made numbers: the right side, and the tree of rules that leads there. A sum goes by its own rule at its base, and through the
 -- word that it is at every other kind; an equality at the base of its sides.
-use Rattle.std.specs.Prelude.{ℕ, Bool, true, false, List, ◌∷◌, Option, Some, None}
+use Rattle.std.specs.Prelude.{ℕ, Bool, true, false, List, Option, Some, None}
 use Rattle.c_values.specs.Name.{Name}
 use Rattle.c_values.specs.Word.{unsigned, signed, WordOp, Wadd, Wsub, Wmul, Wudiv, Wumod, Wsdiv, Wsmod, UnaryOp, Wneg, Wnot, WordTest, Wult, Wule, Wslt, Wsle}
 use Rattle.c_values.specs.Number as N

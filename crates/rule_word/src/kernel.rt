@@ -7,11 +7,13 @@ ghost use Rattle.expression_lang.specs.CodeExpression.{exp_of, kind_of};
 ghost use Rattle.expression_lang.specs.CodeSignature.{signature_of};
 ghost use Rattle.monad_lang.specs.CodeProgram.{mon_of};
 ghost use Rattle.monad_lang.specs.Sorted.{scalars_given};
+ghost use Rattle.ac_expr.specs.CodeFacts.{fact_of};
 ghost use Rattle.rule_trees.specs.RuleTree.{Checked, AllChecked, IsVerdict};
 ghost use Rattle.rule_trees.specs.CodeTree.{trees_in};
 ghost use Rattle.rule_word.specs.Rule as names;
 ghost use Rattle.rule_word.specs.Rule.{program};
 ghost use Rattle.rule_word.specs.Scopes.{words};
+ghost use Rattle.rule_word.specs.Table.{knowing};
 ghost use Rattle.rule_word.specs.CodeFits.{Fits, ClaimFits, FitInTurn};
 ghost use Rattle.rule_word.specs.CodeNames.{are_binders, are_results};
 ghost use Rattle.rule_word.specs.CodeClaims.{inside, is_flat, is_bind, is_and, first_of, behind};
@@ -29,10 +31,12 @@ use crate::claims::{
 use crate::exp_instances::is_exp_asked;
 use crate::instances::is_asked;
 use crate::kinds::bound;
+use crate::parts::{behind, first_of};
 use crate::passed::Passed;
 use crate::ranges::laid_out;
 use crate::rule::{Context, Point, Rule, View};
 use crate::sorts::is_of_kind;
+use crate::stretch::Stretch;
 use crate::views::{exp_views, program_views, view_of_kind};
 use ac_expr::{Fact, Facts};
 use expression_lang::{Exp, Kind};
@@ -387,54 +391,47 @@ fn checked_under(
     ensures { Checked (table_at context.entry) (tree_of tree.now)
         (claim_in (context_in context.entry) (point_in point.entry) claim.entry) at result }
 {
-    let names = point.names;
     match given_of(claim) {
         Given::Nothing => checked_here(tree, claim, context, point, at),
-        Given::Whole(e) => {
-            let fact = Fact::Whole(e);
-            let facts = point.facts.with(&fact);
-            checked_here(
-                tree,
-                claim,
-                context,
-                Point {
-                    facts: &facts,
-                    names,
-                },
-                at,
-            )
-        }
-        Given::Not(e) => {
-            let fact = Fact::Not(e);
-            let facts = point.facts.with(&fact);
-            checked_here(
-                tree,
-                claim,
-                context,
-                Point {
-                    facts: &facts,
-                    names,
-                },
-                at,
-            )
-        }
+        Given::Whole(e) => checked_where(tree, claim, &Fact::Whole(e), context, point, at),
+        Given::Not(e) => checked_where(tree, claim, &Fact::Not(e), context, point, at),
         Given::Both(e, older) => {
-            let first = Fact::Whole(older);
-            let known = point.facts.with(&first);
-            let fact = Fact::Whole(e);
-            let facts = known.with(&fact);
-            checked_here(
-                tree,
-                claim,
-                context,
-                Point {
-                    facts: &facts,
-                    names,
-                },
-                at,
-            )
+            let known = Fact::Whole(older);
+            let facts = point.facts.with(&known);
+            let there = Point {
+                facts: &facts,
+                names: point.names,
+            };
+            checked_where(tree, claim, &Fact::Whole(e), context, there, at)
         }
     }
+}
+
+// The same of a claim, where one fact more is known.
+#[cycle(checking)]
+#[inline(never)]
+fn checked_where(
+    tree: &Tree<Rule>,
+    claim: Claim<'_>,
+    fact: &Fact<'_>,
+    context: Context<'_>,
+    point: Point<'_>,
+    at: u32,
+) -> Result<u32, u32>
+    requires fits { ClaimFits (context_in context)
+        (claim_here (context_in context) (knowing (fact_of fact.now) (point_in point)) claim) }
+    requires kinds { HasKinds point.names.now }
+    requires results { are_results (context_in context).functions ≡ true }
+    ensures { Checked (table_at context.entry) (tree_of tree.now)
+        (claim_here (context_in context.entry) (knowing (fact_of fact.now) (point_in point.entry)) claim.entry)
+        at result }
+{
+    let facts = point.facts.with(&*fact);
+    let there = Point {
+        facts: &facts,
+        names: point.names,
+    };
+    checked_here(tree, claim, context, there, at)
 }
 
 // The same of a claim, where what is known at its part is known already.
@@ -592,26 +589,6 @@ fn checked_last(
     }
 }
 
-// The first of two programs, or the program itself.
-fn first_of(m: &Mon) -> &Mon
-    ensures { mon_of result.now ≡ first_of (mon_of m.now) }
-{
-    match m {
-        Mon::Bind(first, _, _) => &**first,
-        _ => m,
-    }
-}
-
-// The second of two programs, or the program itself.
-fn behind(m: &Mon) -> &Mon
-    ensures { mon_of result.now ≡ behind (mon_of m.now) }
-{
-    match m {
-        Mon::Bind(_, _, last) => &**last,
-        _ => m,
-    }
-}
-
 // The same of two programs. It goes along a sequence by a loop, with one link of facts and one of
 // names for all of the parts that were passed, since a text may have long sequences.
 #[cycle(checking)]
@@ -633,8 +610,7 @@ fn checked(
 {
     laid_out(context.layout);
     let head = Passed::Program(Parts::of(right));
-    let whole = tree;
-    let program = left;
+    let mut stretch = Stretch::new(tree, left);
     let mut tree = tree;
     let mut left = left;
     let mut right = right;
@@ -642,7 +618,7 @@ fn checked(
     let mut count = 0;
     'along: loop {
         let facts = point.facts.pass(head, count);
-        let names = point.names.pass(whole, program, count);
+        let names = point.names.pass(&stretch);
         let here = Point {
             facts: &facts,
             names: &names,
@@ -667,7 +643,8 @@ fn checked(
         )?;
         if count == u32::MAX {
             let known = facts.pass(Passed::Program(Parts::of(right)), 1);
-            let more = names.pass(tree, left, 1);
+            let one = Stretch::first(tree, left, last);
+            let more = names.pass(&one);
             let there = Point {
                 facts: &known,
                 names: &more,
@@ -675,6 +652,7 @@ fn checked(
             return checked(last, behind(left), behind(right), kinds, context, there, at);
         }
         count += 1;
+        stretch = stretch.step(left, last);
         left = behind(left);
         right = behind(right);
         tree = last;

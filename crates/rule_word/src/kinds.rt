@@ -14,10 +14,12 @@ ghost use Rattle.rule_word.specs.Rule as rules;
 ghost use Rattle.rule_word.specs.CodeClaims.{is_bind};
 ghost use Rattle.rule_word.specs.Scopes.{with_kinds};
 ghost use Rattle.rule_word.specs.CodeRule.{rule_of, tree_of};
-ghost use Rattle.rule_word.specs.CodeNames.{with_passed, kind_among, kind_passed, kind_in};
+ghost use Rattle.rule_word.specs.CodeNames.{kind_among, kind_passed, kind_in};
+ghost use Rattle.rule_word.specs.CodeStretch.{behind, IsKept};
 ghost use Rattle.rule_word.specs.CodeKinds.{binders_in};
 
 use crate::rule::Rule;
+use crate::stretch::Stretch;
 use expression_lang::{Binder, Kind, Scalar, Scope, scalar_of_kind};
 use monad_lang::{Mon, Start};
 use rule_trees::{Tree, both};
@@ -33,7 +35,7 @@ pub enum Kinds<'a> {
     Started(&'a Kinds<'a>, &'a [Start], &'a [Kind]),
     /// One link for the names of any number of parts of a sequence, at the kinds of their rules,
     /// since a chain with a link for each takes as much of the stack.
-    Passed(&'a Kinds<'a>, &'a Tree<Rule>, &'a Mon, u32),
+    Passed(&'a Kinds<'a>, &'a Stretch<'a>),
 }
 
 impl<'a> Kinds<'a> {
@@ -69,17 +71,18 @@ impl<'a> Kinds<'a> {
         Kinds::Started(self, starts, kinds)
     }
 
-    /// The same names, and those that the first so many parts of a sequence bind, at the kinds of
-    /// the tree's rules.
-    pub fn pass(&'a self, tree: &'a Tree<Rule>, parts: &'a Mon, count: u32) -> Kinds<'a>
-        ensures { binders_in result
-            ≡ with_passed count (tree_of tree.now) (mon_of parts.now) (binders_in self.now) }
+    /// The same names, and those that the first parts of a sequence bind, at the kinds of the
+    /// tree's rules.
+    #[tactic(auto, using(crate::proofs::Stretches::all_found))]
+    pub(crate) fn pass(&'a self, stretch: &'a Stretch<'a>) -> Kinds<'a>
+        requires { IsKept stretch.now }
+        ensures { binders_in result ≡ behind stretch.now (binders_in self.now) }
     {
-        Kinds::Passed(self, tree, parts, count)
+        Kinds::Passed(self, stretch)
     }
 
     /// The kind of a name.
-    #[tactic(auto, using(crate::proofs::KindsAmong::name_found, crate::proofs::KindsAmong::name_missed, crate::proofs::KindsAmong::passed_found, crate::proofs::KindsAmong::passed_missed))]
+    #[tactic(auto, using(crate::proofs::KindsAmong::name_found, crate::proofs::KindsAmong::name_missed))]
     pub fn get(&self, name: &str) -> Option<Kind>
         ensures { option_map kind_of result ≡ kind_in (binders_in self.now) name.now }
     {
@@ -105,8 +108,8 @@ impl<'a> Kinds<'a> {
                     }
                     names = *outer;
                 }
-                Kinds::Passed(outer, tree, parts, count) => {
-                    if let Some(kind) = among_passed(*tree, *parts, *count, name) {
+                Kinds::Passed(outer, stretch) => {
+                    if let Some(kind) = (&**stretch).get(name) {
                         return Some(kind);
                     }
                     names = *outer;
@@ -250,8 +253,8 @@ fn named(parts: &Mon) -> Option<(&Mon, &[String], &Mon)>
     }
 }
 
-// The same of the first so many parts of a sequence.
-fn among_passed(tree: &Tree<Rule>, parts: &Mon, count: u32, name: &str) -> Option<Kind>
+/// The same of the first so many parts of a sequence.
+pub(crate) fn among_passed(tree: &Tree<Rule>, parts: &Mon, count: u32, name: &str) -> Option<Kind>
     ensures { option_map kind_of result
         ≡ kind_passed count (tree_of tree.now) (mon_of parts.now) name.now None }
 {

@@ -8,10 +8,12 @@ mod instances;
 mod kernel;
 mod kinds;
 mod laws;
+mod parts;
 mod passed;
 mod ranges;
 mod rule;
 mod sorts;
+mod stretch;
 mod views;
 
 pub use kernel::check;
@@ -22,3 +24,4 @@ pub use laws::{
 };
 pub use passed::Passed;
 pub use rule::{Context, Point, Rule, View};
+pub use stretch::Stretch;

@@ -18,7 +18,7 @@ use Rattle.rule_word.specs.Table.{program_row}
 use Rattle.rule_word.specs.CodeFits.{Fits, AllFit, ClaimFits}
 use Rattle.rule_word.specs.CodeNames.{with_passed, are_binders}
 use Rattle.rule_word.specs.CodePassed.{sequence, conjuncts}
-use Rattle.rule_word.specs.CodeClaims.{inside, is_and, first_of, behind}
+use Rattle.rule_word.specs.CodeClaims.{inside, is_and, first_of, behind, names_bound}
 use Rattle.rule_word.specs.CodeRule.{rule_of, rule_at, tree_of, known_in, context_in, table_at}
 use Rattle.rule_word.specs.CodeKinds.{binders_in, point_in, scope_at}
 use Rattle.rule_word.specs.CodeParts.{seen_in, pairs_at, thens_at, claim_in}
@@ -29,7 +29,8 @@ use Rattle.rule_word.proofs.Paired as paired
 use Rattle.rule_word.proofs.Along as along
 use Rattle.rule_word.proofs.Steps as steps
 use Rattle.rule_word.proofs.KindsStay.{inside_stay}
-use Rattle.rule_word.proofs.Sequences.{FactsLeft, NamesLeft, one_fact_passed, more_facts_passed}
+use Rattle.rule_word.proofs.Sequences.{FactsLeft, NamesLeft, no_facts_passed, no_names_passed, one_fact_passed, more_facts_passed}
+use Rattle.rule_word.proofs.SteppedOn.{names_there, on_from, next_from, next_is}
 use Rattle.rule_word.proofs.kernel.+checking.Goals as goal
 
 pub checked_exp-returns-then-not-is_exp_asked : goal.checked_exp-returns-then-not-is_exp_asked
@@ -76,7 +77,7 @@ checked_exp-checked_then-requires t c =
     let count : length c.deref-in-down.result.now ≡ length ((pairs_at (context_in c.args.context) (point_in c.args.point) c.lefts-pairs.result c.exp_views-views.result c.rights-others.result) ++ (thens_at (context_in c.args.context) (point_in c.args.point) c.exp_then-then.result)) = sym (ap length same) ∙ (c.is_matched.ensures (context_in c.args.context) (point_in c.args.point) (point_in c.args.point)).0 c.if-not-is_matched.false in
     let was : c.checked_pairs.result ≡ Ok (F.TheVariants.Behind c.in-Behind.rest c.in-Behind.number) = search rules in
     let b : IsBehind c.args.context c.deref-in-down.result.now (pairs_at (context_in c.args.context) (point_in c.args.point) c.lefts-pairs.result c.exp_views-views.result c.rights-others.result) c.next.result c.in-Behind.rest.now c.in-Behind.number = subst (λ r. Leaves c.args.context c.args.point c.deref-in-down.result.now (pairs_at (context_in c.args.context) (point_in c.args.point) c.lefts-pairs.result c.exp_views-views.result c.rights-others.result) c.next.result r) was c.checked_pairs.ensures in (
-      subst (λ n. 8 * nodes_in (trees_in rule_of c.in-Behind.rest.now) + 5 < n) c.decreases (along.below_by _ _ _ 5 2 (along.le_less _ _ _ b.fewer (walked.parts_less c.down.tree.now c.deref-in-down.result.now items)) c.down.invariant.smaller (omega arith)),
+      subst (λ n. 8 * nodes_in (trees_in rule_of c.in-Behind.rest.now) + 6 < n) c.decreases (along.below_by _ _ _ 6 2 (along.le_less _ _ _ b.fewer (walked.parts_less c.down.tree.now c.deref-in-down.result.now items)) c.down.invariant.smaller (omega arith)),
       (walked.rest_count (pairs_at (context_in c.args.context) (point_in c.args.point) c.lefts-pairs.result c.exp_views-views.result c.rights-others.result) (thens_at (context_in c.args.context) (point_in c.args.point) c.exp_then-then.result) (length c.in-Behind.rest.now) (length c.deref-in-down.result.now) count b.count, (b.turn (thens_at (context_in c.args.context) (point_in c.args.point) c.exp_then-then.result) (walked.thens_fit c.args.context c.args.point (rule_at c.down.tree.now) (exp_of c.down.left.now) c.down.view (exp_of c.down.right.now) c.lefts-pairs.result c.exp_views-views.result c.rights-others.result c.lefts-pairs.ensures c.rights-others.ensures c.exp_views-views.ensures.views (thens_at (context_in c.args.context) (point_in c.args.point) c.exp_then-then.result) (c.exp_then-then.ensures (context_in c.args.context) (point_in c.args.point)) c.down.invariant.fits (c.is_exp_asked.ensures.0 c.if-not-is_exp_asked.false) b.fit), (c.requires.kinds, c.requires.results))),
     )
 
@@ -240,20 +241,20 @@ checked_then-claims-preserved t c =
 pub checked-returns-then-not-is_asked : goal.checked-returns-then-not-is_asked
 checked-returns-then-not-is_asked t c =
     c.along.invariant.decides (Err c.along.at) (walked.refused c.args.context c.along.tree.now (program (record { facts = passed c.along.count (sequence (Q.TheVariants.Program c.of.result)) (point_in c.args.point).facts; names = with_passed c.along.count (tree_of c.args.tree.now) (mon_of c.args.left.now) (point_in c.args.point).names }) (mon_of c.along.left.now) (mon_of c.along.right.now) (map kind_of c.args.kinds.now)) c.is_asked.result c.along.at c.if-not-is_asked.true
-    (λ h. c.is_asked.ensures.1 (subst (λ p. (program_row (context_in c.args.context) p (rule_at c.along.tree.now) (mon_of c.along.left.now) (mon_of c.along.right.now) (map kind_of c.args.kinds.now)).holds) (sym (ap₂ (λ fs bs. record { facts = fs; names = bs }) c.pass-facts.ensures.facts c.pass-names.ensures)) h)))
+    (λ h. c.is_asked.ensures.1 (subst (λ p. (program_row (context_in c.args.context) p (rule_at c.along.tree.now) (mon_of c.along.left.now) (mon_of c.along.right.now) (map kind_of c.args.kinds.now)).holds) (sym (ap₂ (λ fs bs. record { facts = fs; names = bs }) c.pass-facts.ensures.facts (c.pass-names.ensures ∙ names_there c.along.stretch c.along.count (tree_of c.args.tree.now) (mon_of c.args.left.now) c.along.invariant.stands (binders_in c.args.point.names.now)))) h)))
 
 pub checked-returns-in_default-both : goal.checked-returns-in_default-both
 checked-returns-in_default-both t c =
     let other : length (walked.parts_at c.along.tree.now) ≡ 2 → ⊥ = search rules in
-    c.along.invariant.decides (Err c.along.at) (along.bind_miscounted (context_in c.args.context) c.along.tree.now (record { facts = passed c.along.count (sequence (Q.TheVariants.Program c.of.result)) (point_in c.args.point).facts; names = with_passed c.along.count (tree_of c.args.tree.now) (mon_of c.args.left.now) (point_in c.args.point).names }) (map kind_of c.in-Some.js.now) (map kind_of c.args.kinds.now) (mon_of c.along.left.now) (mon_of c.along.right.now) c.in-Some.ensures.some (subst (λ p. (program_row (context_in c.args.context) p (rule_at c.along.tree.now) (mon_of c.along.left.now) (mon_of c.along.right.now) (map kind_of c.args.kinds.now)).holds) (ap₂ (λ fs bs. record { facts = fs; names = bs }) c.pass-facts.ensures.facts c.pass-names.ensures) (c.is_asked.ensures.0 c.if-not-is_asked.false)) c.along.at other)
+    c.along.invariant.decides (Err c.along.at) (along.bind_miscounted (context_in c.args.context) c.along.tree.now (record { facts = passed c.along.count (sequence (Q.TheVariants.Program c.of.result)) (point_in c.args.point).facts; names = with_passed c.along.count (tree_of c.args.tree.now) (mon_of c.args.left.now) (point_in c.args.point).names }) (map kind_of c.in-Some.js.now) (map kind_of c.args.kinds.now) (mon_of c.along.left.now) (mon_of c.along.right.now) c.in-Some.ensures.some (subst (λ p. (program_row (context_in c.args.context) p (rule_at c.along.tree.now) (mon_of c.along.left.now) (mon_of c.along.right.now) (map kind_of c.args.kinds.now)).holds) (ap₂ (λ fs bs. record { facts = fs; names = bs }) c.pass-facts.ensures.facts (c.pass-names.ensures ∙ names_there c.along.stretch c.along.count (tree_of c.args.tree.now) (mon_of c.args.left.now) c.along.invariant.stands (binders_in c.args.point.names.now))) (c.is_asked.ensures.0 c.if-not-is_asked.false)) c.along.at other)
 
 pub checked-checked-requires : goal.checked-checked-requires
 checked-checked-requires t c =
     let items : walked.parts_at c.along.tree.now ≡ c.in-Some-both.first.now ∷ c.in-Some-both.last.now ∷ [] = search rules in (
       subst (λ n. 8 * nodes (tree_of c.in-Some-both.first.now) + 2 < n) c.decreases (along.below_by _ _ _ 2 2 (along.two_less c.along.tree.now c.in-Some-both.first.now c.in-Some-both.last.now items).0 c.along.invariant.smaller (omega arith)),
       (
-        subst (λ p. ClaimFits (context_in c.args.context) (program p (mon_of c.first_of.result.now) (first_of (mon_of c.along.right.now)) (map kind_of c.in-Some.js.now))) (sym (ap₂ (λ fs bs. record { facts = fs; names = bs }) c.pass-facts.ensures.facts c.pass-names.ensures)) (subst (λ m. ClaimFits (context_in c.args.context) (program (record { facts = passed c.along.count (sequence (Q.TheVariants.Program c.of.result)) (point_in c.args.point).facts; names = with_passed c.along.count (tree_of c.args.tree.now) (mon_of c.args.left.now) (point_in c.args.point).names }) m (first_of (mon_of c.along.right.now)) (map kind_of c.in-Some.js.now))) (sym c.first_of.ensures) (along.step_fits (context_in c.args.context) c.along.tree.now c.in-Some-both.first.now c.in-Some-both.last.now items (point_in c.args.point) c.along.count (sequence (Q.TheVariants.Program c.of.result)) (tree_of c.args.tree.now) (mon_of c.args.left.now) (map kind_of c.in-Some.js.now) (map kind_of c.args.kinds.now) (mon_of c.along.left.now) (mon_of c.along.right.now) c.in-Some.ensures.some c.along.invariant.facts c.along.invariant.names c.along.invariant.fits (subst (λ p. (program_row (context_in c.args.context) p (rule_at c.along.tree.now) (mon_of c.along.left.now) (mon_of c.along.right.now) (map kind_of c.args.kinds.now)).holds) (ap₂ (λ fs bs. record { facts = fs; names = bs }) c.pass-facts.ensures.facts c.pass-names.ensures) (c.is_asked.ensures.0 c.if-not-is_asked.false)))),
-        (subst (λ bs. are_binders bs ≡ true) (sym c.pass-names.ensures) c.along.invariant.kinds, c.requires.results),
+        subst (λ p. ClaimFits (context_in c.args.context) (program p (mon_of c.first_of.result.now) (first_of (mon_of c.along.right.now)) (map kind_of c.in-Some.js.now))) (sym (ap₂ (λ fs bs. record { facts = fs; names = bs }) c.pass-facts.ensures.facts (c.pass-names.ensures ∙ names_there c.along.stretch c.along.count (tree_of c.args.tree.now) (mon_of c.args.left.now) c.along.invariant.stands (binders_in c.args.point.names.now)))) (subst (λ m. ClaimFits (context_in c.args.context) (program (record { facts = passed c.along.count (sequence (Q.TheVariants.Program c.of.result)) (point_in c.args.point).facts; names = with_passed c.along.count (tree_of c.args.tree.now) (mon_of c.args.left.now) (point_in c.args.point).names }) m (first_of (mon_of c.along.right.now)) (map kind_of c.in-Some.js.now))) (sym c.first_of.ensures) (along.step_fits (context_in c.args.context) c.along.tree.now c.in-Some-both.first.now c.in-Some-both.last.now items (point_in c.args.point) c.along.count (sequence (Q.TheVariants.Program c.of.result)) (tree_of c.args.tree.now) (mon_of c.args.left.now) (map kind_of c.in-Some.js.now) (map kind_of c.args.kinds.now) (mon_of c.along.left.now) (mon_of c.along.right.now) c.in-Some.ensures.some c.along.invariant.facts c.along.invariant.names c.along.invariant.fits (subst (λ p. (program_row (context_in c.args.context) p (rule_at c.along.tree.now) (mon_of c.along.left.now) (mon_of c.along.right.now) (map kind_of c.args.kinds.now)).holds) (ap₂ (λ fs bs. record { facts = fs; names = bs }) c.pass-facts.ensures.facts (c.pass-names.ensures ∙ names_there c.along.stretch c.along.count (tree_of c.args.tree.now) (mon_of c.args.left.now) c.along.invariant.stands (binders_in c.args.point.names.now))) (c.is_asked.ensures.0 c.if-not-is_asked.false)))),
+        (subst (λ bs. are_binders bs ≡ true) (sym (c.pass-names.ensures ∙ names_there c.along.stretch c.along.count (tree_of c.args.tree.now) (mon_of c.args.left.now) c.along.invariant.stands (binders_in c.args.point.names.now))) c.along.invariant.kinds, c.requires.results),
       ),
     )
 
@@ -262,25 +263,42 @@ checked-returns-in_err-at t c =
     let items : walked.parts_at c.along.tree.now ≡ c.in-Some-both.first.now ∷ c.in-Some-both.last.now ∷ [] = search rules in
     let same : c.from_residual.result ≡ Err c.in_err-at.field-0.0 = search rules in
     subst (λ r. Checked (table_at c.args.context) (tree_of c.args.tree.now) (program (point_in c.args.point) (mon_of c.args.left.now) (mon_of c.args.right.now) (map kind_of c.args.kinds.now)) c.args.at r) (sym same)
-    (c.along.invariant.decides (Err c.in_err-at.field-0.0) (along.step_bad (context_in c.args.context) c.along.tree.now c.in-Some-both.first.now c.in-Some-both.last.now items (point_in c.args.point) c.along.count (sequence (Q.TheVariants.Program c.of.result)) (tree_of c.args.tree.now) (mon_of c.args.left.now) (map kind_of c.in-Some.js.now) (map kind_of c.args.kinds.now) (mon_of c.along.left.now) (mon_of c.along.right.now) c.in-Some.ensures.some c.along.invariant.facts c.along.invariant.names c.along.invariant.fits (subst (λ p. (program_row (context_in c.args.context) p (rule_at c.along.tree.now) (mon_of c.along.left.now) (mon_of c.along.right.now) (map kind_of c.args.kinds.now)).holds) (ap₂ (λ fs bs. record { facts = fs; names = bs }) c.pass-facts.ensures.facts c.pass-names.ensures) (c.is_asked.ensures.0 c.if-not-is_asked.false)) c.along.at c.next.result c.in_err-at.field-0.0 c.next.ensures (subst (λ p. Checked (table_at c.args.context) (tree_of c.in-Some-both.first.now) (program p (first_of (mon_of c.along.left.now)) (first_of (mon_of c.along.right.now)) (map kind_of c.in-Some.js.now)) c.next.result (Err c.in_err-at.field-0.0)) (ap₂ (λ fs bs. record { facts = fs; names = bs }) c.pass-facts.ensures.facts c.pass-names.ensures) (subst (λ m. Checked (table_at c.args.context) (tree_of c.in-Some-both.first.now) (program (record { facts = known_in c.pass-facts.result; names = binders_in c.pass-names.result }) m (first_of (mon_of c.along.right.now)) (map kind_of c.in-Some.js.now)) c.next.result (Err c.in_err-at.field-0.0)) c.first_of.ensures (subst (λ m. Checked (table_at c.args.context) (tree_of c.in-Some-both.first.now) (program (record { facts = known_in c.pass-facts.result; names = binders_in c.pass-names.result }) (mon_of c.first_of.result.now) m (map kind_of c.in-Some.js.now)) c.next.result (Err c.in_err-at.field-0.0)) c.first_of-in-along.ensures (subst (λ r. Checked (table_at c.args.context) (tree_of c.in-Some-both.first.now) (program (record { facts = known_in c.pass-facts.result; names = binders_in c.pass-names.result }) (mon_of c.first_of.result.now) (mon_of c.first_of-in-along.result.now) (map kind_of c.in-Some.js.now)) c.next.result r) c.in_err-at.was c.checked.ensures))))))
+    (c.along.invariant.decides (Err c.in_err-at.field-0.0) (along.step_bad (context_in c.args.context) c.along.tree.now c.in-Some-both.first.now c.in-Some-both.last.now items (point_in c.args.point) c.along.count (sequence (Q.TheVariants.Program c.of.result)) (tree_of c.args.tree.now) (mon_of c.args.left.now) (map kind_of c.in-Some.js.now) (map kind_of c.args.kinds.now) (mon_of c.along.left.now) (mon_of c.along.right.now) c.in-Some.ensures.some c.along.invariant.facts c.along.invariant.names c.along.invariant.fits (subst (λ p. (program_row (context_in c.args.context) p (rule_at c.along.tree.now) (mon_of c.along.left.now) (mon_of c.along.right.now) (map kind_of c.args.kinds.now)).holds) (ap₂ (λ fs bs. record { facts = fs; names = bs }) c.pass-facts.ensures.facts (c.pass-names.ensures ∙ names_there c.along.stretch c.along.count (tree_of c.args.tree.now) (mon_of c.args.left.now) c.along.invariant.stands (binders_in c.args.point.names.now))) (c.is_asked.ensures.0 c.if-not-is_asked.false)) c.along.at c.next.result c.in_err-at.field-0.0 c.next.ensures (subst (λ p. Checked (table_at c.args.context) (tree_of c.in-Some-both.first.now) (program p (first_of (mon_of c.along.left.now)) (first_of (mon_of c.along.right.now)) (map kind_of c.in-Some.js.now)) c.next.result (Err c.in_err-at.field-0.0)) (ap₂ (λ fs bs. record { facts = fs; names = bs }) c.pass-facts.ensures.facts (c.pass-names.ensures ∙ names_there c.along.stretch c.along.count (tree_of c.args.tree.now) (mon_of c.args.left.now) c.along.invariant.stands (binders_in c.args.point.names.now))) (subst (λ m. Checked (table_at c.args.context) (tree_of c.in-Some-both.first.now) (program (record { facts = known_in c.pass-facts.result; names = binders_in c.pass-names.result }) m (first_of (mon_of c.along.right.now)) (map kind_of c.in-Some.js.now)) c.next.result (Err c.in_err-at.field-0.0)) c.first_of.ensures (subst (λ m. Checked (table_at c.args.context) (tree_of c.in-Some-both.first.now) (program (record { facts = known_in c.pass-facts.result; names = binders_in c.pass-names.result }) (mon_of c.first_of.result.now) m (map kind_of c.in-Some.js.now)) c.next.result (Err c.in_err-at.field-0.0)) c.first_of-in-along.ensures (subst (λ r. Checked (table_at c.args.context) (tree_of c.in-Some-both.first.now) (program (record { facts = known_in c.pass-facts.result; names = binders_in c.pass-names.result }) (mon_of c.first_of.result.now) (mon_of c.first_of-in-along.result.now) (map kind_of c.in-Some.js.now)) c.next.result r) c.in_err-at.was c.checked.ensures))))))
 
 pub checked-checked-requires-then-count : goal.checked-checked-requires-then-count
 checked-checked-requires-then-count t c =
     let items : walked.parts_at c.along.tree.now ≡ c.in-Some-both.first.now ∷ c.in-Some-both.last.now ∷ [] = search rules in (
       subst (λ n. 8 * nodes (tree_of c.in-Some-both.last.now) + 2 < n) c.decreases (along.below_by _ _ _ 2 2 (along.two_less c.along.tree.now c.in-Some-both.first.now c.in-Some-both.last.now items).1 c.along.invariant.smaller (omega arith)),
       (
-        subst (λ p. ClaimFits (context_in c.args.context) (program p (mon_of c.behind.result.now) (behind (mon_of c.along.right.now)) (map kind_of c.args.kinds.now))) (sym (ap₂ (λ fs bs. record { facts = fs; names = bs }) (c.pass-known.ensures.facts ∙ ap₂ (λ ps gs. passed 1 ps gs) c.of-then-count.ensures c.pass-facts.ensures.facts ∙ c.along.invariant.facts.left 1 (point_in c.args.point).facts) (c.pass-more.ensures ∙ ap (λ bs. with_passed 1 (tree_of c.along.tree.now) (mon_of c.along.left.now) bs) c.pass-names.ensures ∙ c.along.invariant.names.left 1 (point_in c.args.point).names))) (subst (λ m. ClaimFits (context_in c.args.context) (program (record { facts = passed (c.along.count + 1) (sequence (Q.TheVariants.Program c.of.result)) (point_in c.args.point).facts; names = with_passed (c.along.count + 1) (tree_of c.args.tree.now) (mon_of c.args.left.now) (point_in c.args.point).names }) m (behind (mon_of c.along.right.now)) (map kind_of c.args.kinds.now))) (sym c.behind.ensures) (along.behind_fits (context_in c.args.context) c.along.tree.now c.in-Some-both.first.now c.in-Some-both.last.now items (point_in c.args.point) c.along.count (sequence (Q.TheVariants.Program c.of.result)) (tree_of c.args.tree.now) (mon_of c.args.left.now) (map kind_of c.in-Some.js.now) (map kind_of c.args.kinds.now) (mon_of c.along.left.now) (mon_of c.along.right.now) c.in-Some.ensures.some c.along.invariant.facts c.along.invariant.names c.along.invariant.fits (subst (λ p. (program_row (context_in c.args.context) p (rule_at c.along.tree.now) (mon_of c.along.left.now) (mon_of c.along.right.now) (map kind_of c.args.kinds.now)).holds) (ap₂ (λ fs bs. record { facts = fs; names = bs }) c.pass-facts.ensures.facts c.pass-names.ensures) (c.is_asked.ensures.0 c.if-not-is_asked.false)) c.next.result c.in_ok-at.at (subst (λ p. Checked (table_at c.args.context) (tree_of c.in-Some-both.first.now) (program p (first_of (mon_of c.along.left.now)) (first_of (mon_of c.along.right.now)) (map kind_of c.in-Some.js.now)) c.next.result (Ok c.in_ok-at.at)) (ap₂ (λ fs bs. record { facts = fs; names = bs }) c.pass-facts.ensures.facts c.pass-names.ensures) (subst (λ m. Checked (table_at c.args.context) (tree_of c.in-Some-both.first.now) (program (record { facts = known_in c.pass-facts.result; names = binders_in c.pass-names.result }) m (first_of (mon_of c.along.right.now)) (map kind_of c.in-Some.js.now)) c.next.result (Ok c.in_ok-at.at)) c.first_of.ensures (subst (λ m. Checked (table_at c.args.context) (tree_of c.in-Some-both.first.now) (program (record { facts = known_in c.pass-facts.result; names = binders_in c.pass-names.result }) (mon_of c.first_of.result.now) m (map kind_of c.in-Some.js.now)) c.next.result (Ok c.in_ok-at.at)) c.first_of-in-along.ensures (subst (λ r. Checked (table_at c.args.context) (tree_of c.in-Some-both.first.now) (program (record { facts = known_in c.pass-facts.result; names = binders_in c.pass-names.result }) (mon_of c.first_of.result.now) (mon_of c.first_of-in-along.result.now) (map kind_of c.in-Some.js.now)) c.next.result r) c.in_ok-at.was c.checked.ensures)))))),
-        (subst (λ (p : Point). are_binders p.names ≡ true) (sym (ap₂ (λ fs bs. record { facts = fs; names = bs }) (c.pass-known.ensures.facts ∙ ap₂ (λ ps gs. passed 1 ps gs) c.of-then-count.ensures c.pass-facts.ensures.facts ∙ c.along.invariant.facts.left 1 (point_in c.args.point).facts) (c.pass-more.ensures ∙ ap (λ bs. with_passed 1 (tree_of c.along.tree.now) (mon_of c.along.left.now) bs) c.pass-names.ensures ∙ c.along.invariant.names.left 1 (point_in c.args.point).names))) (along.behind_kinds (context_in c.args.context) c.along.tree.now c.in-Some-both.first.now c.in-Some-both.last.now items (point_in c.args.point) c.along.count (sequence (Q.TheVariants.Program c.of.result)) (tree_of c.args.tree.now) (mon_of c.args.left.now) (map kind_of c.in-Some.js.now) (map kind_of c.args.kinds.now) (mon_of c.along.left.now) (mon_of c.along.right.now) c.in-Some.ensures.some c.along.invariant.facts c.along.invariant.names c.along.invariant.fits (subst (λ p. (program_row (context_in c.args.context) p (rule_at c.along.tree.now) (mon_of c.along.left.now) (mon_of c.along.right.now) (map kind_of c.args.kinds.now)).holds) (ap₂ (λ fs bs. record { facts = fs; names = bs }) c.pass-facts.ensures.facts c.pass-names.ensures) (c.is_asked.ensures.0 c.if-not-is_asked.false)) c.laid_out.ensures c.requires.results c.along.invariant.kinds c.next.result c.in_ok-at.at (subst (λ p. Checked (table_at c.args.context) (tree_of c.in-Some-both.first.now) (program p (first_of (mon_of c.along.left.now)) (first_of (mon_of c.along.right.now)) (map kind_of c.in-Some.js.now)) c.next.result (Ok c.in_ok-at.at)) (ap₂ (λ fs bs. record { facts = fs; names = bs }) c.pass-facts.ensures.facts c.pass-names.ensures) (subst (λ m. Checked (table_at c.args.context) (tree_of c.in-Some-both.first.now) (program (record { facts = known_in c.pass-facts.result; names = binders_in c.pass-names.result }) m (first_of (mon_of c.along.right.now)) (map kind_of c.in-Some.js.now)) c.next.result (Ok c.in_ok-at.at)) c.first_of.ensures (subst (λ m. Checked (table_at c.args.context) (tree_of c.in-Some-both.first.now) (program (record { facts = known_in c.pass-facts.result; names = binders_in c.pass-names.result }) (mon_of c.first_of.result.now) m (map kind_of c.in-Some.js.now)) c.next.result (Ok c.in_ok-at.at)) c.first_of-in-along.ensures (subst (λ r. Checked (table_at c.args.context) (tree_of c.in-Some-both.first.now) (program (record { facts = known_in c.pass-facts.result; names = binders_in c.pass-names.result }) (mon_of c.first_of.result.now) (mon_of c.first_of-in-along.result.now) (map kind_of c.in-Some.js.now)) c.next.result r) c.in_ok-at.was c.checked.ensures))))), c.requires.results),
+        subst (λ p. ClaimFits (context_in c.args.context) (program p (mon_of c.behind.result.now) (behind (mon_of c.along.right.now)) (map kind_of c.args.kinds.now))) (sym (ap₂ (λ fs bs. record { facts = fs; names = bs }) (c.pass-known.ensures.facts ∙ ap₂ (λ ps gs. passed 1 ps gs) c.of-then-count.ensures c.pass-facts.ensures.facts ∙ c.along.invariant.facts.left 1 (point_in c.args.point).facts) ((c.pass-more.ensures ∙ names_there c.first-one.result 1 (tree_of c.along.tree.now) (mon_of c.along.left.now) (record { count = c.first-one.ensures.count; tree = c.first-one.ensures.tree; parts = c.first-one.ensures.parts }) (binders_in c.pass-names.result)) ∙ ap (λ bs. with_passed 1 (tree_of c.along.tree.now) (mon_of c.along.left.now) bs) (c.pass-names.ensures ∙ names_there c.along.stretch c.along.count (tree_of c.args.tree.now) (mon_of c.args.left.now) c.along.invariant.stands (binders_in c.args.point.names.now)) ∙ c.along.invariant.names.left 1 (point_in c.args.point).names))) (subst (λ m. ClaimFits (context_in c.args.context) (program (record { facts = passed (c.along.count + 1) (sequence (Q.TheVariants.Program c.of.result)) (point_in c.args.point).facts; names = with_passed (c.along.count + 1) (tree_of c.args.tree.now) (mon_of c.args.left.now) (point_in c.args.point).names }) m (behind (mon_of c.along.right.now)) (map kind_of c.args.kinds.now))) (sym c.behind.ensures) (along.behind_fits (context_in c.args.context) c.along.tree.now c.in-Some-both.first.now c.in-Some-both.last.now items (point_in c.args.point) c.along.count (sequence (Q.TheVariants.Program c.of.result)) (tree_of c.args.tree.now) (mon_of c.args.left.now) (map kind_of c.in-Some.js.now) (map kind_of c.args.kinds.now) (mon_of c.along.left.now) (mon_of c.along.right.now) c.in-Some.ensures.some c.along.invariant.facts c.along.invariant.names c.along.invariant.fits (subst (λ p. (program_row (context_in c.args.context) p (rule_at c.along.tree.now) (mon_of c.along.left.now) (mon_of c.along.right.now) (map kind_of c.args.kinds.now)).holds) (ap₂ (λ fs bs. record { facts = fs; names = bs }) c.pass-facts.ensures.facts (c.pass-names.ensures ∙ names_there c.along.stretch c.along.count (tree_of c.args.tree.now) (mon_of c.args.left.now) c.along.invariant.stands (binders_in c.args.point.names.now))) (c.is_asked.ensures.0 c.if-not-is_asked.false)) c.next.result c.in_ok-at.at (subst (λ p. Checked (table_at c.args.context) (tree_of c.in-Some-both.first.now) (program p (first_of (mon_of c.along.left.now)) (first_of (mon_of c.along.right.now)) (map kind_of c.in-Some.js.now)) c.next.result (Ok c.in_ok-at.at)) (ap₂ (λ fs bs. record { facts = fs; names = bs }) c.pass-facts.ensures.facts (c.pass-names.ensures ∙ names_there c.along.stretch c.along.count (tree_of c.args.tree.now) (mon_of c.args.left.now) c.along.invariant.stands (binders_in c.args.point.names.now))) (subst (λ m. Checked (table_at c.args.context) (tree_of c.in-Some-both.first.now) (program (record { facts = known_in c.pass-facts.result; names = binders_in c.pass-names.result }) m (first_of (mon_of c.along.right.now)) (map kind_of c.in-Some.js.now)) c.next.result (Ok c.in_ok-at.at)) c.first_of.ensures (subst (λ m. Checked (table_at c.args.context) (tree_of c.in-Some-both.first.now) (program (record { facts = known_in c.pass-facts.result; names = binders_in c.pass-names.result }) (mon_of c.first_of.result.now) m (map kind_of c.in-Some.js.now)) c.next.result (Ok c.in_ok-at.at)) c.first_of-in-along.ensures (subst (λ r. Checked (table_at c.args.context) (tree_of c.in-Some-both.first.now) (program (record { facts = known_in c.pass-facts.result; names = binders_in c.pass-names.result }) (mon_of c.first_of.result.now) (mon_of c.first_of-in-along.result.now) (map kind_of c.in-Some.js.now)) c.next.result r) c.in_ok-at.was c.checked.ensures)))))),
+        (subst (λ (p : Point). are_binders p.names ≡ true) (sym (ap₂ (λ fs bs. record { facts = fs; names = bs }) (c.pass-known.ensures.facts ∙ ap₂ (λ ps gs. passed 1 ps gs) c.of-then-count.ensures c.pass-facts.ensures.facts ∙ c.along.invariant.facts.left 1 (point_in c.args.point).facts) ((c.pass-more.ensures ∙ names_there c.first-one.result 1 (tree_of c.along.tree.now) (mon_of c.along.left.now) (record { count = c.first-one.ensures.count; tree = c.first-one.ensures.tree; parts = c.first-one.ensures.parts }) (binders_in c.pass-names.result)) ∙ ap (λ bs. with_passed 1 (tree_of c.along.tree.now) (mon_of c.along.left.now) bs) (c.pass-names.ensures ∙ names_there c.along.stretch c.along.count (tree_of c.args.tree.now) (mon_of c.args.left.now) c.along.invariant.stands (binders_in c.args.point.names.now)) ∙ c.along.invariant.names.left 1 (point_in c.args.point).names))) (along.behind_kinds (context_in c.args.context) c.along.tree.now c.in-Some-both.first.now c.in-Some-both.last.now items (point_in c.args.point) c.along.count (sequence (Q.TheVariants.Program c.of.result)) (tree_of c.args.tree.now) (mon_of c.args.left.now) (map kind_of c.in-Some.js.now) (map kind_of c.args.kinds.now) (mon_of c.along.left.now) (mon_of c.along.right.now) c.in-Some.ensures.some c.along.invariant.facts c.along.invariant.names c.along.invariant.fits (subst (λ p. (program_row (context_in c.args.context) p (rule_at c.along.tree.now) (mon_of c.along.left.now) (mon_of c.along.right.now) (map kind_of c.args.kinds.now)).holds) (ap₂ (λ fs bs. record { facts = fs; names = bs }) c.pass-facts.ensures.facts (c.pass-names.ensures ∙ names_there c.along.stretch c.along.count (tree_of c.args.tree.now) (mon_of c.args.left.now) c.along.invariant.stands (binders_in c.args.point.names.now))) (c.is_asked.ensures.0 c.if-not-is_asked.false)) c.laid_out.ensures c.requires.results c.along.invariant.kinds c.next.result c.in_ok-at.at (subst (λ p. Checked (table_at c.args.context) (tree_of c.in-Some-both.first.now) (program p (first_of (mon_of c.along.left.now)) (first_of (mon_of c.along.right.now)) (map kind_of c.in-Some.js.now)) c.next.result (Ok c.in_ok-at.at)) (ap₂ (λ fs bs. record { facts = fs; names = bs }) c.pass-facts.ensures.facts (c.pass-names.ensures ∙ names_there c.along.stretch c.along.count (tree_of c.args.tree.now) (mon_of c.args.left.now) c.along.invariant.stands (binders_in c.args.point.names.now))) (subst (λ m. Checked (table_at c.args.context) (tree_of c.in-Some-both.first.now) (program (record { facts = known_in c.pass-facts.result; names = binders_in c.pass-names.result }) m (first_of (mon_of c.along.right.now)) (map kind_of c.in-Some.js.now)) c.next.result (Ok c.in_ok-at.at)) c.first_of.ensures (subst (λ m. Checked (table_at c.args.context) (tree_of c.in-Some-both.first.now) (program (record { facts = known_in c.pass-facts.result; names = binders_in c.pass-names.result }) (mon_of c.first_of.result.now) m (map kind_of c.in-Some.js.now)) c.next.result (Ok c.in_ok-at.at)) c.first_of-in-along.ensures (subst (λ r. Checked (table_at c.args.context) (tree_of c.in-Some-both.first.now) (program (record { facts = known_in c.pass-facts.result; names = binders_in c.pass-names.result }) (mon_of c.first_of.result.now) (mon_of c.first_of-in-along.result.now) (map kind_of c.in-Some.js.now)) c.next.result r) c.in_ok-at.was c.checked.ensures))))), c.requires.results),
       ),
     )
 
 pub checked-returns-then-count : goal.checked-returns-then-count
 checked-returns-then-count t c =
     let items : walked.parts_at c.along.tree.now ≡ c.in-Some-both.first.now ∷ c.in-Some-both.last.now ∷ [] = search rules in
-    c.along.invariant.decides c.checked-then-count.result (along.step_onward (context_in c.args.context) c.along.tree.now c.in-Some-both.first.now c.in-Some-both.last.now items (point_in c.args.point) c.along.count (sequence (Q.TheVariants.Program c.of.result)) (tree_of c.args.tree.now) (mon_of c.args.left.now) (map kind_of c.in-Some.js.now) (map kind_of c.args.kinds.now) (mon_of c.along.left.now) (mon_of c.along.right.now) c.in-Some.ensures.some c.along.invariant.facts c.along.invariant.names c.along.invariant.fits (subst (λ p. (program_row (context_in c.args.context) p (rule_at c.along.tree.now) (mon_of c.along.left.now) (mon_of c.along.right.now) (map kind_of c.args.kinds.now)).holds) (ap₂ (λ fs bs. record { facts = fs; names = bs }) c.pass-facts.ensures.facts c.pass-names.ensures) (c.is_asked.ensures.0 c.if-not-is_asked.false)) c.along.at c.next.result c.in_ok-at.at c.next.ensures (subst (λ p. Checked (table_at c.args.context) (tree_of c.in-Some-both.first.now) (program p (first_of (mon_of c.along.left.now)) (first_of (mon_of c.along.right.now)) (map kind_of c.in-Some.js.now)) c.next.result (Ok c.in_ok-at.at)) (ap₂ (λ fs bs. record { facts = fs; names = bs }) c.pass-facts.ensures.facts c.pass-names.ensures) (subst (λ m. Checked (table_at c.args.context) (tree_of c.in-Some-both.first.now) (program (record { facts = known_in c.pass-facts.result; names = binders_in c.pass-names.result }) m (first_of (mon_of c.along.right.now)) (map kind_of c.in-Some.js.now)) c.next.result (Ok c.in_ok-at.at)) c.first_of.ensures (subst (λ m. Checked (table_at c.args.context) (tree_of c.in-Some-both.first.now) (program (record { facts = known_in c.pass-facts.result; names = binders_in c.pass-names.result }) (mon_of c.first_of.result.now) m (map kind_of c.in-Some.js.now)) c.next.result (Ok c.in_ok-at.at)) c.first_of-in-along.ensures (subst (λ r. Checked (table_at c.args.context) (tree_of c.in-Some-both.first.now) (program (record { facts = known_in c.pass-facts.result; names = binders_in c.pass-names.result }) (mon_of c.first_of.result.now) (mon_of c.first_of-in-along.result.now) (map kind_of c.in-Some.js.now)) c.next.result r) c.in_ok-at.was c.checked.ensures)))) c.checked-then-count.result
-    (subst (λ p. Checked (table_at c.args.context) (tree_of c.in-Some-both.last.now) (program p (behind (mon_of c.along.left.now)) (behind (mon_of c.along.right.now)) (map kind_of c.args.kinds.now)) c.in_ok-at.at c.checked-then-count.result) (ap₂ (λ fs bs. record { facts = fs; names = bs }) (c.pass-known.ensures.facts ∙ ap₂ (λ ps gs. passed 1 ps gs) c.of-then-count.ensures c.pass-facts.ensures.facts ∙ c.along.invariant.facts.left 1 (point_in c.args.point).facts) (c.pass-more.ensures ∙ ap (λ bs. with_passed 1 (tree_of c.along.tree.now) (mon_of c.along.left.now) bs) c.pass-names.ensures ∙ c.along.invariant.names.left 1 (point_in c.args.point).names))
+    c.along.invariant.decides c.checked-then-count.result (along.step_onward (context_in c.args.context) c.along.tree.now c.in-Some-both.first.now c.in-Some-both.last.now items (point_in c.args.point) c.along.count (sequence (Q.TheVariants.Program c.of.result)) (tree_of c.args.tree.now) (mon_of c.args.left.now) (map kind_of c.in-Some.js.now) (map kind_of c.args.kinds.now) (mon_of c.along.left.now) (mon_of c.along.right.now) c.in-Some.ensures.some c.along.invariant.facts c.along.invariant.names c.along.invariant.fits (subst (λ p. (program_row (context_in c.args.context) p (rule_at c.along.tree.now) (mon_of c.along.left.now) (mon_of c.along.right.now) (map kind_of c.args.kinds.now)).holds) (ap₂ (λ fs bs. record { facts = fs; names = bs }) c.pass-facts.ensures.facts (c.pass-names.ensures ∙ names_there c.along.stretch c.along.count (tree_of c.args.tree.now) (mon_of c.args.left.now) c.along.invariant.stands (binders_in c.args.point.names.now))) (c.is_asked.ensures.0 c.if-not-is_asked.false)) c.along.at c.next.result c.in_ok-at.at c.next.ensures (subst (λ p. Checked (table_at c.args.context) (tree_of c.in-Some-both.first.now) (program p (first_of (mon_of c.along.left.now)) (first_of (mon_of c.along.right.now)) (map kind_of c.in-Some.js.now)) c.next.result (Ok c.in_ok-at.at)) (ap₂ (λ fs bs. record { facts = fs; names = bs }) c.pass-facts.ensures.facts (c.pass-names.ensures ∙ names_there c.along.stretch c.along.count (tree_of c.args.tree.now) (mon_of c.args.left.now) c.along.invariant.stands (binders_in c.args.point.names.now))) (subst (λ m. Checked (table_at c.args.context) (tree_of c.in-Some-both.first.now) (program (record { facts = known_in c.pass-facts.result; names = binders_in c.pass-names.result }) m (first_of (mon_of c.along.right.now)) (map kind_of c.in-Some.js.now)) c.next.result (Ok c.in_ok-at.at)) c.first_of.ensures (subst (λ m. Checked (table_at c.args.context) (tree_of c.in-Some-both.first.now) (program (record { facts = known_in c.pass-facts.result; names = binders_in c.pass-names.result }) (mon_of c.first_of.result.now) m (map kind_of c.in-Some.js.now)) c.next.result (Ok c.in_ok-at.at)) c.first_of-in-along.ensures (subst (λ r. Checked (table_at c.args.context) (tree_of c.in-Some-both.first.now) (program (record { facts = known_in c.pass-facts.result; names = binders_in c.pass-names.result }) (mon_of c.first_of.result.now) (mon_of c.first_of-in-along.result.now) (map kind_of c.in-Some.js.now)) c.next.result r) c.in_ok-at.was c.checked.ensures)))) c.checked-then-count.result
+    (subst (λ p. Checked (table_at c.args.context) (tree_of c.in-Some-both.last.now) (program p (behind (mon_of c.along.left.now)) (behind (mon_of c.along.right.now)) (map kind_of c.args.kinds.now)) c.in_ok-at.at c.checked-then-count.result) (ap₂ (λ fs bs. record { facts = fs; names = bs }) (c.pass-known.ensures.facts ∙ ap₂ (λ ps gs. passed 1 ps gs) c.of-then-count.ensures c.pass-facts.ensures.facts ∙ c.along.invariant.facts.left 1 (point_in c.args.point).facts) ((c.pass-more.ensures ∙ names_there c.first-one.result 1 (tree_of c.along.tree.now) (mon_of c.along.left.now) (record { count = c.first-one.ensures.count; tree = c.first-one.ensures.tree; parts = c.first-one.ensures.parts }) (binders_in c.pass-names.result)) ∙ ap (λ bs. with_passed 1 (tree_of c.along.tree.now) (mon_of c.along.left.now) bs) (c.pass-names.ensures ∙ names_there c.along.stretch c.along.count (tree_of c.args.tree.now) (mon_of c.args.left.now) c.along.invariant.stands (binders_in c.args.point.names.now)) ∙ c.along.invariant.names.left 1 (point_in c.args.point).names))
     (subst (λ m. Checked (table_at c.args.context) (tree_of c.in-Some-both.last.now) (program (record { facts = known_in c.pass-known.result; names = binders_in c.pass-more.result }) m (behind (mon_of c.along.right.now)) (map kind_of c.args.kinds.now)) c.in_ok-at.at c.checked-then-count.result) c.behind.ensures
     (subst (λ m. Checked (table_at c.args.context) (tree_of c.in-Some-both.last.now) (program (record { facts = known_in c.pass-known.result; names = binders_in c.pass-more.result }) (mon_of c.behind.result.now) m (map kind_of c.args.kinds.now)) c.in_ok-at.at c.checked-then-count.result) c.behind-then-count.ensures c.checked-then-count.ensures))))
+
+pub checked-first-one-requires : goal.checked-first-one-requires
+checked-first-one-requires t c =
+    let items : walked.parts_at c.along.tree.now ≡ c.in-Some-both.first.now ∷ c.in-Some-both.last.now ∷ [] = search rules in (
+      (map kind_of c.in-Some.js.now),
+      next_is 0 (tree_of c.along.tree.now) (mon_of c.along.left.now) (names_bound (mon_of c.along.left.now)) (map kind_of c.in-Some.js.now) (tree_of c.in-Some-both.last.now) (behind (mon_of c.along.left.now))
+          (along.step_binds (context_in c.args.context) c.along.tree.now c.in-Some-both.first.now c.in-Some-both.last.now items (record { facts = passed c.along.count (sequence (Q.TheVariants.Program c.of.result)) (point_in c.args.point).facts; names = with_passed c.along.count (tree_of c.args.tree.now) (mon_of c.args.left.now) (point_in c.args.point).names }) 0 (parts (mon_of c.along.right.now)) (tree_of c.along.tree.now) (mon_of c.along.left.now) (map kind_of c.in-Some.js.now) (map kind_of c.args.kinds.now) (mon_of c.along.left.now) (mon_of c.along.right.now) c.in-Some.ensures.some (no_facts_passed (parts (mon_of c.along.right.now))) (no_names_passed (tree_of c.along.tree.now) (mon_of c.along.left.now)) c.along.invariant.fits (subst (λ p. (program_row (context_in c.args.context) p (rule_at c.along.tree.now) (mon_of c.along.left.now) (mon_of c.along.right.now) (map kind_of c.args.kinds.now)).holds) (ap₂ (λ fs bs. record { facts = fs; names = bs }) c.pass-facts.ensures.facts (c.pass-names.ensures ∙ names_there c.along.stretch c.along.count (tree_of c.args.tree.now) (mon_of c.args.left.now) c.along.invariant.stands (binders_in c.args.point.names.now))) (c.is_asked.ensures.0 c.if-not-is_asked.false)))
+          (along.behind_names (context_in c.args.context) c.along.tree.now c.in-Some-both.first.now c.in-Some-both.last.now items (record { facts = passed c.along.count (sequence (Q.TheVariants.Program c.of.result)) (point_in c.args.point).facts; names = with_passed c.along.count (tree_of c.args.tree.now) (mon_of c.args.left.now) (point_in c.args.point).names }) 0 (parts (mon_of c.along.right.now)) (tree_of c.along.tree.now) (mon_of c.along.left.now) (map kind_of c.in-Some.js.now) (map kind_of c.args.kinds.now) (mon_of c.along.left.now) (mon_of c.along.right.now) c.in-Some.ensures.some (no_facts_passed (parts (mon_of c.along.right.now))) (no_names_passed (tree_of c.along.tree.now) (mon_of c.along.left.now)) c.along.invariant.fits (subst (λ p. (program_row (context_in c.args.context) p (rule_at c.along.tree.now) (mon_of c.along.left.now) (mon_of c.along.right.now) (map kind_of c.args.kinds.now)).holds) (ap₂ (λ fs bs. record { facts = fs; names = bs }) c.pass-facts.ensures.facts (c.pass-names.ensures ∙ names_there c.along.stretch c.along.count (tree_of c.args.tree.now) (mon_of c.args.left.now) c.along.invariant.stands (binders_in c.args.point.names.now))) (c.is_asked.ensures.0 c.if-not-is_asked.false))),
+    )
+
+pub checked-step-stretch-requires-clause-next : goal.checked-step-stretch-requires-clause-next
+checked-step-stretch-requires-clause-next t c =
+    let items : walked.parts_at c.along.tree.now ≡ c.in-Some-both.first.now ∷ c.in-Some-both.last.now ∷ [] = search rules in (
+      (map kind_of c.in-Some.js.now),
+      next_from c.along.stretch c.along.count (tree_of c.args.tree.now) (mon_of c.args.left.now) c.along.invariant.stands (names_bound (mon_of c.along.left.now)) (map kind_of c.in-Some.js.now) (tree_of c.in-Some-both.last.now) (behind (mon_of c.along.left.now))
+          (next_is c.along.count (tree_of c.args.tree.now) (mon_of c.args.left.now) (names_bound (mon_of c.along.left.now)) (map kind_of c.in-Some.js.now) (tree_of c.in-Some-both.last.now) (behind (mon_of c.along.left.now)) (along.step_binds (context_in c.args.context) c.along.tree.now c.in-Some-both.first.now c.in-Some-both.last.now items (point_in c.args.point) c.along.count (sequence (Q.TheVariants.Program c.of.result)) (tree_of c.args.tree.now) (mon_of c.args.left.now) (map kind_of c.in-Some.js.now) (map kind_of c.args.kinds.now) (mon_of c.along.left.now) (mon_of c.along.right.now) c.in-Some.ensures.some c.along.invariant.facts c.along.invariant.names c.along.invariant.fits (subst (λ p. (program_row (context_in c.args.context) p (rule_at c.along.tree.now) (mon_of c.along.left.now) (mon_of c.along.right.now) (map kind_of c.args.kinds.now)).holds) (ap₂ (λ fs bs. record { facts = fs; names = bs }) c.pass-facts.ensures.facts (c.pass-names.ensures ∙ names_there c.along.stretch c.along.count (tree_of c.args.tree.now) (mon_of c.args.left.now) c.along.invariant.stands (binders_in c.args.point.names.now))) (c.is_asked.ensures.0 c.if-not-is_asked.false))) (along.behind_names (context_in c.args.context) c.along.tree.now c.in-Some-both.first.now c.in-Some-both.last.now items (point_in c.args.point) c.along.count (sequence (Q.TheVariants.Program c.of.result)) (tree_of c.args.tree.now) (mon_of c.args.left.now) (map kind_of c.in-Some.js.now) (map kind_of c.args.kinds.now) (mon_of c.along.left.now) (mon_of c.along.right.now) c.in-Some.ensures.some c.along.invariant.facts c.along.invariant.names c.along.invariant.fits (subst (λ p. (program_row (context_in c.args.context) p (rule_at c.along.tree.now) (mon_of c.along.left.now) (mon_of c.along.right.now) (map kind_of c.args.kinds.now)).holds) (ap₂ (λ fs bs. record { facts = fs; names = bs }) c.pass-facts.ensures.facts (c.pass-names.ensures ∙ names_there c.along.stretch c.along.count (tree_of c.args.tree.now) (mon_of c.args.left.now) c.along.invariant.stands (binders_in c.args.point.names.now))) (c.is_asked.ensures.0 c.if-not-is_asked.false)))),
+    )
 
 pub checked-along-smaller : goal.checked-along-smaller
 checked-along-smaller t c =
@@ -291,13 +309,15 @@ pub checked-along-preserved : goal.checked-along-preserved
 checked-along-preserved t c =
     let items : walked.parts_at c.along.tree.now ≡ c.in-Some-both.first.now ∷ c.in-Some-both.last.now ∷ [] = search rules in
     record {
-      decides = λ r h. c.along.invariant.decides r (along.step_onward (context_in c.args.context) c.along.tree.now c.in-Some-both.first.now c.in-Some-both.last.now items (point_in c.args.point) c.along.count (sequence (Q.TheVariants.Program c.of.result)) (tree_of c.args.tree.now) (mon_of c.args.left.now) (map kind_of c.in-Some.js.now) (map kind_of c.args.kinds.now) (mon_of c.along.left.now) (mon_of c.along.right.now) c.in-Some.ensures.some c.along.invariant.facts c.along.invariant.names c.along.invariant.fits (subst (λ p. (program_row (context_in c.args.context) p (rule_at c.along.tree.now) (mon_of c.along.left.now) (mon_of c.along.right.now) (map kind_of c.args.kinds.now)).holds) (ap₂ (λ fs bs. record { facts = fs; names = bs }) c.pass-facts.ensures.facts c.pass-names.ensures) (c.is_asked.ensures.0 c.if-not-is_asked.false)) c.along.at c.next.result c.in_ok-at.at c.next.ensures (subst (λ p. Checked (table_at c.args.context) (tree_of c.in-Some-both.first.now) (program p (first_of (mon_of c.along.left.now)) (first_of (mon_of c.along.right.now)) (map kind_of c.in-Some.js.now)) c.next.result (Ok c.in_ok-at.at)) (ap₂ (λ fs bs. record { facts = fs; names = bs }) c.pass-facts.ensures.facts c.pass-names.ensures) (subst (λ m. Checked (table_at c.args.context) (tree_of c.in-Some-both.first.now) (program (record { facts = known_in c.pass-facts.result; names = binders_in c.pass-names.result }) m (first_of (mon_of c.along.right.now)) (map kind_of c.in-Some.js.now)) c.next.result (Ok c.in_ok-at.at)) c.first_of.ensures (subst (λ m. Checked (table_at c.args.context) (tree_of c.in-Some-both.first.now) (program (record { facts = known_in c.pass-facts.result; names = binders_in c.pass-names.result }) (mon_of c.first_of.result.now) m (map kind_of c.in-Some.js.now)) c.next.result (Ok c.in_ok-at.at)) c.first_of-in-along.ensures (subst (λ r. Checked (table_at c.args.context) (tree_of c.in-Some-both.first.now) (program (record { facts = known_in c.pass-facts.result; names = binders_in c.pass-names.result }) (mon_of c.first_of.result.now) (mon_of c.first_of-in-along.result.now) (map kind_of c.in-Some.js.now)) c.next.result r) c.in_ok-at.was c.checked.ensures)))) r
+      decides = λ r h. c.along.invariant.decides r (along.step_onward (context_in c.args.context) c.along.tree.now c.in-Some-both.first.now c.in-Some-both.last.now items (point_in c.args.point) c.along.count (sequence (Q.TheVariants.Program c.of.result)) (tree_of c.args.tree.now) (mon_of c.args.left.now) (map kind_of c.in-Some.js.now) (map kind_of c.args.kinds.now) (mon_of c.along.left.now) (mon_of c.along.right.now) c.in-Some.ensures.some c.along.invariant.facts c.along.invariant.names c.along.invariant.fits (subst (λ p. (program_row (context_in c.args.context) p (rule_at c.along.tree.now) (mon_of c.along.left.now) (mon_of c.along.right.now) (map kind_of c.args.kinds.now)).holds) (ap₂ (λ fs bs. record { facts = fs; names = bs }) c.pass-facts.ensures.facts (c.pass-names.ensures ∙ names_there c.along.stretch c.along.count (tree_of c.args.tree.now) (mon_of c.args.left.now) c.along.invariant.stands (binders_in c.args.point.names.now))) (c.is_asked.ensures.0 c.if-not-is_asked.false)) c.along.at c.next.result c.in_ok-at.at c.next.ensures (subst (λ p. Checked (table_at c.args.context) (tree_of c.in-Some-both.first.now) (program p (first_of (mon_of c.along.left.now)) (first_of (mon_of c.along.right.now)) (map kind_of c.in-Some.js.now)) c.next.result (Ok c.in_ok-at.at)) (ap₂ (λ fs bs. record { facts = fs; names = bs }) c.pass-facts.ensures.facts (c.pass-names.ensures ∙ names_there c.along.stretch c.along.count (tree_of c.args.tree.now) (mon_of c.args.left.now) c.along.invariant.stands (binders_in c.args.point.names.now))) (subst (λ m. Checked (table_at c.args.context) (tree_of c.in-Some-both.first.now) (program (record { facts = known_in c.pass-facts.result; names = binders_in c.pass-names.result }) m (first_of (mon_of c.along.right.now)) (map kind_of c.in-Some.js.now)) c.next.result (Ok c.in_ok-at.at)) c.first_of.ensures (subst (λ m. Checked (table_at c.args.context) (tree_of c.in-Some-both.first.now) (program (record { facts = known_in c.pass-facts.result; names = binders_in c.pass-names.result }) (mon_of c.first_of.result.now) m (map kind_of c.in-Some.js.now)) c.next.result (Ok c.in_ok-at.at)) c.first_of-in-along.ensures (subst (λ r. Checked (table_at c.args.context) (tree_of c.in-Some-both.first.now) (program (record { facts = known_in c.pass-facts.result; names = binders_in c.pass-names.result }) (mon_of c.first_of.result.now) (mon_of c.first_of-in-along.result.now) (map kind_of c.in-Some.js.now)) c.next.result r) c.in_ok-at.was c.checked.ensures)))) r
           (subst (λ m. Checked (table_at c.args.context) (tree_of c.in-Some-both.last.now) (program (record { facts = passed (c.along.count + 1) (sequence (Q.TheVariants.Program c.of.result)) (point_in c.args.point).facts; names = with_passed (c.along.count + 1) (tree_of c.args.tree.now) (mon_of c.args.left.now) (point_in c.args.point).names }) m (behind (mon_of c.along.right.now)) (map kind_of c.args.kinds.now)) c.in_ok-at.at r) c.behind-left.ensures
           (subst (λ m. Checked (table_at c.args.context) (tree_of c.in-Some-both.last.now) (program (record { facts = passed (c.along.count + 1) (sequence (Q.TheVariants.Program c.of.result)) (point_in c.args.point).facts; names = with_passed (c.along.count + 1) (tree_of c.args.tree.now) (mon_of c.args.left.now) (point_in c.args.point).names }) (mon_of c.behind-left.result.now) m (map kind_of c.args.kinds.now)) c.in_ok-at.at r) c.behind-right.ensures h)));
-      fits = subst (λ m. ClaimFits (context_in c.args.context) (program (record { facts = passed (c.along.count + 1) (sequence (Q.TheVariants.Program c.of.result)) (point_in c.args.point).facts; names = with_passed (c.along.count + 1) (tree_of c.args.tree.now) (mon_of c.args.left.now) (point_in c.args.point).names }) m (mon_of c.behind-right.result.now) (map kind_of c.args.kinds.now))) (sym c.behind-left.ensures) (along.behind_fits (context_in c.args.context) c.along.tree.now c.in-Some-both.first.now c.in-Some-both.last.now items (point_in c.args.point) c.along.count (sequence (Q.TheVariants.Program c.of.result)) (tree_of c.args.tree.now) (mon_of c.args.left.now) (map kind_of c.in-Some.js.now) (map kind_of c.args.kinds.now) (mon_of c.along.left.now) (mon_of c.along.right.now) c.in-Some.ensures.some c.along.invariant.facts c.along.invariant.names c.along.invariant.fits (subst (λ p. (program_row (context_in c.args.context) p (rule_at c.along.tree.now) (mon_of c.along.left.now) (mon_of c.along.right.now) (map kind_of c.args.kinds.now)).holds) (ap₂ (λ fs bs. record { facts = fs; names = bs }) c.pass-facts.ensures.facts c.pass-names.ensures) (c.is_asked.ensures.0 c.if-not-is_asked.false)) c.next.result c.in_ok-at.at (subst (λ p. Checked (table_at c.args.context) (tree_of c.in-Some-both.first.now) (program p (first_of (mon_of c.along.left.now)) (first_of (mon_of c.along.right.now)) (map kind_of c.in-Some.js.now)) c.next.result (Ok c.in_ok-at.at)) (ap₂ (λ fs bs. record { facts = fs; names = bs }) c.pass-facts.ensures.facts c.pass-names.ensures) (subst (λ m. Checked (table_at c.args.context) (tree_of c.in-Some-both.first.now) (program (record { facts = known_in c.pass-facts.result; names = binders_in c.pass-names.result }) m (first_of (mon_of c.along.right.now)) (map kind_of c.in-Some.js.now)) c.next.result (Ok c.in_ok-at.at)) c.first_of.ensures (subst (λ m. Checked (table_at c.args.context) (tree_of c.in-Some-both.first.now) (program (record { facts = known_in c.pass-facts.result; names = binders_in c.pass-names.result }) (mon_of c.first_of.result.now) m (map kind_of c.in-Some.js.now)) c.next.result (Ok c.in_ok-at.at)) c.first_of-in-along.ensures (subst (λ r. Checked (table_at c.args.context) (tree_of c.in-Some-both.first.now) (program (record { facts = known_in c.pass-facts.result; names = binders_in c.pass-names.result }) (mon_of c.first_of.result.now) (mon_of c.first_of-in-along.result.now) (map kind_of c.in-Some.js.now)) c.next.result r) c.in_ok-at.was c.checked.ensures)))));
-      kinds = (along.behind_kinds (context_in c.args.context) c.along.tree.now c.in-Some-both.first.now c.in-Some-both.last.now items (point_in c.args.point) c.along.count (sequence (Q.TheVariants.Program c.of.result)) (tree_of c.args.tree.now) (mon_of c.args.left.now) (map kind_of c.in-Some.js.now) (map kind_of c.args.kinds.now) (mon_of c.along.left.now) (mon_of c.along.right.now) c.in-Some.ensures.some c.along.invariant.facts c.along.invariant.names c.along.invariant.fits (subst (λ p. (program_row (context_in c.args.context) p (rule_at c.along.tree.now) (mon_of c.along.left.now) (mon_of c.along.right.now) (map kind_of c.args.kinds.now)).holds) (ap₂ (λ fs bs. record { facts = fs; names = bs }) c.pass-facts.ensures.facts c.pass-names.ensures) (c.is_asked.ensures.0 c.if-not-is_asked.false)) c.laid_out.ensures c.requires.results c.along.invariant.kinds c.next.result c.in_ok-at.at (subst (λ p. Checked (table_at c.args.context) (tree_of c.in-Some-both.first.now) (program p (first_of (mon_of c.along.left.now)) (first_of (mon_of c.along.right.now)) (map kind_of c.in-Some.js.now)) c.next.result (Ok c.in_ok-at.at)) (ap₂ (λ fs bs. record { facts = fs; names = bs }) c.pass-facts.ensures.facts c.pass-names.ensures) (subst (λ m. Checked (table_at c.args.context) (tree_of c.in-Some-both.first.now) (program (record { facts = known_in c.pass-facts.result; names = binders_in c.pass-names.result }) m (first_of (mon_of c.along.right.now)) (map kind_of c.in-Some.js.now)) c.next.result (Ok c.in_ok-at.at)) c.first_of.ensures (subst (λ m. Checked (table_at c.args.context) (tree_of c.in-Some-both.first.now) (program (record { facts = known_in c.pass-facts.result; names = binders_in c.pass-names.result }) (mon_of c.first_of.result.now) m (map kind_of c.in-Some.js.now)) c.next.result (Ok c.in_ok-at.at)) c.first_of-in-along.ensures (subst (λ r. Checked (table_at c.args.context) (tree_of c.in-Some-both.first.now) (program (record { facts = known_in c.pass-facts.result; names = binders_in c.pass-names.result }) (mon_of c.first_of.result.now) (mon_of c.first_of-in-along.result.now) (map kind_of c.in-Some.js.now)) c.next.result r) c.in_ok-at.was c.checked.ensures)))));
-      facts = subst (λ m. FactsLeft (parts m) (c.along.count + 1) (sequence (Q.TheVariants.Program c.of.result))) (sym c.behind-right.ensures) (along.behind_facts (context_in c.args.context) c.along.tree.now c.in-Some-both.first.now c.in-Some-both.last.now items (point_in c.args.point) c.along.count (sequence (Q.TheVariants.Program c.of.result)) (tree_of c.args.tree.now) (mon_of c.args.left.now) (map kind_of c.in-Some.js.now) (map kind_of c.args.kinds.now) (mon_of c.along.left.now) (mon_of c.along.right.now) c.in-Some.ensures.some c.along.invariant.facts c.along.invariant.names c.along.invariant.fits (subst (λ p. (program_row (context_in c.args.context) p (rule_at c.along.tree.now) (mon_of c.along.left.now) (mon_of c.along.right.now) (map kind_of c.args.kinds.now)).holds) (ap₂ (λ fs bs. record { facts = fs; names = bs }) c.pass-facts.ensures.facts c.pass-names.ensures) (c.is_asked.ensures.0 c.if-not-is_asked.false)));
-      names = subst (λ m. NamesLeft (tree_of c.in-Some-both.last.now) m (c.along.count + 1) (tree_of c.args.tree.now) (mon_of c.args.left.now)) (sym c.behind-left.ensures) (along.behind_names (context_in c.args.context) c.along.tree.now c.in-Some-both.first.now c.in-Some-both.last.now items (point_in c.args.point) c.along.count (sequence (Q.TheVariants.Program c.of.result)) (tree_of c.args.tree.now) (mon_of c.args.left.now) (map kind_of c.in-Some.js.now) (map kind_of c.args.kinds.now) (mon_of c.along.left.now) (mon_of c.along.right.now) c.in-Some.ensures.some c.along.invariant.facts c.along.invariant.names c.along.invariant.fits (subst (λ p. (program_row (context_in c.args.context) p (rule_at c.along.tree.now) (mon_of c.along.left.now) (mon_of c.along.right.now) (map kind_of c.args.kinds.now)).holds) (ap₂ (λ fs bs. record { facts = fs; names = bs }) c.pass-facts.ensures.facts c.pass-names.ensures) (c.is_asked.ensures.0 c.if-not-is_asked.false)));
+      fits = subst (λ m. ClaimFits (context_in c.args.context) (program (record { facts = passed (c.along.count + 1) (sequence (Q.TheVariants.Program c.of.result)) (point_in c.args.point).facts; names = with_passed (c.along.count + 1) (tree_of c.args.tree.now) (mon_of c.args.left.now) (point_in c.args.point).names }) m (mon_of c.behind-right.result.now) (map kind_of c.args.kinds.now))) (sym c.behind-left.ensures) (along.behind_fits (context_in c.args.context) c.along.tree.now c.in-Some-both.first.now c.in-Some-both.last.now items (point_in c.args.point) c.along.count (sequence (Q.TheVariants.Program c.of.result)) (tree_of c.args.tree.now) (mon_of c.args.left.now) (map kind_of c.in-Some.js.now) (map kind_of c.args.kinds.now) (mon_of c.along.left.now) (mon_of c.along.right.now) c.in-Some.ensures.some c.along.invariant.facts c.along.invariant.names c.along.invariant.fits (subst (λ p. (program_row (context_in c.args.context) p (rule_at c.along.tree.now) (mon_of c.along.left.now) (mon_of c.along.right.now) (map kind_of c.args.kinds.now)).holds) (ap₂ (λ fs bs. record { facts = fs; names = bs }) c.pass-facts.ensures.facts (c.pass-names.ensures ∙ names_there c.along.stretch c.along.count (tree_of c.args.tree.now) (mon_of c.args.left.now) c.along.invariant.stands (binders_in c.args.point.names.now))) (c.is_asked.ensures.0 c.if-not-is_asked.false)) c.next.result c.in_ok-at.at (subst (λ p. Checked (table_at c.args.context) (tree_of c.in-Some-both.first.now) (program p (first_of (mon_of c.along.left.now)) (first_of (mon_of c.along.right.now)) (map kind_of c.in-Some.js.now)) c.next.result (Ok c.in_ok-at.at)) (ap₂ (λ fs bs. record { facts = fs; names = bs }) c.pass-facts.ensures.facts (c.pass-names.ensures ∙ names_there c.along.stretch c.along.count (tree_of c.args.tree.now) (mon_of c.args.left.now) c.along.invariant.stands (binders_in c.args.point.names.now))) (subst (λ m. Checked (table_at c.args.context) (tree_of c.in-Some-both.first.now) (program (record { facts = known_in c.pass-facts.result; names = binders_in c.pass-names.result }) m (first_of (mon_of c.along.right.now)) (map kind_of c.in-Some.js.now)) c.next.result (Ok c.in_ok-at.at)) c.first_of.ensures (subst (λ m. Checked (table_at c.args.context) (tree_of c.in-Some-both.first.now) (program (record { facts = known_in c.pass-facts.result; names = binders_in c.pass-names.result }) (mon_of c.first_of.result.now) m (map kind_of c.in-Some.js.now)) c.next.result (Ok c.in_ok-at.at)) c.first_of-in-along.ensures (subst (λ r. Checked (table_at c.args.context) (tree_of c.in-Some-both.first.now) (program (record { facts = known_in c.pass-facts.result; names = binders_in c.pass-names.result }) (mon_of c.first_of.result.now) (mon_of c.first_of-in-along.result.now) (map kind_of c.in-Some.js.now)) c.next.result r) c.in_ok-at.was c.checked.ensures)))));
+      kinds = (along.behind_kinds (context_in c.args.context) c.along.tree.now c.in-Some-both.first.now c.in-Some-both.last.now items (point_in c.args.point) c.along.count (sequence (Q.TheVariants.Program c.of.result)) (tree_of c.args.tree.now) (mon_of c.args.left.now) (map kind_of c.in-Some.js.now) (map kind_of c.args.kinds.now) (mon_of c.along.left.now) (mon_of c.along.right.now) c.in-Some.ensures.some c.along.invariant.facts c.along.invariant.names c.along.invariant.fits (subst (λ p. (program_row (context_in c.args.context) p (rule_at c.along.tree.now) (mon_of c.along.left.now) (mon_of c.along.right.now) (map kind_of c.args.kinds.now)).holds) (ap₂ (λ fs bs. record { facts = fs; names = bs }) c.pass-facts.ensures.facts (c.pass-names.ensures ∙ names_there c.along.stretch c.along.count (tree_of c.args.tree.now) (mon_of c.args.left.now) c.along.invariant.stands (binders_in c.args.point.names.now))) (c.is_asked.ensures.0 c.if-not-is_asked.false)) c.laid_out.ensures c.requires.results c.along.invariant.kinds c.next.result c.in_ok-at.at (subst (λ p. Checked (table_at c.args.context) (tree_of c.in-Some-both.first.now) (program p (first_of (mon_of c.along.left.now)) (first_of (mon_of c.along.right.now)) (map kind_of c.in-Some.js.now)) c.next.result (Ok c.in_ok-at.at)) (ap₂ (λ fs bs. record { facts = fs; names = bs }) c.pass-facts.ensures.facts (c.pass-names.ensures ∙ names_there c.along.stretch c.along.count (tree_of c.args.tree.now) (mon_of c.args.left.now) c.along.invariant.stands (binders_in c.args.point.names.now))) (subst (λ m. Checked (table_at c.args.context) (tree_of c.in-Some-both.first.now) (program (record { facts = known_in c.pass-facts.result; names = binders_in c.pass-names.result }) m (first_of (mon_of c.along.right.now)) (map kind_of c.in-Some.js.now)) c.next.result (Ok c.in_ok-at.at)) c.first_of.ensures (subst (λ m. Checked (table_at c.args.context) (tree_of c.in-Some-both.first.now) (program (record { facts = known_in c.pass-facts.result; names = binders_in c.pass-names.result }) (mon_of c.first_of.result.now) m (map kind_of c.in-Some.js.now)) c.next.result (Ok c.in_ok-at.at)) c.first_of-in-along.ensures (subst (λ r. Checked (table_at c.args.context) (tree_of c.in-Some-both.first.now) (program (record { facts = known_in c.pass-facts.result; names = binders_in c.pass-names.result }) (mon_of c.first_of.result.now) (mon_of c.first_of-in-along.result.now) (map kind_of c.in-Some.js.now)) c.next.result r) c.in_ok-at.was c.checked.ensures)))));
+      facts = subst (λ m. FactsLeft (parts m) (c.along.count + 1) (sequence (Q.TheVariants.Program c.of.result))) (sym c.behind-right.ensures) (along.behind_facts (context_in c.args.context) c.along.tree.now c.in-Some-both.first.now c.in-Some-both.last.now items (point_in c.args.point) c.along.count (sequence (Q.TheVariants.Program c.of.result)) (tree_of c.args.tree.now) (mon_of c.args.left.now) (map kind_of c.in-Some.js.now) (map kind_of c.args.kinds.now) (mon_of c.along.left.now) (mon_of c.along.right.now) c.in-Some.ensures.some c.along.invariant.facts c.along.invariant.names c.along.invariant.fits (subst (λ p. (program_row (context_in c.args.context) p (rule_at c.along.tree.now) (mon_of c.along.left.now) (mon_of c.along.right.now) (map kind_of c.args.kinds.now)).holds) (ap₂ (λ fs bs. record { facts = fs; names = bs }) c.pass-facts.ensures.facts (c.pass-names.ensures ∙ names_there c.along.stretch c.along.count (tree_of c.args.tree.now) (mon_of c.args.left.now) c.along.invariant.stands (binders_in c.args.point.names.now))) (c.is_asked.ensures.0 c.if-not-is_asked.false)));
+      names = subst (λ m. NamesLeft (tree_of c.in-Some-both.last.now) m (c.along.count + 1) (tree_of c.args.tree.now) (mon_of c.args.left.now)) (sym c.behind-left.ensures) (along.behind_names (context_in c.args.context) c.along.tree.now c.in-Some-both.first.now c.in-Some-both.last.now items (point_in c.args.point) c.along.count (sequence (Q.TheVariants.Program c.of.result)) (tree_of c.args.tree.now) (mon_of c.args.left.now) (map kind_of c.in-Some.js.now) (map kind_of c.args.kinds.now) (mon_of c.along.left.now) (mon_of c.along.right.now) c.in-Some.ensures.some c.along.invariant.facts c.along.invariant.names c.along.invariant.fits (subst (λ p. (program_row (context_in c.args.context) p (rule_at c.along.tree.now) (mon_of c.along.left.now) (mon_of c.along.right.now) (map kind_of c.args.kinds.now)).holds) (ap₂ (λ fs bs. record { facts = fs; names = bs }) c.pass-facts.ensures.facts (c.pass-names.ensures ∙ names_there c.along.stretch c.along.count (tree_of c.args.tree.now) (mon_of c.args.left.now) c.along.invariant.stands (binders_in c.args.point.names.now))) (c.is_asked.ensures.0 c.if-not-is_asked.false)));
+      kept = c.step-stretch.ensures.kept;
+      stands = on_from c.along.stretch c.step-stretch.result c.along.count (tree_of c.args.tree.now) (mon_of c.args.left.now) c.along.invariant.stands c.step-stretch.ensures.count c.step-stretch.ensures.tree c.step-stretch.ensures.parts;
       smaller = along.no_larger _ _ _ (along.two_less c.along.tree.now c.in-Some-both.first.now c.in-Some-both.last.now items).1 c.along.invariant.smaller;
     }
 

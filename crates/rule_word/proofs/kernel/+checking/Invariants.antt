@@ -19,7 +19,9 @@ use Rattle.rule_word.specs.CodeKinds.{point_in, scope_at}
 use Rattle.rule_word.specs.CodeParts.{pairs_at, thens_at}
 use Rattle.rule_word.specs.CodeRows.{FitsAt, claim_at}
 use Rattle.rule_word.specs.CodeFront.{AreReadyAt}
+use Rattle.rule_word.specs.CodeStretch.{IsKept}
 use Rattle.rule_word.proofs.Sequences.{FactsLeft, NamesLeft}
+use Rattle.rule_word.proofs.SteppedOn.{Stands}
 use Rattle.rule_word.proofs.Paired.{IsWalked}
 use Rattle.rule_word.proofs.kernel.+checking.Given as goal
 
@@ -77,15 +79,17 @@ abbrev pub invariant-checked-along : goal.invariant-checked-along
 invariant-checked-along l = record {
   decides : (r : Result ℕ ℕ) →
       Checked (table_at l.context) (tree_of l.tree)
-      (program (record { facts = passed l.count (sequence l.head) (point_in l.point).facts; names = with_passed l.count (tree_of l.whole) (mon_of l.program) (point_in l.point).names })
+      (program (record { facts = passed l.count (sequence l.head) (point_in l.point).facts; names = with_passed l.count (tree_of l.initial.tree) (mon_of l.initial.left) (point_in l.point).names })
       (mon_of l.left) (mon_of l.right) (map kind_of l.kinds)) l.at r →
       Checked (table_at l.context) (tree_of l.initial.tree) (program (point_in l.point) (mon_of l.initial.left) (mon_of l.initial.right) (map kind_of l.kinds)) l.initial.at r;
   fits : ClaimFits (context_in l.context)
-      (program (record { facts = passed l.count (sequence l.head) (point_in l.point).facts; names = with_passed l.count (tree_of l.whole) (mon_of l.program) (point_in l.point).names })
+      (program (record { facts = passed l.count (sequence l.head) (point_in l.point).facts; names = with_passed l.count (tree_of l.initial.tree) (mon_of l.initial.left) (point_in l.point).names })
       (mon_of l.left) (mon_of l.right) (map kind_of l.kinds));
-  kinds : are_binders (with_passed l.count (tree_of l.whole) (mon_of l.program) (point_in l.point).names) ≡ true;
+  kinds : are_binders (with_passed l.count (tree_of l.initial.tree) (mon_of l.initial.left) (point_in l.point).names) ≡ true;
   facts : FactsLeft (parts (mon_of l.right)) l.count (sequence l.head);
-  names : NamesLeft (tree_of l.tree) (mon_of l.left) l.count (tree_of l.whole) (mon_of l.program);
+  names : NamesLeft (tree_of l.tree) (mon_of l.left) l.count (tree_of l.initial.tree) (mon_of l.initial.left);
+  kept : IsKept l.stretch;
+  stands : Stands l.stretch l.count (tree_of l.initial.tree) (mon_of l.initial.left);
   smaller : nodes (tree_of l.tree) ≤ nodes (tree_of l.initial.tree);
 }
 
@@ -102,10 +106,13 @@ abbrev pub decreases-checked_pairs : goal.decreases-checked_pairs
 decreases-checked_pairs l = 8 * nodes_in (trees_in rule_of l.parts.now) + 6
 
 abbrev pub decreases-checked_then : goal.decreases-checked_then
-decreases-checked_then l = 8 * nodes_in (trees_in rule_of l.parts.now) + 5
+decreases-checked_then l = 8 * nodes_in (trees_in rule_of l.parts.now) + 6
 
 abbrev pub decreases-checked_under : goal.decreases-checked_under
-decreases-checked_under l = 8 * nodes (tree_of l.tree.now) + 4
+decreases-checked_under l = 8 * nodes (tree_of l.tree.now) + 5
+
+abbrev pub decreases-checked_where : goal.decreases-checked_where
+decreases-checked_where l = 8 * nodes (tree_of l.tree.now) + 4
 
 abbrev pub decreases-checked_here : goal.decreases-checked_here
 decreases-checked_here l = 8 * nodes (tree_of l.tree.now) + 3

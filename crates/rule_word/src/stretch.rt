@@ -1,0 +1,189 @@
+//! Parts of a sequence that were passed, with a summary of the names that they bind.
+
+ghost use Rattle.std.specs.Prelude.{◌≡◌, ◌+◌, ◌^◌, ◌<◌, true, List, map, string_bytes, Some, IfSome, IfNone};
+ghost use Rattle.c_values.specs.Name.{Name};
+ghost use Rattle.expression_lang.specs.CodeExpression.{kind_of};
+ghost use Rattle.expression_lang.specs.Signature.{Binder};
+ghost use Rattle.expression_lang.specs.Sort as plain;
+ghost use Rattle.monad_lang.specs.CodeProgram.{mon_of};
+ghost use Rattle.rule_word.specs.CodeRule.{tree_of};
+ghost use Rattle.rule_word.specs.CodeClaims.{names_bound, behind};
+ghost use Rattle.rule_word.specs.CodeNames.{kind_in};
+ghost use Rattle.rule_word.specs.CodeStretch.{later_tree, later_parts, found_behind, mark, is_marked, are_names_marked, IsKept, IsNext};
+
+use crate::kinds::among_passed;
+use crate::parts::named;
+use crate::rule::Rule;
+use expression_lang::Kind;
+use monad_lang::Mon;
+use rule_trees::Tree;
+
+// So many parts are passed before the later place moves up.
+const NEAR: u32 = 16;
+
+/// The first parts of a sequence, with the tree that goes along it. Each name has one of 64 marks,
+/// and those of the names that the parts bind are kept: most names that they don't bind are told
+/// by that. A name that they bind is looked for behind a later place first, since most were bound
+/// not long ago.
+#[derive(Clone, Copy)]
+pub struct Stretch<'a> {
+    pub(crate) tree: &'a Tree<Rule>,
+    pub(crate) parts: &'a Mon,
+    /// How many parts stand before the later place.
+    pub(crate) before: u32,
+    pub(crate) later: Later<'a>,
+    /// How many parts were passed since.
+    pub(crate) since: u32,
+    pub(crate) marks: u64,
+}
+
+/// A place in a sequence.
+#[derive(Clone, Copy)]
+pub enum Later<'a> {
+    /// Where it begins.
+    Start,
+    /// Behind some of its parts. It points at a box: names with a larger type in them are more than
+    /// the language's types may reach.
+    Behind(&'a Tree<Rule>, &'a Box<Mon>),
+}
+
+impl<'a> Stretch<'a> {
+    /// No part of a sequence.
+    pub(crate) fn new(tree: &'a Tree<Rule>, parts: &'a Mon) -> Stretch<'a>
+        ensures kept { IsKept result }
+        ensures count { result.before + result.since ≡ 0 }
+        ensures tree { tree_of result.tree.now ≡ tree_of tree.now }
+        ensures parts { mon_of result.parts.now ≡ mon_of parts.now }
+    {
+        Stretch {
+            tree,
+            parts,
+            before: 0,
+            later: Later::Start,
+            since: 0,
+            marks: 0,
+        }
+    }
+
+    /// One part more: the first of this program, behind which this tree goes along the rest.
+    pub(crate) fn step(self, program: &'a Mon, last: &'a Tree<Rule>) -> Stretch<'a>
+        requires kept { IsKept self }
+        requires few { self.before + self.since + 1 < 2 ^ 32 }
+        requires next { (js : List plain.Kind) × IsNext (names_bound (mon_of program.now)) js
+            (tree_of last.now) (behind (mon_of program.now))
+            (self.before + self.since) (tree_of self.tree.now) (mon_of self.parts.now) }
+        ensures kept { IsKept result }
+        ensures count { result.before + result.since ≡ self.entry.before + self.entry.since + 1 }
+        ensures tree { tree_of result.tree.now ≡ tree_of self.entry.tree.now }
+        ensures parts { mon_of result.parts.now ≡ mon_of self.entry.parts.now }
+    {
+        let marks = with_names(self.marks, named(program));
+        match self.next_place(program) {
+            None => Stretch {
+                tree: self.tree,
+                parts: self.parts,
+                before: self.before,
+                later: self.later,
+                since: self.since + 1,
+                marks,
+            },
+            Some(rest) => Stretch {
+                tree: self.tree,
+                parts: self.parts,
+                before: self.before + self.since + 1,
+                later: Later::Behind(last, rest),
+                since: 0,
+                marks,
+            },
+        }
+    }
+
+    // What stands behind the first part of this program, if the later place is to move there.
+    fn next_place(&self, program: &'a Mon) -> Option<&'a Box<Mon>>
+        ensures { IfSome result (λ rest. mon_of rest.now.value ≡ behind (mon_of program.now)) }
+    {
+        match program {
+            Mon::Bind(_, _, rest) if self.since >= NEAR => Some(rest),
+            _ => None,
+        }
+    }
+
+    // The later place.
+    fn later(&self) -> (&'a Tree<Rule>, &'a Mon)
+        ensures tree { tree_of result.0.now ≡ later_tree self.now }
+        ensures parts { mon_of result.1.now ≡ later_parts self.now }
+    {
+        match self.later {
+            Later::Start => (self.tree, self.parts),
+            Later::Behind(tree, parts) => (tree, &**parts),
+        }
+    }
+
+    /// The first part of a sequence, behind which this tree goes along the rest.
+    pub(crate) fn first(tree: &'a Tree<Rule>, program: &'a Mon, last: &'a Tree<Rule>) -> Stretch<'a>
+        requires { (js : List plain.Kind) × IsNext (names_bound (mon_of program.now)) js
+            (tree_of last.now) (behind (mon_of program.now)) 0 (tree_of tree.now) (mon_of program.now) }
+        ensures kept { IsKept result }
+        ensures count { result.before + result.since ≡ 1 }
+        ensures tree { tree_of result.tree.now ≡ tree_of tree.now }
+        ensures parts { mon_of result.parts.now ≡ mon_of program.now }
+    {
+        Stretch::new(tree, program).step(program, last)
+    }
+
+    /// The kind of a name that the parts bind, if its mark is kept.
+    #[tactic(auto, using(crate::proofs::Stretches::found_later, crate::proofs::Stretches::found_first, crate::proofs::Stretches::found_nowhere, crate::proofs::Stretches::not_marked))]
+    pub(crate) fn get(&self, name: &str) -> Option<Kind>
+        ensures some { (bs : List Binder) → IfSome result (λ k.
+            kind_in (found_behind self.now bs) name.now ≡ Some (kind_of k)) }
+        ensures none { (bs : List Binder) → IfNone result (
+            kind_in (found_behind self.now bs) name.now ≡ kind_in bs name.now) }
+    {
+        if !has_mark(self.marks, name) {
+            return None;
+        }
+        let (tree, parts) = self.later();
+        if let Some(kind) = among_passed(tree, parts, self.since, name) {
+            return Some(kind);
+        }
+        if let Some(kind) = among_passed(self.tree, self.parts, self.before, name) {
+            return Some(kind);
+        }
+        None
+    }
+}
+
+// The mark of a name.
+fn mark(name: &str) -> u32
+    ensures value { result ≡ mark name.now }
+    ensures few { result < 64 }
+{
+    let mut found: u32 = 0;
+    let mut rest = name.as_bytes();
+    'bytes: while let Some((byte, others)) = rest.split_first() {
+        found = (found * 5 + u32::from(*byte)) % 64;
+        rest = others;
+    }
+    found
+}
+
+// Whether a name's mark is among these.
+fn has_mark(marks: u64, name: &str) -> bool
+    ensures { result ≡ is_marked marks name.now }
+{
+    marks >> mark(name) & 1 == 1
+}
+
+// The marks, and those of these names.
+fn with_names(marks: u64, names: &[String]) -> u64
+    ensures kept { (x : Name) → is_marked marks x ≡ true → is_marked result x ≡ true }
+    ensures names { are_names_marked result (map string_bytes names.now) ≡ true }
+{
+    let mut found = marks;
+    let mut rest = names;
+    'names: while let Some((name, others)) = rest.split_first() {
+        found = found | (1 << mark(name.as_str()));
+        rest = others;
+    }
+    found
+}
