@@ -10,9 +10,11 @@ pub mod Fewer
 pub mod SortsKept
 pub mod TestsKept
 pub mod DirectSorts
+pub mod Ends
 pub mod Trees
 pub mod Accepted
 pub mod MadeTidy
+pub mod Fixed
 pub mod FormsMade
 pub mod StaysAccepted
 pub mod Shallow
