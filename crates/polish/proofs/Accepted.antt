@@ -151,7 +151,8 @@ steps_reach at laid zero m cs g = record { takes = nothing_taken at m; gives = g
 steps_reach at laid (suc n) m cs g = by_step (direct_step shortened at m) refl (λ x. steps_reach at laid n x)
   where
     by_step : (o : Option Mon) → direct_step shortened at m ≡ o →
-        ((x : Mon) → IsReached at x (and_tree (exp_tree (direct_steps shortened at n x)) (last_of x (direct_steps shortened at n x)))) →
+        ((x : Mon) → IsReached at x
+        (and_tree (exp_tree (direct_steps shortened at n x)) (last_of x (direct_steps shortened at n x)))) →
         Reaches at (exp_tree (more o (λ x. direct_steps shortened at n x))) m
         (last_of m (more o (λ x. direct_steps shortened at n x))) cs
     by_step None e r = record { takes = nothing_taken at m; gives = g }
@@ -176,7 +177,8 @@ shortened_reached at laid m = steps_reach at laid (direct_nodes m) m
 vars_are : (xs : List Name) (es : List Exp) → are_vars xs es ≡ true → es ≡ map (λ x. Var x) xs
 vars_are [] [] h = refl
 vars_are (x ∷ xs) (Var y ∷ es) h =
-    let p = and_parts (same_name x y) (are_vars xs es) h in ap₂ (λ z zs. Var z ∷ zs) (sym (name_is x y p.0)) (vars_are xs es p.1)
+    let p = and_parts (same_name x y) (are_vars xs es) h in ap₂ (λ z zs. Var z ∷ zs) (sym (name_is x y p.0))
+    (vars_are xs es p.1)
 vars_are _ _ h = absurd (true≢false (sym h))
 
 pub bound_holds : (at : Point) (m : Mon) (xs : List Name) (n : Mon) → is_bind_ret m xs n ≡ true →
@@ -337,10 +339,15 @@ module _ (again : Way) (leads : Leads again) where
     guard_reached at laid e known cs g =
         let k = (known_exactly at.facts e).0 known in
         then_reached at (leaf R.GuardKnown) (M.Bind (M.Guard e) [] n) n cs (last at)
-        (record { takes = ((k, refl), tt); gives = simpler_gives at R.GuardKnown (M.Bind (M.Guard e) [] n) n cs tt (k, refl) g })
+        (record {
+          takes = ((k, refl), tt);
+          gives = simpler_gives at R.GuardKnown (M.Bind (M.Guard e) [] n) n cs tt
+              (k, refl) g;
+        })
         (lasts at laid)
 
-    put_or_settled_reached : (at : Point) → IsLaid at → (t : Tree Rule) (m : Mon) (es : List Exp) (xs : List Name) (o : Option ℕ) →
+    put_or_settled_reached : (at : Point) → IsLaid at → (t : Tree Rule) (m : Mon) (es : List Exp) (xs : List Name)
+        (o : Option ℕ) →
         first_put [] es xs n ≡ o → IsReached at m (and_tree t (M.Ret es)) →
         IsReached at (M.Bind m xs n) (put_or_settled again last at t es xs n o)
     put_or_settled_reached at laid t m es xs None e h = settled_reached at laid t m (M.Ret es) xs h

@@ -116,7 +116,8 @@ module _ (g : Scope) (f : Choice) (keeps : KeepsSorts g f) (whole : KeepsFree is
             i x path ∙ ap (λ q. cond (is_object g.layout t && width q) (part_place g t path) None)
             (program_step fs p x h _ (word_of_inv (address_width g.layout.target) (program_sort g p) w.1)) ∙ sym (i p path),
         λ y h.
-            i p y ∙ ap (λ q. cond (is_object g.layout t && width (program_sort g p)) q None) (part_step fs t path y h o j.1) ∙ sym
+            i p y ∙ ap (λ q. cond (is_object g.layout t && width (program_sort g p)) q None)
+            (part_step fs t path y h o j.1) ∙ sym
             (i p path),
       )
 
@@ -153,40 +154,45 @@ module _ (f : Scope → Choice) (whole : (g : Scope) → KeepsFree is_part_of_va
       truth_step inner.scope (f inner.scope) (keeps inner.scope same) (whole inner.scope) fs a r
       (subst (λ o. first_step (f (setting_with (start_names starts) (unwrap_or o []) at.setting).scope) fs a ≡ Some r) e h) k
 
-  pub direct_gives : (at : Point) → at.setting.scope.layout ≡ l → (m r : Mon) → direct_step f at m ≡ Some r →
+  abbrev here : Point → Scope
+  here at = at.setting.scope
+
+  pub direct_gives : (at : Point) → (here at).layout ≡ l → (m r : Mon) → direct_step f at m ≡ Some r →
       (cs : List Scalar) → scalars_given at.setting m ≡ Some cs → scalars_given at.setting r ≡ Some cs
   direct_gives at same (M.Ret es) r h cs c =
       one_case r (λ q. scalars_given at.setting q ≡ Some cs) (λ xs. M.Ret xs) _ h
-      (λ x j. list_scalars at.setting.scope (f at.setting.scope) (keeps at.setting.scope same) (whole at.setting.scope) at.facts es x j cs c ∙ c)
+      (λ x j. list_scalars (here at) (f (here at)) (keeps (here at) same) (whole (here at)) at.facts es x j cs c ∙ c)
   direct_gives at same (M.Bind m xs n) r h cs c = absurd cc
   direct_gives at same (M.Guard e) r h cs c =
-      let k = fits_parts (is_truth (program_sort at.setting.scope e)) (Some []) cs c in
+      let k = fits_parts (is_truth (program_sort (here at) e)) (Some []) cs c in
       one_case r (λ q. scalars_given at.setting q ≡ Some cs) (λ x. M.Guard x) _ h
-      (λ x j. ap (λ o. where_fits (is_truth o) (Some [])) (truth_step at.setting.scope (f at.setting.scope) (keeps at.setting.scope same) (whole at.setting.scope) at.facts e x j k.0) ∙ c)
+      (λ x j. ap (λ o. where_fits (is_truth o) (Some []))
+      (truth_step (here at) (f (here at)) (keeps (here at) same) (whole (here at)) at.facts e x j k.0) ∙ c)
   direct_gives at same (M.If e m n) r h cs c =
       let o = then_parts (scalars_given at.setting m)
-      (λ ss. where_fits (is_truth (program_sort at.setting.scope e) && are_scalars ss (scalars_given at.setting n)) (Some ss)) cs c in
-      let k = fits_parts (is_truth (program_sort at.setting.scope e) && are_scalars o.0 (scalars_given at.setting n)) (Some o.0) cs o.2 in
-      let b = and_parts (is_truth (program_sort at.setting.scope e)) (are_scalars o.0 (scalars_given at.setting n)) k.0 in
+      (λ ss. where_fits (is_truth (program_sort (here at) e) && are_scalars ss (scalars_given at.setting n)) (Some ss)) cs c in
+      let k = fits_parts (is_truth (program_sort (here at) e) && are_scalars o.0 (scalars_given at.setting n))
+      (Some o.0) cs o.2 in
+      let b = and_parts (is_truth (program_sort (here at) e)) (are_scalars o.0 (scalars_given at.setting n)) k.0 in
       one_case r (λ q. scalars_given at.setting q ≡ Some cs) (λ x. M.If x m n) _ h
       (λ x j.
       ap
       (λ q.
       and_then_scalars (scalars_given at.setting m)
       (λ ss. where_fits (is_truth q && are_scalars ss (scalars_given at.setting n)) (Some ss)))
-      (truth_step at.setting.scope (f at.setting.scope) (keeps at.setting.scope same) (whole at.setting.scope) at.facts e x j b.0) ∙ c)
+      (truth_step (here at) (f (here at)) (keeps (here at) same) (whole (here at)) at.facts e x j b.0) ∙ c)
   direct_gives at same (M.Write place e) r h cs c =
-      let k = fits_parts (fits_place (place_sort at.setting.scope place) (program_sort at.setting.scope e)) (Some []) cs c in
-      let b = both_fit (place_sort at.setting.scope place) (program_sort at.setting.scope e) k.0 in
+      let k = fits_parts (fits_place (place_sort (here at) place) (program_sort (here at) e)) (Some []) cs c in
+      let b = both_fit (place_sort (here at) place) (program_sort (here at) e) k.0 in
       two_case r (λ q. scalars_given at.setting q ≡ Some cs) (λ x y. M.Write x y) place e _ _ h
       (λ x j.
-      ap (λ q. where_fits (fits_place q (program_sort at.setting.scope e)) (Some []))
-      (place_kept at.setting.scope (f at.setting.scope) (keeps at.setting.scope same) (whole at.setting.scope) at.facts place x j b.0.0 b.0.1) ∙ c)
+      ap (λ q. where_fits (fits_place q (program_sort (here at) e)) (Some []))
+      (place_kept (here at) (f (here at)) (keeps (here at) same) (whole (here at)) at.facts place x j b.0.0 b.0.1) ∙ c)
       (λ y j.
-      ap (λ q. where_fits (fits_place (place_sort at.setting.scope place) q) (Some []))
-      (program_step at.setting.scope (f at.setting.scope) (keeps at.setting.scope same) (whole at.setting.scope) at.facts e y j b.1.0 b.1.1) ∙ c)
+      ap (λ q. where_fits (fits_place (place_sort (here at) place) q) (Some []))
+      (program_step (here at) (f (here at)) (keeps (here at) same) (whole (here at)) at.facts e y j b.1.0 b.1.1) ∙ c)
   direct_gives at same (M.Loop starts guard test m) r h cs c =
-      let o = then_parts (start_scalars at.setting.scope starts) (turn starts guard test) cs c in
+      let o = then_parts (start_scalars (here at) starts) (turn starts guard test) cs c in
       let inner = setting_with (start_names starts) o.0 at.setting in
       let k = fits_parts
       (are_distinct (start_names starts) && is_truth (program_sort inner.scope guard) && is_truth
@@ -202,7 +208,7 @@ module _ (f : Scope → Choice) (whole : (g : Scope) → KeepsFree is_part_of_va
       let a = and_parts (are_distinct (start_names starts)) (is_truth (program_sort inner.scope guard)) d.0 in
       three_case r (λ q. scalars_given at.setting q ≡ Some cs) (λ x y z. M.Loop x y z m) starts guard test _ _ _ h
       (λ x j.
-      let i = start_scalars_kept at.setting.scope (f at.setting.scope) (keeps at.setting.scope same) (whole at.setting.scope) at.facts starts x j o.0 o.1 in
+      let i = start_scalars_kept (here at) (f (here at)) (keeps (here at) same) (whole (here at)) at.facts starts x j o.0 o.1 in
       ap₂ (λ q xs. and_then_scalars q (λ ss. turn_named xs guard test ss)) i.0 i.1 ∙ c)
       (λ y j. ap (λ q. and_then_scalars q (turn starts y test)) o.1
       ∙ ap
@@ -232,9 +238,9 @@ module _ (f : Scope → Choice) (whole : (g : Scope) → KeepsFree is_part_of_va
       turn : List Start → Exp → Exp → List Scalar → Option (List Scalar)
       turn ss a b cs = turn_named (start_names ss) a b cs
   direct_gives at same (M.Call g es) r h cs c =
-      let p = call_parts at.setting.sort_for (signature at.setting.functions g) (scalars_of at.setting.scope es) cs c in
+      let p = call_parts at.setting.sort_for (signature at.setting.functions g) (scalars_of (here at) es) cs c in
       one_case r (λ q. scalars_given at.setting q ≡ Some cs) (λ xs. M.Call g xs) _ h
       (λ x j.
       ap (λ q. call_scalars at.setting.sort_for (signature at.setting.functions g) q)
-      (list_scalars at.setting.scope (f at.setting.scope) (keeps at.setting.scope same) (whole at.setting.scope) at.facts es x j _ p.2) ∙ c)
+      (list_scalars (here at) (f (here at)) (keeps (here at) same) (whole (here at)) at.facts es x j _ p.2) ∙ c)
   direct_gives at same (M.Pick k) r h cs c = absurd cc

@@ -93,7 +93,8 @@ found g fs (If c a b) r o s (inr (inr h)) k = if_same c a (subst (λ x. shorter_
 found g fs (Eq a b) r o s h k =
     where_none (same_exp b a) (TruthLit true) (subst (λ x. same_exp x a ≡ true) (sym h.0) (exp_itself a)) k
 found g fs (Arith Add a b) r o s h k = some_none a (subst (λ x. shorter_sum a x ≡ None) h.0 k)
-found g fs (Not (Eq (If c (WordLit u) (WordLit v)) (WordLit w))) r o s h k = where_none (is_flag u v w) c (flag_found u v w h.0) k
+found g fs (Not (Eq (If c (WordLit u) (WordLit v)) (WordLit w))) r o s h k = where_none (is_flag u v w) c
+    (flag_found u v w h.0) k
 found g fs (ToWord n (ToNat a)) r o s h k = where_none (is_word_of n (sort_of g a)) a (word_found n (sort_of g a) h.0) k
 found g fs (ToWord n (ToInt a)) r o s h k = where_none (is_word_of n (sort_of g a)) a (word_found n (sort_of g a) h.0) k
 found g fs (ToNat (ToWord n a)) r o s h k = value_found fs false n a (wide g n a o s) h.0 k
@@ -101,7 +102,8 @@ found g fs (ToInt (ToWord n a)) r o s h k = value_found fs true n a (wide g n a 
 found g fs e r o s h k = absurd h
 
 -- constants alone have a value that isn't themselves where they aren't constants
-unfolded : (g : Scope) (e r : Exp) (o : Sort) → sort_of g e ≡ Some o → folded g.layout e ≡ None → IsItsValue g.layout e r → r ≡ e
+unfolded : (g : Scope) (e r : Exp) (o : Sort) → sort_of g e ≡ Some o → folded g.layout e ≡ None → IsItsValue g.layout e r →
+    r ≡ e
 unfolded g (WordLit w) r o s k h = sym (some_same (WordLit w) r h.1)
 unfolded g (NumberLit n) r o s k h = sym (some_same (NumberLit n) r h.1)
 unfolded g (TruthLit b) r o s k h = sym (some_same (TruthLit b) r h.1)

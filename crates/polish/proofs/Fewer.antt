@@ -194,24 +194,37 @@ module _ (f : Scope → Choice) (shrinks : (g : Scope) → Shrinks (f g)) where
   abbrev inner : List Start → Point → Scope
   inner starts at = (within starts [] at).setting.scope
 
+  abbrev here : Point → Choice
+  here at = f at.setting.scope
+
+  abbrev small : (at : Point) → Shrinks (here at)
+  small at = shrinks at.setting.scope
+
   pub direct_fewer : (at : Point) (m r : Mon) → direct_step f at m ≡ Some r → direct_nodes r < direct_nodes m
   direct_fewer at (M.Ret es) r h =
-      one_case r (λ z. direct_nodes z < list_nodes es) (λ xs. M.Ret xs) _ h (λ x j. list_fewer (f at.setting.scope) (shrinks at.setting.scope) at.facts es x j)
+      one_case r (λ z. direct_nodes z < list_nodes es) (λ xs. M.Ret xs) _ h
+      (λ x j. list_fewer (here at) (small at) at.facts es x j)
   direct_fewer at (M.Bind m xs n) r h = absurd cc
-  direct_fewer at (M.Guard e) r h = one_case r (λ z. direct_nodes z < nodes e) (λ x. M.Guard x) _ h (λ x j. step_fewer (f at.setting.scope) (shrinks at.setting.scope) at.facts e x j)
-  direct_fewer at (M.If e m n) r h = one_case r (λ z. direct_nodes z < nodes e) (λ x. M.If x m n) _ h (λ x j. step_fewer (f at.setting.scope) (shrinks at.setting.scope) at.facts e x j)
+  direct_fewer at (M.Guard e) r h = one_case r (λ z. direct_nodes z < nodes e) (λ x. M.Guard x) _ h
+      (λ x j. step_fewer (here at) (small at) at.facts e x j)
+  direct_fewer at (M.If e m n) r h = one_case r (λ z. direct_nodes z < nodes e) (λ x. M.If x m n) _ h
+      (λ x j. step_fewer (here at) (small at) at.facts e x j)
   direct_fewer at (M.Write place e) r h =
-      two_case r (λ z. direct_nodes z < place_nodes place + nodes e) (λ x y. M.Write x y) place e (place_step (f at.setting.scope) at.facts place)
-      (first_step (f at.setting.scope) at.facts e) h
-      (λ x j. omega (arith, place_fewer (f at.setting.scope) (shrinks at.setting.scope) at.facts place x j)) (λ y j. omega (arith, step_fewer (f at.setting.scope) (shrinks at.setting.scope) at.facts e y j))
+      two_case r (λ z. direct_nodes z < place_nodes place + nodes e) (λ x y. M.Write x y) place e
+      (place_step (here at) at.facts place)
+      (first_step (here at) at.facts e) h
+      (λ x j. omega (arith, place_fewer (here at) (small at) at.facts place x j))
+      (λ y j. omega (arith, step_fewer (here at) (small at) at.facts e y j))
   direct_fewer at (M.Loop starts guard test m) r h =
       three_case r (λ z. direct_nodes z < start_nodes starts + nodes guard + nodes test) (λ x y z. M.Loop x y z m) starts guard
-      test (start_step (f at.setting.scope) at.facts starts) (first_step (f (inner starts at)) [] guard)
+      test (start_step (here at) at.facts starts) (first_step (f (inner starts at)) [] guard)
       (first_step (f (inner starts at)) (Whole guard ∷ []) test) h
-      (λ x j. omega (arith, start_fewer (f at.setting.scope) (shrinks at.setting.scope) at.facts starts x j)) (λ y j. omega (arith, step_fewer (f (inner starts at)) (shrinks (inner starts at)) [] guard y j))
+      (λ x j. omega (arith, start_fewer (here at) (small at) at.facts starts x j))
+      (λ y j. omega (arith, step_fewer (f (inner starts at)) (shrinks (inner starts at)) [] guard y j))
       (λ z j. omega (arith, step_fewer (f (inner starts at)) (shrinks (inner starts at)) (Whole guard ∷ []) test z j))
   direct_fewer at (M.Call g es) r h =
-      one_case r (λ z. direct_nodes z < list_nodes es) (λ xs. M.Call g xs) _ h (λ x j. list_fewer (f at.setting.scope) (shrinks at.setting.scope) at.facts es x j)
+      one_case r (λ z. direct_nodes z < list_nodes es) (λ xs. M.Call g xs) _ h
+      (λ x j. list_fewer (here at) (small at) at.facts es x j)
   direct_fewer at (M.Pick k) r h = absurd cc
 
   same_steps : (at : Point) (n k : ℕ) (m : Mon) → direct_nodes m ≤ n → direct_nodes m ≤ k →

@@ -28,7 +28,8 @@ put_fewer es xs n i k h =
 module _ (again other : Way) (k : ℕ)
     (tidies : (at : Point) (m : Mon) → positions m < k → Tidied (again at m).program (positions m))
     (same : (at : Point) (m : Mon) → positions m < k → again at m ≡ other at m) where
-  taken_same : (at : Point) (es : List Exp) (xs : List Name) (n : Mon) (i : ℕ) → length xs + positions n ≤ k → (o : Option Taken) →
+  taken_same : (at : Point) (es : List Exp) (xs : List Name) (n : Mon) (i : ℕ) → length xs + positions n ≤ k →
+      (o : Option Taken) →
       taken_at i es xs ≡ o →
       put_taken again at (M.Bind (M.Ret es) xs n) i n o ≡ put_taken other at (M.Bind (M.Ret es) xs n) i n o
   taken_same at es xs n i few None h = refl
@@ -112,7 +113,8 @@ module _ (again other : Way) (k : ℕ)
       (i (knowing (NotTrue e) at))
   chosen_same at x f f' g g' h i = refl
 
-  turning_same : (at : Point) (x : Mon) (f f' : Point → Polished) → ((a : Point) → f a ≡ f' a) → turning at x f ≡ turning at x f'
+  turning_same : (at : Point) (x : Mon) (f f' : Point → Polished) → ((a : Point) → f a ≡ f' a) →
+      turning at x f ≡ turning at x f'
   turning_same at (M.Loop starts guard test m) f f' h =
       ap (λ p. record { program = M.Loop starts guard test p.program; tree = loop_tree p.tree })
       (h (within starts (Whole test ∷ Whole guard ∷ []) at))
@@ -136,7 +138,8 @@ module _ (again other : Way) (k : ℕ)
       (turning_same at f.program (polished_with again m) (polished_with other m) (λ a. polished_same m a few))
   polished_same m at few = refl
 
-within_same : (j k : ℕ) (at : Point) (m : Mon) → positions m ≤ j → positions m ≤ k → polished_within j at m ≡ polished_within k at m
+within_same : (j k : ℕ) (at : Point) (m : Mon) → positions m ≤ j → positions m ≤ k →
+    polished_within j at m ≡ polished_within k at m
 within_same zero zero at m h i = refl
 within_same zero (suc k) at m h i =
     polished_same (λ a n. unchanged n) (polished_within k) 0 (λ a n q. absurd (omega (arith, q)))
@@ -156,7 +159,8 @@ polished_fixed at m = by_number (positions m) refl
     by_number : (k : ℕ) → positions m ≡ k → polished_within (positions m) at m ≡ polished_with polished m at
     by_number zero e =
         ap (λ j. polished_within j at m) e
-        ∙ polished_same (λ a n. unchanged n) polished 0 (λ a n q. absurd (omega (arith, q))) (λ a n q. absurd (omega (arith, q)))
+        ∙ polished_same (λ a n. unchanged n) polished 0 (λ a n q. absurd (omega (arith, q)))
+        (λ a n q. absurd (omega (arith, q)))
         m at (omega (arith, e))
     by_number (suc k) e =
         ap (λ j. polished_within j at m) e

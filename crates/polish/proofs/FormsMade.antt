@@ -82,31 +82,43 @@ module _ (test : Exp → Bool) (place_test : Place → Bool) (alike : (a b : Exp
     abbrev inner : List Start → Point → Scope
     inner starts at = (within starts [] at).setting.scope
 
+    abbrev here : Point → Choice
+    here at = f at.setting.scope
+
+    abbrev kept : (at : Point) → KeepsFree test (here at)
+    kept at = free at.setting.scope
+
     direct_free : (at : Point) (m r : Mon) → direct_step f at m ≡ Some r → Free m → Free r
-    direct_free at (M.Ret es) r h c = one_case r (λ q. Free q) (λ xs. M.Ret xs) _ h (λ x j. list_free (f at.setting.scope) (free at.setting.scope) at.facts es x j c)
+    direct_free at (M.Ret es) r h c = one_case r (λ q. Free q) (λ xs. M.Ret xs) _ h
+        (λ x j. list_free (here at) (kept at) at.facts es x j c)
     direct_free at (M.Bind m xs n) r h c = absurd cc
-    direct_free at (M.Guard e) r h c = one_case r (λ q. Free q) (λ x. M.Guard x) _ h (λ x j. step_free (f at.setting.scope) (free at.setting.scope) at.facts e x j c)
+    direct_free at (M.Guard e) r h c = one_case r (λ q. Free q) (λ x. M.Guard x) _ h
+        (λ x j. step_free (here at) (kept at) at.facts e x j c)
     direct_free at (M.If e m n) r h c =
-        one_case r (λ q. Free q) (λ x. M.If x m n) _ h (λ x j. two_weaker _ _ _ _ _ _ (step_free (f at.setting.scope) (free at.setting.scope) at.facts e x j) (λ k. k) (λ k. k) c)
+        one_case r (λ q. Free q) (λ x. M.If x m n) _ h
+        (λ x j. two_weaker _ _ _ _ _ _ (step_free (here at) (kept at) at.facts e x j) (λ k. k) (λ k. k) c)
     direct_free at (M.Write place e) r h c =
         two_case r (λ q. Free q) (λ x y. M.Write x y) place e _ _ h
-        (λ x j. let i = place_free (f at.setting.scope) (free at.setting.scope) at.facts place x j in two_free _ _ _ _ _ _ (place_alike place x i.0) c i.1 (λ k. k))
+        (λ x j. let i = place_free (here at) (kept at) at.facts place x j in two_free _ _ _ _ _ _
+        (place_alike place x i.0) c i.1 (λ k. k))
         (λ y j.
         two_weaker (place_test place) (place_test place) (place_has test place) (place_has test place) _ _ (λ k. k) (λ k. k)
-        (step_free (f at.setting.scope) (free at.setting.scope) at.facts e y j) c)
+        (step_free (here at) (kept at) at.facts e y j) c)
     direct_free at (M.Loop starts guard test' m) r h c =
         three_case r (λ q. Free q) (λ x y z. M.Loop x y z m) starts guard test' _ _ _ h
         (λ x j.
         three_weaker _ _ (has test guard) (has test guard) (has test test') (has test test') (program_has test place_test m)
-        (program_has test place_test m) (start_free (f at.setting.scope) (free at.setting.scope) at.facts starts x j) (λ k. k) (λ k. k) (λ k. k) c)
+        (program_has test place_test m) (start_free (here at) (kept at) at.facts starts x j) (λ k. k) (λ k. k) (λ k. k) c)
         (λ y j.
         three_weaker (start_has test starts) (start_has test starts) _ _ (has test test') (has test test')
-        (program_has test place_test m) (program_has test place_test m) (λ k. k) (step_free (f (inner starts at)) (free (inner starts at)) [] guard y j) (λ k. k) (λ k. k) c)
+        (program_has test place_test m) (program_has test place_test m) (λ k. k)
+        (step_free (f (inner starts at)) (free (inner starts at)) [] guard y j) (λ k. k) (λ k. k) c)
         (λ z j.
         three_weaker (start_has test starts) (start_has test starts) (has test guard) (has test guard) _ _
         (program_has test place_test m) (program_has test place_test m) (λ k. k) (λ k. k)
         (step_free (f (inner starts at)) (free (inner starts at)) (Whole guard ∷ []) test' z j) (λ k. k) c)
-    direct_free at (M.Call g es) r h c = one_case r (λ q. Free q) (λ xs. M.Call g xs) _ h (λ x j. list_free (f at.setting.scope) (free at.setting.scope) at.facts es x j c)
+    direct_free at (M.Call g es) r h c = one_case r (λ q. Free q) (λ xs. M.Call g xs) _ h
+        (λ x j. list_free (here at) (kept at) at.facts es x j c)
     direct_free at (M.Pick k) r h c = absurd cc
 
     pub steps_free : (at : Point) (n : ℕ) (m : Mon) → Free m → Free (last_of m (direct_steps f at n m))

@@ -74,7 +74,8 @@ one_fewer (suc i) (e ∷ es) [] k h = absurd cc
 -- A sequence
 
 bind_tidy : (m : Mon) (xs : List Name) (n : Mon) → is_bind_ret m xs n ≡ false → is_assoc m xs n ≡ false →
-    is_true_guard m xs ≡ false → is_ret_one m xs n ≡ false → is_tidy m ≡ true → is_tidy n ≡ true → is_tidy (M.Bind m xs n) ≡ true
+    is_true_guard m xs ≡ false → is_ret_one m xs n ≡ false → is_tidy m ≡ true → is_tidy n ≡ true → is_tidy
+    (M.Bind m xs n) ≡ true
 bind_tidy m xs n a b c d e f =
     and_from _ (is_tidy n)
     (and_from _ (is_tidy m)
@@ -92,7 +93,8 @@ bound_tidied (M.Ret []) [] n h k = record { tidy = k; fewer = omega arith }
 bound_tidied m xs n h k = record { tidy = h; fewer = omega arith }
 
 shorter_tidied : (m : Mon) (xs : List Name) (n : Mon) (p : Polished) → is_tidy m ≡ true → is_tidy n ≡ true →
-    (is_bind_ret m xs n ≡ false → is_true_guard m xs ≡ false → Tidied p.program (positions m + length xs + positions n)) → Tidied
+    (is_bind_ret m xs n ≡ false → is_true_guard m xs ≡ false → Tidied p.program (positions m + length xs + positions n)) →
+    Tidied
     (or_shorter m xs n p).program (positions m + length xs + positions n)
 shorter_tidied m xs n p h k r =
     cond_both (is_bind_ret m xs n) (at_once R.BindRet (what_is_bound m xs n))
@@ -124,7 +126,8 @@ none_put front (e ∷ es) [] n h = refl
 -- with what makes programs tidy where they bind fewer names than k
 module _ (again : Way) (k : ℕ)
     (tidies : (at : Point) (m : Mon) → positions m < k → Tidied (again at m).program (positions m)) where
-  put_tidied : (at : Point) (es : List Exp) (xs : List Name) (n : Mon) (i : ℕ) → length xs + positions n ≤ k → Put [] i es xs n →
+  put_tidied : (at : Point) (es : List Exp) (xs : List Name) (n : Mon) (i : ℕ) → length xs + positions n ≤ k →
+      Put [] i es xs n →
       Tidied (put_taken again at (M.Bind (M.Ret es) xs n) i n (taken_at i es xs)).program (length xs + positions n)
   put_tidied at es xs n i few p =
       subst (λ o. Tidied (put_taken again at (M.Bind (M.Ret es) xs n) i n o).program (length xs + positions n)) (sym p.taken)
@@ -136,7 +139,8 @@ module _ (again : Way) (k : ℕ)
       more_positions (again at w).program (positions w) (length xs + positions n) (omega (arith, a, b, c))
       (tidies at w (omega (arith, a, b, c, few))))
 
-  at_tidied : (at : Point) (es : List Exp) (xs : List Name) (n : Mon) (o : Option ℕ) → first_put [] es xs n ≡ o → is_tidy n ≡ true →
+  at_tidied : (at : Point) (es : List Exp) (xs : List Name) (n : Mon) (o : Option ℕ) → first_put [] es xs n ≡ o →
+      is_tidy n ≡ true →
       is_bind_ret (M.Ret es) xs n ≡ false → length xs + positions n ≤ k →
       Tidied (put_at again at es xs n o).program (length xs + positions n)
   at_tidied at es xs n None e t a few =

@@ -172,7 +172,8 @@ word_under g n a e q o h k =
     ∙ (where_inv (is_width n && is_number q) (word_sort n) o h).1
 
 -- the test of what is compared with 0
-flag_test : (g : Scope) (c : Exp) (u v w : Word) (o : Sort) → sort_of g (Not (Eq (If c (WordLit u) (WordLit v)) (WordLit w))) ≡ Some o →
+flag_test : (g : Scope) (c : Exp) (u v w : Word) (o : Sort) → sort_of g
+    (Not (Eq (If c (WordLit u) (WordLit v)) (WordLit w))) ≡ Some o →
     sort_of g c ≡ Some o
 flag_test g c u v w o h =
     let i = If c (WordLit u) (WordLit v) in
@@ -320,8 +321,10 @@ module _ (test : Exp → Bool) (constants : (b : Bool) → test (TruthLit b) ≡
       let i = If c (WordLit u) (WordLit v) in
       let p = two_parts (Eq i (WordLit w)) i (WordLit w) (one_part (Not (Eq i (WordLit w))) (Eq i (WordLit w)) k) in
       same_free e c h.1 (three_parts i c (WordLit u) (WordLit v) p.0).0
-  shortens_free g fs (ToWord n (ToNat a)) e h k = same_free e a h.1 (one_part (ToNat a) a (one_part (ToWord n (ToNat a)) (ToNat a) k))
-  shortens_free g fs (ToWord n (ToInt a)) e h k = same_free e a h.1 (one_part (ToInt a) a (one_part (ToWord n (ToInt a)) (ToInt a) k))
+  shortens_free g fs (ToWord n (ToNat a)) e h k = same_free e a h.1
+      (one_part (ToNat a) a (one_part (ToWord n (ToNat a)) (ToNat a) k))
+  shortens_free g fs (ToWord n (ToInt a)) e h k = same_free e a h.1
+      (one_part (ToInt a) a (one_part (ToWord n (ToInt a)) (ToInt a) k))
   shortens_free g fs (ToNat (ToWord n a)) e h k =
       same_free e a h.1 (one_part (ToWord n a) a (one_part (ToNat (ToWord n a)) (ToWord n a) k))
   shortens_free g fs (ToInt (ToWord n a)) e h k =

@@ -52,7 +52,8 @@ abbrev next : Exp → Exp
 next e = Arith Add (Var a) e
 
 -- return 7
-constant_body : (t : Setting) → (polished (point [] t) (returning (gives (NumberLit (pos 7))))).program ≡ gives (NumberLit (pos 7))
+constant_body : (t : Setting) → (polished (point [] t) (returning (gives (NumberLit (pos 7))))).program ≡ gives
+    (NumberLit (pos 7))
 constant_body t = refl
 
 -- the guard stays before the sum: guard (0 <= a + b <= 4294967295); ret (a + b)
@@ -85,7 +86,8 @@ put_tree t = refl
 
 -- do <- (do <- guard ..; ret); m: the rule in the first part alone
 inner_tree : (t : Setting) →
-    (polished (point [] t) (M.Bind (M.Bind (M.Ret []) [] (M.Guard (Var thrown))) [] (gives sum))).tree ≡ bind_tree (leaf R.BindRet)
+    (polished (point [] t) (M.Bind (M.Bind (M.Ret []) [] (M.Guard (Var thrown))) [] (gives sum))).tree ≡ bind_tree
+    (leaf R.BindRet)
     (leaf R.Refl)
 inner_tree t = refl
 
@@ -130,7 +132,8 @@ abbrev read_guard : Exp
 read_guard = Between (pos 0) increased (pos 9)
 
 after_write : (t : Setting) →
-    (polished (point [] t) (M.Bind (M.Guard read_guard) [] (M.Bind written [] (M.Bind (M.Guard read_guard) [] written)))).program
+    (polished (point [] t)
+    (M.Bind (M.Guard read_guard) [] (M.Bind written [] (M.Bind (M.Guard read_guard) [] written)))).program
     ≡ M.Bind (M.Guard read_guard) [] (M.Bind written [] (M.Bind (M.Guard read_guard) [] written))
 after_write t = refl
 
@@ -174,7 +177,8 @@ is_set e = Not (Eq e (WordLit (record { width = 32; bits = 0 })))
 
 -- if ((a < b) != 0 && 1): the test is a < b
 truth_word : (t : Setting) →
-    (polished (point [] t) (M.If (And (is_set (flag (Lt (Var a) (Var b)))) (TruthLit true)) (gives (Var a)) (gives (Var b)))).program
+    (polished (point [] t)
+    (M.If (And (is_set (flag (Lt (Var a) (Var b)))) (TruthLit true)) (gives (Var a)) (gives (Var b)))).program
     ≡ M.If (Lt (Var a) (Var b)) (gives (Var a)) (gives (Var b))
 truth_word t = refl
 
@@ -226,5 +230,6 @@ looping : (t : Setting) →
     (polished (point [] t)
     (M.Loop (record { name = a; exp = number 0 } ∷ []) (Between (pos 0) sum (pos 4294967295)) (Lt (Var a) (number 9))
     (in_range sum (gives sum)))).program
-    ≡ M.Loop (record { name = a; exp = number 0 } ∷ []) (Between (pos 0) sum (pos 4294967295)) (Lt (Var a) (number 9)) (gives sum)
+    ≡ M.Loop (record { name = a; exp = number 0 } ∷ []) (Between (pos 0) sum (pos 4294967295)) (Lt (Var a) (number 9))
+    (gives sum)
 looping t = refl

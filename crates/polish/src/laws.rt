@@ -18,16 +18,20 @@ ghost use Rattle.polish.specs.Translation.{translation, IsTidyOf};
 /// tidy, gives the same scalars and keeps its forms: by the steps as they are made, and by the same
 /// steps as a balanced tree.
 pub fn programs_are_made_tidy()
-    ensures polished { (at : Point) → IsLayout at.setting.scope.layout → (m : Mon) (given : List Scalar) →
-        scalars_given at.setting m ≡ Some given → IsTidyOf at given m (polished at m) }
-    ensures translated { (at : Point) → IsLayout at.setting.scope.layout → (m : Mon) (given : List Scalar) →
-        scalars_given at.setting m ≡ Some given → IsTidyOf at given m (translation at m) }
+    ensures polished { (at : Point) → IsLayout at.setting.scope.layout → (m : Mon) →
+        (given : List Scalar) → scalars_given at.setting m ≡ Some given →
+        IsTidyOf at given m (polished at m) }
+    ensures translated { (at : Point) → IsLayout at.setting.scope.layout → (m : Mon) →
+        (given : List Scalar) → scalars_given at.setting m ≡ Some given →
+        IsTidyOf at given m (translation at m) }
 {}
 
-/// Steps in the expressions that stand in a program directly are made until there is none; and where
-/// nothing shorter stands in the place of a well-sorted expression, no step makes another one of it.
+/// Steps in the expressions that stand in a program directly are made until there is none; and
+/// where nothing shorter stands in the place of a well-sorted expression, no step makes another one
+/// of it.
 pub fn steps_are_made()
-    ensures until_none_is_left { (at : Point) (m : Mon) → direct_step shortened at (shortened_in at m).program ≡ None }
-    ensures all { (g : Scope) (fs : List Fact) (e : Exp) (o : Sort) → sort_of g e ≡ Some o → shortened g fs e ≡ None →
-        (r : Exp) → IsStep g fs e r → r ≡ e }
+    ensures until_none_is_left { (at : Point) (m : Mon) →
+        direct_step shortened at (shortened_in at m).program ≡ None }
+    ensures all { (g : Scope) (fs : List Fact) (e : Exp) (o : Sort) → sort_of g e ≡ Some o →
+        shortened g fs e ≡ None → (r : Exp) → IsStep g fs e r → r ≡ e }
 {}
