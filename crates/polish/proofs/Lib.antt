@@ -15,6 +15,7 @@ pub mod Trees
 pub mod Accepted
 pub mod MadeTidy
 pub mod Fixed
+pub mod TidyStays
 pub mod FormsMade
 pub mod StaysAccepted
 pub mod Shallow
