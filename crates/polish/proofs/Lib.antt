@@ -16,6 +16,8 @@ pub mod Accepted
 pub mod MadeTidy
 pub mod Fixed
 pub mod TidyStays
+pub mod Unfolded
+pub mod Climbing
 pub mod FormsMade
 pub mod StaysAccepted
 pub mod Shallow

@@ -4,3 +4,4 @@ pub mod Shortened
 pub mod Polished
 pub mod Balanced
 pub mod Translation
+pub mod Climbed
