@@ -6,9 +6,9 @@ use Rattle.c_values.specs.Layout.{IsLayout}
 use Rattle.c_values.proofs.Laid.{name_is}
 use Rattle.expression_lang.specs.Expression.{Exp, Var, TruthLit}
 use Rattle.expression_lang.specs.Form.{is_part_of_value}
-use Rattle.expression_lang.specs.Sort.{Scalar, Scope, is_truth}
+use Rattle.expression_lang.specs.Sort.{Scalar, is_truth}
 use Rattle.expression_lang.specs.Sorted.{program_sort}
-use Rattle.ac_expr.specs.Fact.{Fact, Whole, NotTrue}
+use Rattle.ac_expr.specs.Fact.{Whole, NotTrue}
 use Rattle.monad_lang.specs.Program as M
 use Rattle.monad_lang.specs.Program.{Mon, Start}
 use Rattle.monad_lang.specs.Run.{start_names}

@@ -1,5 +1,5 @@
 -- What steps of expressions leave of a program.
-use Rattle.std.proofs.Common.{◌≡◌, ℕ, zero, suc, List, Option, Some, None, refl, ◌∙◌}
+use Rattle.std.proofs.Common.{◌≡◌, ℕ, zero, suc, Option, Some, None, refl, ◌∙◌}
 use Rattle.expression_lang.specs.Sort.{Scope}
 use Rattle.rule_eq.specs.Rule.{Point}
 use Rattle.monad_lang.specs.Program as M

@@ -1,5 +1,5 @@
 -- The loops down a program and back: what each step down leaves to be done, and that levels and steps are pushed at the end.
-use Rattle.std.proofs.Common.{◌≡◌, ℕ, Bool, true, false, cond, List, [], ◌∷◌, ◌++◌, Option, Some, None, refl, ap, ◌∙◌}
+use Rattle.std.proofs.Common.{◌≡◌, ℕ, Bool, true, false, cond, List, [], ◌∷◌, ◌++◌, Option, Some, None, refl, ap}
 use Rattle.c_values.specs.Name.{Name}
 use Rattle.expression_lang.specs.Expression.{Exp}
 use Rattle.monad_lang.specs.Program as M
@@ -10,7 +10,7 @@ use Rattle.rule_eq.specs.Rule as R
 use Rattle.rule_eq.specs.Rule.{Rule, Point}
 use Rattle.rule_eq.specs.Table.{taken_at, behind}
 use Rattle.polish.specs.Known.{is_known}
-use Rattle.polish.specs.Polished.{Polished, Way, leaf, bind_tree, and_then, first_put, put_taken, put_at, put_or_settled, turned, bound, then_all, settled, followed}
+use Rattle.polish.specs.Polished.{Polished, Way, leaf, bind_tree, and_then, first_put, put_taken, put_or_settled, turned, bound, then_all, settled, followed}
 use Rattle.polish.specs.Climbed.{Made, after, Level, bottom, raised, climbed, Next, Enters, Skips, Turns, Puts, put_next, next_of}
 
 -- What is pushed at the end is done first, coming back.

@@ -16,7 +16,7 @@ use Rattle.ac_expr.proofs.PartsSorted.{path_sorted}
 use Rattle.monad_lang.specs.Program as M
 use Rattle.monad_lang.specs.Program.{Mon, Place, Start}
 use Rattle.monad_lang.specs.Run.{start_names}
-use Rattle.monad_lang.specs.Sorted.{Setting, setting_with, start_scalars, place_sort, scalars_given, and_then_scalars, where_fits, are_scalars}
+use Rattle.monad_lang.specs.Sorted.{setting_with, start_scalars, place_sort, scalars_given, and_then_scalars, where_fits, are_scalars}
 use Rattle.program_facts.proofs.Sorts.{none_is, then_parts, fits_parts, call_parts}
 use Rattle.rule_eq.specs.Rule.{Point}
 use Rattle.rule_eq.specs.Table.{within}

@@ -1,26 +1,24 @@
 -- Steps are made until none is left: where nothing shorter stands in the place of a well-sorted expression, no row of the table
 -- makes another one of it.
-use Rattle.std.proofs.Common.{◌≡◌, ℕ, ◌==◌, Bool, true, false, cond, ◌&&◌, List, Option, Some, None, pos, inl, inr, refl, sym, ap, ◌∙◌, subst, arith}
+use Rattle.std.proofs.Common.{◌≡◌, ℕ, ◌==◌, Bool, true, false, ◌&&◌, List, Option, Some, None, inl, inr, refl, sym, ap, ◌∙◌, subst, arith}
 use Rattle.std.proofs.lemmas.Bool.{and_parts, and_from, eq-eqb}
 use Rattle.c_values.specs.Word.{Word}
 use Rattle.c_values.specs.Number.{Add, least, greatest}
-use Rattle.c_values.specs.Value.{Value}
-use Rattle.c_values.specs.Layout.{Layout}
 use Rattle.expression_lang.specs.Expression.{Exp, WordLit, NumberLit, TruthLit, ToNat, ToInt, ToWord, Arith, Between, Eq, And, Or, Imp, Not, If}
-use Rattle.expression_lang.specs.Sort.{Of, WordSort, Sort, Scope, sort_of, is_width, is_number, is_word_of, word_width, number_sort, word_sort, of_word}
+use Rattle.expression_lang.specs.Sort.{Sort, Scope, sort_of, is_width, is_number, is_word_of, word_width, number_sort, word_sort, of_word}
 use Rattle.expression_lang.proofs.Inversion.{where_inv, word_inv, width_inv}
 use Rattle.ac_expr.specs.Fact.{Fact}
 use Rattle.ac_expr.specs.Known.{IsKnown}
 use Rattle.ac_expr.specs.SameExp.{same_exp}
 use Rattle.ac_expr.specs.Step.{constant, IsItsValue, IsFlag, Shortens, IsStep}
-use Rattle.ac_expr.specs.CodeConstants.{computed, as_constant}
+use Rattle.ac_expr.specs.CodeConstants.{as_constant}
 use Rattle.ac_expr.proofs.ConstantsSound.{right}
 use Rattle.ac_expr.proofs.ConstantsComplete.{complete}
 use Rattle.ac_expr.proofs.Itself.{exp_itself}
 use Rattle.monad_lang.specs.Program.{Mon}
 use Rattle.rule_eq.specs.Rule.{Point}
 use Rattle.polish.specs.Rewritten.{or_else, direct_step, direct_nodes}
-use Rattle.polish.specs.Shortened.{folded, where_true, by_right, shorter_and, shorter_or, shorter_imp, shorter_if, is_flag, shorter_sum, shorter_not, shorter_word, shorter_value, shorter, shortened}
+use Rattle.polish.specs.Shortened.{folded, where_true, shorter_and, shorter_or, shorter_imp, shorter_if, is_flag, shorter_sum, shorter_value, shorter, shortened}
 use Rattle.polish.specs.Known.{is_known}
 use Rattle.polish.specs.Polished.{shortened_in}
 use Rattle.polish.proofs.Cases.{some_same}

@@ -13,7 +13,7 @@ use Rattle.rule_eq.specs.Rule as R
 use Rattle.rule_eq.specs.Rule.{Rule, Point}
 use Rattle.rule_eq.specs.Table.{Taken, taken_at, with_values, knowing, behind, within}
 use Rattle.polish.specs.Known.{is_known}
-use Rattle.polish.specs.Polished.{Polished, Way, leaf, bind_tree, if_tree, loop_tree, unchanged, and_then, shortened_in, first_put, put_taken, put_at, turned, or_shorter, bound, then_all, settled, put_or_settled, followed, chosen, turning, in_choice, in_loop, polished_with, polished_within, positions, polished}
+use Rattle.polish.specs.Polished.{Polished, Way, leaf, bind_tree, if_tree, loop_tree, unchanged, and_then, shortened_in, first_put, put_taken, put_at, turned, or_shorter, bound, then_all, settled, put_or_settled, followed, chosen, turning, polished_with, polished_within, positions, polished}
 use Rattle.polish.proofs.MadeTidy.{Tidied, positions_put, with_positions, one_fewer, tidy_parts, bound_made, followed_made, polished_made, within_made}
 
 -- what a value was put into binds fewer names

@@ -1,6 +1,6 @@
 -- The value of constants alone stands in their place by one step: it has their sort, is one node, and passes no test of heads that
 -- no constant passes.
-use Rattle.std.proofs.Common.{◌≡◌, ℕ, ◌^◌, ◌<◌, nat_lt, Bool, true, false, cond, ◌&&◌, ◌||◌, List, [], Option, Some, None, refl, sym, ap, ◌∙◌, subst, arith}
+use Rattle.std.proofs.Common.{◌≡◌, ℕ, ◌^◌, ◌<◌, nat_lt, Bool, true, false, ◌&&◌, ◌||◌, Option, Some, None, refl, sym, ap, ◌∙◌, subst, arith}
 use Rattle.std.proofs.lemmas.Bool.{and_from, or_parts, lt-ltb}
 use Rattle.c_values.specs.Word.{Word, IsWord}
 use Rattle.c_values.specs.Value.{Value, Bits, Number, Truth, Parts}

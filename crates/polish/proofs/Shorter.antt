@@ -1,6 +1,6 @@
 -- What stands shorter in an expression's place is made of it by a row of the table of steps; and a row keeps sorts, leaves fewer
 -- nodes, and brings no part that passes a test, but constants.
-use Rattle.std.proofs.Common.{◌≡◌, ℕ, zero, suc, ◌+◌, ◌<◌, ◌≤◌, ◌==◌, Bool, true, false, not, cond, ◌&&◌, ◌||◌, List, Option, Some, None, pos, inl, inr, ◌⊎◌, refl, sym, ap, ◌∙◌, subst, arith}
+use Rattle.std.proofs.Common.{◌≡◌, ℕ, zero, ◌<◌, ◌≤◌, ◌==◌, Bool, true, false, not, ◌&&◌, ◌||◌, List, Option, Some, pos, inl, inr, ◌⊎◌, refl, sym, ap, ◌∙◌, subst, arith}
 use Rattle.std.proofs.lemmas.Bool.{and_parts, or_parts, eqb-true}
 use Rattle.c_values.specs.Word.{Word}
 use Rattle.c_values.specs.Number.{NumberOp, Add, least, greatest}
@@ -9,12 +9,11 @@ use Rattle.expression_lang.specs.Form.{has}
 use Rattle.expression_lang.specs.Sort.{Sort, Scope, sort_of, is_width, is_number, is_truth, is_word_of, is_unary, word_width, number_sort, truth_sort, word_sort, where_holds, of_word, are_same}
 use Rattle.expression_lang.proofs.Inversion.{where_inv, word_inv, width_inv, number_inv, truth_inv, word_of_inv, same_inv}
 use Rattle.ac_expr.specs.Fact.{Fact}
-use Rattle.ac_expr.specs.Known.{IsKnown}
 use Rattle.ac_expr.specs.SameExp.{same_exp}
 use Rattle.ac_expr.specs.Step.{IsFlag, IsInWord, Shortens}
 use Rattle.ac_expr.proofs.SameExps.{exp_is}
 use Rattle.polish.specs.Rewritten.{nodes}
-use Rattle.polish.specs.Shortened.{where_true, by_right, shorter_and, shorter_or, shorter_imp, shorter_if, is_flag, by_zero, by_branches, shorter_unequal, shorter_not, shorter_sum, shorter_arith, shorter_word, shorter_value, shorter}
+use Rattle.polish.specs.Shortened.{where_true, by_right, shorter_and, shorter_or, shorter_imp, shorter_if, is_flag, shorter_unequal, shorter_not, shorter_sum, shorter_arith, shorter_word, shorter_value, shorter}
 use Rattle.polish.specs.Known.{is_known}
 use Rattle.polish.proofs.Cases.{some_same}
 use Rattle.polish.proofs.KnownIs.{known_exactly}

@@ -6,7 +6,6 @@ use Rattle.expression_lang.specs.Expression.{Exp, TruthLit}
 use Rattle.monad_lang.specs.Program as M
 use Rattle.monad_lang.specs.Program.{Mon, Start}
 use Rattle.monad_lang.specs.Form.{is_bind_ret, all_kept, is_assoc, is_true_guard, is_constant_truth, can_be_put, some_can_be_put, is_ret_one, is_tidy}
-use Rattle.rule_trees.specs.RuleTree.{Tree}
 use Rattle.ac_expr.specs.Fact.{Whole, NotTrue}
 use Rattle.rule_eq.specs.Rule as R
 use Rattle.rule_eq.specs.Rule.{Rule, Point}

@@ -1,5 +1,5 @@
 -- What is made tidy, by the program's head and with nothing that counts: the equations that the code follows.
-use Rattle.std.proofs.Common.{◌≡◌, List, refl, sym, ap, ap₂, ◌∙◌}
+use Rattle.std.proofs.Common.{◌≡◌, List, sym, ap, ap₂, ◌∙◌}
 use Rattle.std.proofs.Math.Path.{fun_ext}
 use Rattle.c_values.specs.Name.{Name}
 use Rattle.expression_lang.specs.Expression.{Exp}

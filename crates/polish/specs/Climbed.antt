@@ -1,8 +1,7 @@
 -- How a program that was entered along its sequences is made tidy by one loop down and one loop back: the levels that were entered,
 -- and what a tidy program at the bottom makes of them. So no sequence, however long, is gone along by recursion.
-use Rattle.std.specs.Prelude.{ℕ, Bool, true, false, List, [], ◌∷◌, Option, Some, None, if◌then◌else◌}
+use Rattle.std.specs.Prelude.{ℕ, List, [], ◌∷◌, Option, Some, None, if◌then◌else◌}
 use Rattle.c_values.specs.Name.{Name}
-use Rattle.expression_lang.specs.Expression.{Exp}
 use Rattle.monad_lang.specs.Program as M
 use Rattle.monad_lang.specs.Program.{Mon}
 use Rattle.monad_lang.specs.Form.{all_kept}
