@@ -4,7 +4,7 @@ use Rattle.std.proofs.lemmas.Bool.{and_parts, cond_both, true≢false}
 use Rattle.c_values.specs.Name.{Name, same_name, are_distinct}
 use Rattle.c_values.specs.Layout.{IsLayout}
 use Rattle.c_values.proofs.Laid.{name_is}
-use Rattle.expression_lang.specs.Expression.{Exp, Var, TruthLit}
+use Rattle.expression_lang.specs.Expression.{Exp, Var, WordLit, NumberLit, TruthLit}
 use Rattle.expression_lang.specs.Form.{is_part_of_value}
 use Rattle.expression_lang.specs.Sort.{Scalar, is_truth}
 use Rattle.expression_lang.specs.Sorted.{program_sort}
@@ -12,6 +12,7 @@ use Rattle.ac_expr.specs.Fact.{Whole, NotTrue}
 use Rattle.monad_lang.specs.Program as M
 use Rattle.monad_lang.specs.Program.{Mon, Start}
 use Rattle.monad_lang.specs.Run.{start_names}
+use Rattle.monad_lang.specs.Names.{is_free}
 use Rattle.monad_lang.specs.Form.{are_vars, is_bind_ret, all_kept, is_true_guard, can_be_put}
 use Rattle.monad_lang.specs.Sorted.{Setting, setting_with, start_scalars, scalars_given, one_for_each, are_scalars, and_then_scalars, where_fits}
 use Rattle.program_facts.specs.Substituted.{program_substituted}
@@ -25,7 +26,7 @@ use Rattle.rule_eq.proofs.TidyPlaces.{put_stands, put_alike, one_in}
 use Rattle.polish.specs.Rewritten.{direct_step, more, direct_steps, direct_nodes}
 use Rattle.polish.specs.Shortened.{shortened}
 use Rattle.polish.specs.Known.{is_known}
-use Rattle.polish.specs.Polished.{Polished, Way, leaf, exp_tree, bind_tree, if_tree, last_of, unchanged, at_once, and_then, shortened_in, what_is_bound, one_later, first_put, put_taken, put_at, turned, or_shorter, bound, then_all, settled, put_or_settled, followed, chosen, turning, polished_with, polished_within, positions, polished}
+use Rattle.polish.specs.Polished.{Polished, Way, leaf, exp_tree, bind_tree, if_tree, last_of, unchanged, at_once, and_then, shortened_in, what_is_bound, one_later, first_put, is_literal, first_constant, put_taken, put_at, turned, or_shorter, bound, then_all, settled, put_or_settled, followed, chosen, turning, polished_with, polished_within, positions, polished}
 use Rattle.polish.proofs.Trees.{Gives, nothing_taken, joined_taken, bind_taken, if_taken, loop_taken}
 use Rattle.polish.proofs.Apart.{direct_apart}
 use Rattle.polish.proofs.Folds.{whole_constant}
@@ -247,6 +248,51 @@ first_is_put front i (e ∷ es) (x ∷ xs) n h =
 first_is_put front i [] xs n h = absurd cc
 first_is_put front i (e ∷ es) [] n h = absurd cc
 
+-- a constant can be put in anywhere
+
+pub literal_put : (e : Exp) (x : Name) (others : List Name) (n : Mon) → is_literal e ≡ true → can_be_put e x others n ≡ true
+literal_put (WordLit w) x others n h = refl
+literal_put (NumberLit k) x others n h = refl
+literal_put (TruthLit b) x others n h = refl
+literal_put e x others n h = absurd cc
+
+record Literal (i : ℕ) (es : List Exp) (xs : List Name) : Type 0 where
+  pub value : Taken
+  pub taken : taken_at i es xs ≡ Some value
+  pub literal : is_literal value.exp ≡ true
+
+first_is_literal : (i : ℕ) (es : List Exp) (xs : List Name) (n : Mon) → first_constant es xs n ≡ Some i → Literal i es xs
+first_is_literal i (e ∷ es) (x ∷ xs) n h =
+    by_test (is_literal e && is_free x n) refl h (λ j k. first_is_literal j es xs n k)
+  where
+    by_test : (b : Bool) → (is_literal e && is_free x n) ≡ b →
+        cond b (Some zero) (one_later (first_constant es xs n)) ≡ Some i →
+        ((j : ℕ) → first_constant es xs n ≡ Some j → Literal j es xs) → Literal i (e ∷ es) (x ∷ xs)
+    by_test true c k r =
+        let z : zero ≡ i = cc in
+        subst (λ j. Literal j (e ∷ es) (x ∷ xs)) z
+        (record {
+          value = record { exp = e; name = x; exps = es; names = xs };
+          taken = refl;
+          literal = (and_parts (is_literal e) (is_free x n) c).0;
+        })
+    by_test false c k r =
+        let q = later_put (first_constant es xs n) i k in
+        let f = r q.0 q.1 in
+        subst (λ j. Literal j (e ∷ es) (x ∷ xs)) q.2
+        (record {
+          value = record { exp = f.value.exp; name = f.value.name; exps = e ∷ f.value.exps; names = x ∷ f.value.names };
+          taken = ap (λ o. before e x o) f.taken;
+          literal = f.literal;
+        })
+first_is_literal i [] xs n h = absurd cc
+first_is_literal i (e ∷ es) [] n h = absurd cc
+
+pub constant_put : (i : ℕ) (es : List Exp) (xs : List Name) (n : Mon) → first_constant es xs n ≡ Some i → Put [] i es xs n
+constant_put i es xs n h =
+    let f = first_is_literal i es xs n h in
+    record { value = f.value; taken = f.taken; put = literal_put f.value.exp f.value.name f.value.names n f.literal }
+
 module _ (again : Way) (leads : Leads again) where
   put_reached : (at : Point) → IsLaid at → (es : List Exp) (xs : List Name) (n : Mon) (i : ℕ) → Put [] i es xs n →
       IsReached at (M.Bind (M.Ret es) xs n) (put_taken again at (M.Bind (M.Ret es) xs n) i n (taken_at i es xs))
@@ -348,11 +394,11 @@ module _ (again : Way) (leads : Leads again) where
 
     put_or_settled_reached : (at : Point) → IsLaid at → (t : Tree Rule) (m : Mon) (es : List Exp) (xs : List Name)
         (o : Option ℕ) →
-        first_put [] es xs n ≡ o → IsReached at m (and_tree t (M.Ret es)) →
+        first_constant es xs n ≡ o → IsReached at m (and_tree t (M.Ret es)) →
         IsReached at (M.Bind m xs n) (put_or_settled again last at t es xs n o)
     put_or_settled_reached at laid t m es xs None e h = settled_reached at laid t m (M.Ret es) xs h
     put_or_settled_reached at laid t m es xs (Some i) e h =
-        then_all_reached at t m (M.Ret es) xs n (put_at again at es xs n (Some i)) h (at_reached at laid es xs n (Some i) e)
+        then_all_reached at t m (M.Ret es) xs n (put_at again at es xs n (Some i)) h (put_reached at laid es xs n i (constant_put i es xs n e))
 
     pub followed_reached : (at : Point) → IsLaid at → (t : Tree Rule) (m p : Mon) (xs : List Name) →
         IsReached at m (and_tree t p) → IsReached at (M.Bind m xs n) (followed again last at t p xs n)
@@ -367,7 +413,7 @@ module _ (again : Way) (leads : Leads again) where
         (followed_reached (behind a zs at) laid (leaf R.Refl) b b xs (itself_reached (behind a zs at) b))
         (λ r. bound_reached at laid a zs r)))
         (λ e. settled_reached at laid t m (M.Bind a zs b) xs h)
-    followed_reached at laid t m (M.Ret es) xs h = put_or_settled_reached at laid t m es xs (first_put [] es xs n) refl h
+    followed_reached at laid t m (M.Ret es) xs h = put_or_settled_reached at laid t m es xs (first_constant es xs n) refl h
     followed_reached at laid t m (M.Guard e) [] h =
         cond_both (is_known at.facts e) (then_all t (M.Guard e) [] n (and_then (leaf R.GuardKnown) n (last at)))
         (settled again last at t (M.Guard e) [])

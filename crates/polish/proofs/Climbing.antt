@@ -10,7 +10,7 @@ use Rattle.rule_eq.specs.Rule as R
 use Rattle.rule_eq.specs.Rule.{Rule, Point}
 use Rattle.rule_eq.specs.Table.{taken_at, behind}
 use Rattle.polish.specs.Known.{is_known}
-use Rattle.polish.specs.Polished.{Polished, Way, leaf, bind_tree, and_then, first_put, put_taken, put_or_settled, turned, bound, then_all, settled, followed}
+use Rattle.polish.specs.Polished.{Polished, Way, leaf, bind_tree, and_then, first_constant, put_taken, put_or_settled, turned, bound, then_all, settled, followed}
 use Rattle.polish.specs.Climbed.{Made, after, Level, bottom, raised, climbed, Next, Enters, Skips, Turns, Puts, put_next, next_of}
 
 -- What is pushed at the end is done first, coming back.
@@ -78,6 +78,6 @@ module _ (again : Way) (last : Point → Polished) (at : Point) (t : Tree Rule) 
 
   pub next_goes : (m : Mon) (xs : List Name) → Goes m xs (next_of at m xs n) (followed again last at t m xs n)
   next_goes (M.Bind a zs b) xs = by_turn a zs b xs (all_kept zs xs n)
-  next_goes (M.Ret es) xs = by_put es xs (first_put [] es xs n)
+  next_goes (M.Ret es) xs = by_put es xs (first_constant es xs n)
   next_goes (M.Guard e) [] = by_guard e (is_known at.facts e)
   next_goes m xs = refl

@@ -13,7 +13,7 @@ use Rattle.rule_eq.specs.Rule as R
 use Rattle.rule_eq.specs.Rule.{Rule, Point}
 use Rattle.rule_eq.specs.Table.{Taken, taken_at, with_values, knowing, behind, within}
 use Rattle.polish.specs.Known.{is_known}
-use Rattle.polish.specs.Polished.{Polished, Way, leaf, bind_tree, if_tree, loop_tree, unchanged, and_then, shortened_in, first_put, put_taken, put_at, turned, or_shorter, bound, then_all, settled, put_or_settled, followed, chosen, turning, polished_with, polished_within, positions, polished}
+use Rattle.polish.specs.Polished.{Polished, Way, leaf, bind_tree, if_tree, loop_tree, unchanged, and_then, shortened_in, first_put, first_constant, put_taken, put_at, turned, or_shorter, bound, then_all, settled, put_or_settled, followed, chosen, turning, polished_with, polished_within, positions, polished}
 use Rattle.polish.proofs.MadeTidy.{Tidied, positions_put, with_positions, one_fewer, tidy_parts, bound_made, followed_made, polished_made, within_made}
 
 -- what a value was put into binds fewer names
@@ -97,7 +97,7 @@ module _ (again other : Way) (k : ℕ)
             positions m + length xs + positions n ≤ k →
             Tidied (followed again last at t m xs n).program (positions m + length xs + positions n)
         followed_tidy = followed_made again k tidies last n lasts
-    followed_same at t (M.Ret es) xs h few = put_same at t es xs (first_put [] es xs n) (omega (arith, few))
+    followed_same at t (M.Ret es) xs h few = put_same at t es xs (first_constant es xs n) (omega (arith, few))
     followed_same at t (M.Guard e) [] h few =
         ap₂ (λ v w. cond (is_known at.facts e) v w)
         (ap (λ q. then_all t (M.Guard e) [] n (and_then (leaf R.GuardKnown) n q)) (alike at))

@@ -22,12 +22,12 @@ use Rattle.rule_eq.proofs.TidyPlaces.{put_stands}
 use Rattle.polish.specs.Rewritten.{Choice, first_step, list_step, start_step, place_step, direct_step, more, direct_steps, direct_nodes}
 use Rattle.polish.specs.Shortened.{shortened}
 use Rattle.polish.specs.Known.{is_known}
-use Rattle.polish.specs.Polished.{Polished, Way, leaf, unchanged, at_once, and_then, last_of, shortened_in, what_is_bound, first_put, put_taken, put_at, turned, or_shorter, bound, then_all, settled, put_or_settled, followed, chosen, turning, polished_with, polished_within, positions, polished}
+use Rattle.polish.specs.Polished.{Polished, Way, leaf, unchanged, at_once, and_then, last_of, shortened_in, what_is_bound, first_put, first_constant, put_taken, put_at, turned, or_shorter, bound, then_all, settled, put_or_settled, followed, chosen, turning, polished_with, polished_within, positions, polished}
 use Rattle.polish.proofs.Cases.{one_case, two_case, three_case}
 use Rattle.polish.proofs.TestsKept.{KeepsFree, step_has, path_has_step, two_free}
 use Rattle.polish.proofs.Closed.{one_weaker, two_weaker, three_weaker}
 use Rattle.polish.proofs.Alike.{IsIf, IsLoop, steps_alike}
-use Rattle.polish.proofs.Accepted.{Put, first_is_put, bound_holds}
+use Rattle.polish.proofs.Accepted.{Put, constant_put, first_is_put, bound_holds}
 use Rattle.polish.proofs.Folds.{IsConstant}
 use Rattle.polish.proofs.Shortened.{shortened_free}
 
@@ -203,9 +203,9 @@ module _ (test : Exp → Bool) (place_test : Place → Bool) (alike : (a b : Exp
           (lasts (behind m xs at) p.1))
 
       put_or_settled_keeps : (at : Point) (t : Tree Rule) (es : List Exp) (xs : List Name) (o : Option ℕ) →
-          first_put [] es xs n ≡ o → Keeps (M.Bind (M.Ret es) xs n) (put_or_settled again last at t es xs n o)
+          first_constant es xs n ≡ o → Keeps (M.Bind (M.Ret es) xs n) (put_or_settled again last at t es xs n o)
       put_or_settled_keeps at t es xs None e = settled_keeps at t (M.Ret es) xs
-      put_or_settled_keeps at t es xs (Some i) e = put_keeps at es xs n i (first_is_put [] i es xs n e)
+      put_or_settled_keeps at t es xs (Some i) e = put_keeps at es xs n i (constant_put i es xs n e)
 
       followed_keeps : (at : Point) (t : Tree Rule) (m : Mon) (xs : List Name) →
           Keeps (M.Bind m xs n) (followed again last at t m xs n)
@@ -218,7 +218,7 @@ module _ (test : Exp → Bool) (place_test : Place → Bool) (alike : (a b : Exp
           second_keeps a zs b xs n r (λ r. bound again at a zs r)
           (followed_keeps (behind a zs at) (leaf R.Refl) b xs) (λ r. bound_keeps at a zs r))
           (λ e. settled_keeps at t (M.Bind a zs b) xs)
-      followed_keeps at t (M.Ret es) xs = put_or_settled_keeps at t es xs (first_put [] es xs n) refl
+      followed_keeps at t (M.Ret es) xs = put_or_settled_keeps at t es xs (first_constant es xs n) refl
       followed_keeps at t (M.Guard e) [] =
           cond_both (is_known at.facts e) (then_all t (M.Guard e) [] n (and_then (leaf R.GuardKnown) n (last at)))
           (settled again last at t (M.Guard e) [])

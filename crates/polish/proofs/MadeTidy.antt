@@ -18,9 +18,9 @@ use Rattle.rule_eq.proofs.PutIn.{some_taken}
 use Rattle.polish.specs.Rewritten.{direct_nodes}
 use Rattle.polish.specs.Shortened.{shortened}
 use Rattle.polish.specs.Known.{is_known}
-use Rattle.polish.specs.Polished.{Polished, Way, leaf, unchanged, at_once, and_then, shortened_in, what_is_bound, one_later, first_put, put_taken, put_at, turned, or_shorter, bound, then_all, settled, put_or_settled, followed, chosen, turning, polished_with, polished_within, positions, polished}
+use Rattle.polish.specs.Polished.{Polished, Way, leaf, unchanged, at_once, and_then, shortened_in, what_is_bound, one_later, first_put, first_constant, put_taken, put_at, turned, or_shorter, bound, then_all, settled, put_or_settled, followed, chosen, turning, polished_with, polished_within, positions, polished}
 use Rattle.polish.proofs.Alike.{IsIf, IsLoop, IsLeaf, Alike, steps_alike}
-use Rattle.polish.proofs.Accepted.{Put, first_is_put}
+use Rattle.polish.proofs.Accepted.{Put, constant_put, first_is_put}
 
 pub record Tidied (m : Mon) (n : ℕ) : Type 0 where
   pub tidy : is_tidy m ≡ true
@@ -188,12 +188,12 @@ module _ (again : Way) (k : ℕ)
         (omega (arith, i.fewer)) (bound_made at m xs q.program h i.tidy (omega (arith, few, i.fewer)))
 
     put_or_settled_made : (at : Point) (t : Tree Rule) (es : List Exp) (xs : List Name) (o : Option ℕ) →
-        first_put [] es xs n ≡ o → length xs + positions n ≤ k →
+        first_constant es xs n ≡ o → length xs + positions n ≤ k →
         Tidied (put_or_settled again last at t es xs n o).program (length xs + positions n)
     put_or_settled_made at t es xs None e few =
         more_positions _ (positions (M.Ret es) + length xs + positions n) _ (omega arith)
         (settled_made at t (M.Ret es) xs refl (omega (arith, few)))
-    put_or_settled_made at t es xs (Some i) e few = put_tidied at es xs n i few (first_is_put [] i es xs n e)
+    put_or_settled_made at t es xs (Some i) e few = put_tidied at es xs n i few (constant_put i es xs n e)
 
     pub followed_made : (at : Point) (t : Tree Rule) (m : Mon) (xs : List Name) → is_tidy m ≡ true →
         positions m + length xs + positions n ≤ k →
@@ -213,7 +213,7 @@ module _ (again : Way) (k : ℕ)
         (λ e. settled_made at t (M.Bind a zs b) xs h few)
     followed_made at t (M.Ret es) xs h few =
         more_positions _ (length xs + positions n) _ (omega arith)
-        (put_or_settled_made at t es xs (first_put [] es xs n) refl (omega (arith, few)))
+        (put_or_settled_made at t es xs (first_constant es xs n) refl (omega (arith, few)))
     followed_made at t (M.Guard e) [] h few =
         cond_both (is_known at.facts e) (then_all t (M.Guard e) [] n (and_then (leaf R.GuardKnown) n (last at)))
         (settled again last at t (M.Guard e) [])

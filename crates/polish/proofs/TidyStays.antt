@@ -1,10 +1,12 @@
 -- What is tidy, where no step of its expressions is left and no guard in first place is known, stays as it is, by the rule refl.
-use Rattle.std.proofs.Common.{◌≡◌, ℕ, zero, suc, true, false, not, cond, ◌&&◌, List, [], ◌∷◌, ◌++◌, Some, None, refl, ap, ap₂, ◌∙◌}
-use Rattle.std.proofs.lemmas.Bool.{and_parts, or_parts, not-true, cond-false}
+use Rattle.std.proofs.Common.{◌≡◌, Bool, sym, ℕ, zero, suc, true, false, not, cond, ◌&&◌, List, [], ◌∷◌, ◌++◌, Some, None, refl, ap, ap₂, ◌∙◌}
+use Rattle.std.proofs.lemmas.Bool.{true≢false, and_parts, or_parts, not-true, cond-false}
 use Rattle.c_values.specs.Name.{Name}
 use Rattle.expression_lang.specs.Expression.{Exp, TruthLit}
 use Rattle.monad_lang.specs.Program as M
 use Rattle.monad_lang.specs.Program.{Mon, Start}
+use Rattle.monad_lang.specs.Names.{is_free}
+use Rattle.polish.proofs.Accepted.{literal_put}
 use Rattle.monad_lang.specs.Form.{is_bind_ret, all_kept, is_assoc, is_true_guard, is_constant_truth, can_be_put, some_can_be_put, is_ret_one, is_tidy}
 use Rattle.ac_expr.specs.Fact.{Whole, NotTrue}
 use Rattle.rule_eq.specs.Rule as R
@@ -13,7 +15,7 @@ use Rattle.rule_eq.specs.Table.{knowing, behind, within}
 use Rattle.polish.specs.Rewritten.{direct_step, more, direct_steps, direct_nodes}
 use Rattle.polish.specs.Shortened.{shortened}
 use Rattle.polish.specs.Known.{is_known}
-use Rattle.polish.specs.Polished.{Polished, Way, leaf, exp_tree, bind_tree, last_of, unchanged, at_once, and_then, shortened_in, what_is_bound, one_later, first_put, put_at, turned, or_shorter, bound, then_all, settled, put_or_settled, followed, chosen, turning, in_choice, in_loop, polished_with, polished_within, positions, polished}
+use Rattle.polish.specs.Polished.{Polished, Way, leaf, exp_tree, bind_tree, last_of, unchanged, at_once, and_then, shortened_in, what_is_bound, one_later, first_put, is_literal, first_constant, put_at, turned, or_shorter, bound, then_all, settled, put_or_settled, followed, chosen, turning, in_choice, in_loop, polished_with, polished_within, positions, polished}
 
 none_first : (front : List Name) (es : List Exp) (xs : List Name) (n : Mon) → some_can_be_put front es xs n ≡ false →
     first_put front es xs n ≡ None
@@ -23,6 +25,20 @@ none_first front (e ∷ es) (x ∷ xs) n h =
     ∙ ap (λ o. one_later o) (none_first (x ∷ front) es xs n p.1)
 none_first front [] xs n h = refl
 none_first front (e ∷ es) [] n h = refl
+
+no_constant : (front : List Name) (es : List Exp) (xs : List Name) (n : Mon) → some_can_be_put front es xs n ≡ false →
+    first_constant es xs n ≡ None
+no_constant front (e ∷ es) (x ∷ xs) n h =
+    let p = or_parts (can_be_put e x (front ++ xs) n) (some_can_be_put (x ∷ front) es xs n) h in
+    cond-false (is_literal e && is_free x n) (Some zero) (one_later (first_constant es xs n))
+    (not_literal (is_literal e) refl p.0)
+    ∙ ap (λ o. one_later o) (no_constant (x ∷ front) es xs n p.1)
+  where
+    not_literal : (b : Bool) → is_literal e ≡ b → can_be_put e x (front ++ xs) n ≡ false → (b && is_free x n) ≡ false
+    not_literal true i k = absurd (true≢false (sym (literal_put e x (front ++ xs) n i) ∙ k))
+    not_literal false i k = refl
+no_constant front [] xs n h = refl
+no_constant front (e ∷ es) [] n h = refl
 
 shorter_stays : (m : Mon) (xs : List Name) (n : Mon) (p : Polished) → is_bind_ret m xs n ≡ false → is_true_guard m xs ≡ false →
     or_shorter m xs n p ≡ p
@@ -117,7 +133,7 @@ module _ (again : Way) where
         (settled again last at (leaf R.Refl) (M.Bind a zs b) xs) k.no_assoc
         ∙ settled_stays at (M.Bind a zs b) xs h k
     followed_stays at (M.Ret es) xs h k u =
-        ap (λ o. put_or_settled again last at (leaf R.Refl) es xs n o) (none_first [] es xs n k.no_put)
+        ap (λ o. put_or_settled again last at (leaf R.Refl) es xs n o) (no_constant [] es xs n k.no_put)
         ∙ settled_stays at (M.Ret es) xs h k
     followed_stays at (M.Guard e) [] h k u =
         cond-false (is_known at.facts e)

@@ -9,7 +9,7 @@ use Rattle.rule_trees.specs.RuleTree.{Tree}
 use Rattle.rule_eq.specs.Rule.{Rule, Point}
 use Rattle.rule_eq.specs.Table.{behind}
 use Rattle.polish.specs.Known.{is_known}
-use Rattle.polish.specs.Polished.{Polished, Way, bind_tree, and_then, first_put, bound}
+use Rattle.polish.specs.Polished.{Polished, Way, bind_tree, and_then, first_constant, bound}
 
 -- a tree, and the program that it leads to
 pub record Made : Type 0 where
@@ -60,6 +60,6 @@ put_next (Some i) = Puts i
 
 abbrev pub next_of : Point → Mon → List Name → Mon → Next
 next_of at (M.Bind a zs b) xs n = if all_kept zs xs n then Turns a zs b else Enters
-next_of at (M.Ret es) xs n = put_next (first_put [] es xs n)
+next_of at (M.Ret es) xs n = put_next (first_constant es xs n)
 next_of at (M.Guard e) [] n = if is_known at.facts e then Skips else Enters
 next_of at m xs n = Enters

@@ -1,18 +1,19 @@
 -- How programs are made tidy, and the tree of rules that takes a program there: in one pass, where each program is made tidy with
 -- what is known at its point. In a sequence the first part is made tidy, and then it is looked at before the second part is: a
--- value that can be put in is put in, a guard that is known goes, and a sequence is turned, so that what comes next meets the
--- second part as it will stand. Thus constants go through a program in one pass, and facts are those of what is left. When both
--- parts are tidy, a rule may apply that did not before (bind_ret; a value that no binder captures any more; a sequence that can
--- be turned now): it is made then, and after a value was put in the program is made tidy once more.
+-- constant is put in, a guard that is known goes, and a sequence is turned, so that what comes next meets the second part as it
+-- will stand. Thus constants go through a program in one pass, and facts are those of what is left. When both parts are tidy, the
+-- other rules are made: bind_ret, and ret_one of variables and of what isn't used (so that the programs in the tree are small);
+-- a sequence may be turned that couldn't be before. After a value was put in the program is made tidy once more.
 --
 -- All is structural in the program but where a value was put in; there a number counts down, of the names that are bound: putting
 -- a value in takes one away, and no other rule adds any.
 use Rattle.std.specs.Prelude.{ℕ, zero, suc, ◌+◌, Bool, true, false, ◌&&◌, List, [], ◌∷◌, ◌++◌, length, Option, Some, None, if◌then◌else◌}
 use Rattle.c_values.specs.Name.{Name}
-use Rattle.expression_lang.specs.Expression.{Exp, TruthLit}
+use Rattle.expression_lang.specs.Expression.{Exp, WordLit, NumberLit, TruthLit}
 use Rattle.ac_expr.specs.Fact.{Whole, NotTrue}
 use Rattle.monad_lang.specs.Program as M
 use Rattle.monad_lang.specs.Program.{Mon}
+use Rattle.monad_lang.specs.Names.{is_free}
 use Rattle.monad_lang.specs.Form.{is_bind_ret, all_kept, is_true_guard, can_be_put}
 use Rattle.program_facts.specs.Substituted.{program_substituted}
 use Rattle.rule_trees.specs.RuleTree.{Tree, node, no_trees, tree}
@@ -92,6 +93,18 @@ first_put front (e ∷ es) (x ∷ xs) n =
     if can_be_put e x (front ++ xs) n then Some zero else one_later (first_put (x ∷ front) es xs n)
 first_put front es xs n = None
 
+abbrev pub is_literal : Exp → Bool
+is_literal (WordLit w) = true
+is_literal (NumberLit k) = true
+is_literal (TruthLit b) = true
+is_literal e = false
+
+-- the first position of a constant whose name the program has free
+abbrev pub first_constant : List Exp → List Name → Mon → Option ℕ
+first_constant (e ∷ es) (x ∷ xs) n =
+    if is_literal e && is_free x n then Some zero else one_later (first_constant es xs n)
+first_constant es xs n = None
+
 -- How a program is made tidy at a point
 abbrev pub Way : Type 0
 Way = Point → Mon → Polished
@@ -146,7 +159,7 @@ followed again last at t (M.Bind a zs b) xs n =
     if all_kept zs xs n then then_all t (M.Bind a zs b) xs n
     (turned a zs b xs n (followed again last (behind a zs at) (leaf R.Refl) b xs n) (λ r. bound again at a zs r))
     else settled again last at t (M.Bind a zs b) xs
-followed again last at t (M.Ret es) xs n = put_or_settled again last at t es xs n (first_put [] es xs n)
+followed again last at t (M.Ret es) xs n = put_or_settled again last at t es xs n (first_constant es xs n)
 followed again last at t (M.Guard e) [] n =
     if is_known at.facts e then then_all t (M.Guard e) [] n (and_then (leaf R.GuardKnown) n (last at))
     else settled again last at t (M.Guard e) []
