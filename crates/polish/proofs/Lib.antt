@@ -23,3 +23,5 @@ pub mod StaysAccepted
 pub mod Shallow
 pub mod Translated
 pub mod Worked
+pub mod Tested
+pub mod ShapeSteps

@@ -5,3 +5,5 @@ pub mod Polished
 pub mod Balanced
 pub mod Translation
 pub mod Climbed
+pub mod CodePassed
+pub mod CodeExpSteps
