@@ -23,5 +23,3 @@ pub mod StaysAccepted
 pub mod Shallow
 pub mod Translated
 pub mod Worked
-pub mod Tested
-pub mod ShapeSteps

@@ -5,5 +5,3 @@ pub mod Polished
 pub mod Balanced
 pub mod Translation
 pub mod Climbed
-pub mod CodePassed
-pub mod CodeExpSteps

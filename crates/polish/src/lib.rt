@@ -1,9 +1,6 @@
 //! How programs are made tidy, with the tree of rules that takes a program to the tidy one.
 #![tactic(auto)]
 
-mod exp_steps;
-mod fronts;
 mod laws;
-mod table_steps;
 
 pub use laws::{programs_are_made_tidy, steps_are_made};
