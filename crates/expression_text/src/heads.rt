@@ -5,7 +5,7 @@ ghost use Rattle.expression_text.specs.Head.{head_word};
 
 /// A word that a list which is an expression begins with.
 #[derive(Clone, Copy)]
-pub(crate) enum Head {
+pub enum Head {
     Word,
     Wadd,
     Wsub,
@@ -59,7 +59,8 @@ pub(crate) enum Head {
 }
 
 impl Head {
-    pub(crate) fn word(self) -> &'static str
+    /// The word.
+    pub fn word(self) -> &'static str
         ensures { result.now ≡ head_word self }
     {
         match self {

@@ -25,12 +25,15 @@ pub use building::{
 pub use exp_reading::exp_at;
 pub use exp_writing::{exp_tree, steps_of};
 pub use fault::TextFault;
+pub use heads::Head;
 pub use list_reading::{exps_at, names_at, new_name_at};
 pub use list_writing::{names_tree, with_exps};
 pub use names::{is_name, name_at};
 pub use numbering::next;
 pub use numbers::{number_at, width_at};
 pub use path_reading::path_at;
+pub use shape_heads::{one_head, place_head, root_head, two_head};
 pub use texts::{read_exp, write_exp};
 pub use type_reading::type_at;
 pub use type_writing::type_tree;
+pub use words::int_type_word;

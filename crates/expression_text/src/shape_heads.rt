@@ -10,7 +10,8 @@ use crate::heads::Head;
 use c_values::{NumberOp, ShiftOp, UnaryOp, WordOp, WordTest};
 use expression_lang::{CastOp, One, PlaceHead, RootTest, Two};
 
-pub(crate) fn one_head(one: One) -> Head
+/// The head of an operation with one operand.
+pub fn one_head(one: One) -> Head
     ensures { result ≡ rows.one_head (one_in one) }
 {
     match one {
@@ -24,7 +25,8 @@ pub(crate) fn one_head(one: One) -> Head
     }
 }
 
-pub(crate) fn two_head(two: Two) -> Head
+/// The head of an operation with two operands.
+pub fn two_head(two: Two) -> Head
     ensures { result ≡ rows.two_head (two_in two) }
 {
     match two {
@@ -41,7 +43,8 @@ pub(crate) fn two_head(two: Two) -> Head
     }
 }
 
-pub(crate) fn root_head(root: RootTest) -> Head
+/// The head of a test of a root.
+pub fn root_head(root: RootTest) -> Head
     ensures { result ≡ rows.root_head (root_in root) }
 {
     match root {
@@ -50,7 +53,8 @@ pub(crate) fn root_head(root: RootTest) -> Head
     }
 }
 
-pub(crate) fn place_head(place: PlaceHead) -> Head
+/// The head of what is asked of a place.
+pub fn place_head(place: PlaceHead) -> Head
     ensures { result ≡ rows.place_head (place_in place) }
 {
     match place {

@@ -51,7 +51,7 @@ pub(crate) fn type_head(word: &str) -> Option<TypeHead>
 }
 
 /// The word of an integer type.
-pub(crate) fn int_type_word(integer: IntType) -> &'static str
+pub fn int_type_word(integer: IntType) -> &'static str
     ensures { result.now ≡ int_type_word (int_type_of integer) }
 {
     match integer {
