@@ -1,0 +1,4 @@
+pub mod Along
+pub mod Shapes
+pub mod Margins
+pub mod Seen
