@@ -140,31 +140,31 @@ module _ (t : T.Tree C.Rule) (at : Point) (a b : Mon) (rule : rule_at t ≡ R.Lo
 
 choice_there : (at : Point) (a b : Mon) → (row at R.If a b).holds →
     ((e : Exp) (m n : Mon) → a ≡ M.If e m n → ⊥) ⊎ ((e : Exp) (m n : Mon) → b ≡ M.If e m n → ⊥) → ⊥
-choice_there at (M.If e m n) (M.If e' m' n') h (inl no) = no e m n refl
-choice_there at (M.If e m n) (M.If e' m' n') h (inr no) = no e' m' n' refl
-choice_there at a b h no = absurd h
+choice_there at (M.If e m n) (M.If e' m' n') h (inl out) = out e m n refl
+choice_there at (M.If e m n) (M.If e' m' n') h (inr out) = out e' m' n' refl
+choice_there at a b h out = absurd h
 
 turn_there : (at : Point) (a b : Mon) → (row at R.Loop a b).holds →
     ((starts : List Start) (guard test : Exp) (m : Mon) → a ≡ M.Loop starts guard test m → ⊥)
     ⊎ ((starts : List Start) (guard test : Exp) (m : Mon) → b ≡ M.Loop starts guard test m → ⊥) → ⊥
-turn_there at (M.Loop starts guard test m) (M.Loop starts' guard' test' m') h (inl no) = no starts guard test m refl
-turn_there at (M.Loop starts guard test m) (M.Loop starts' guard' test' m') h (inr no) = no starts' guard' test' m' refl
-turn_there at a b h no = absurd h
+turn_there at (M.Loop starts guard test m) (M.Loop starts' guard' test' m') h (inl out) = out starts guard test m refl
+turn_there at (M.Loop starts guard test m) (M.Loop starts' guard' test' m') h (inr out) = out starts' guard' test' m' refl
+turn_there at a b h out = absurd h
 
 module _ (at : Point) (rule : Rule) (a b : Mon) where
   pub choice_left : rule ≡ R.If → (row at rule a b).holds → ((e : Exp) (m n : Mon) → a ≡ M.If e m n → ⊥) → ⊥
-  choice_left i h no = choice_there at a b (subst (λ q. (row at q a b).holds) i h) (inl no)
+  choice_left i h out = choice_there at a b (subst (λ q. (row at q a b).holds) i h) (inl out)
 
   pub choice_right : rule ≡ R.If → (row at rule a b).holds → ((e : Exp) (m n : Mon) → b ≡ M.If e m n → ⊥) → ⊥
-  choice_right i h no = choice_there at a b (subst (λ q. (row at q a b).holds) i h) (inr no)
+  choice_right i h out = choice_there at a b (subst (λ q. (row at q a b).holds) i h) (inr out)
 
   pub turn_left : rule ≡ R.Loop → (row at rule a b).holds →
       ((starts : List Start) (guard test : Exp) (m : Mon) → a ≡ M.Loop starts guard test m → ⊥) → ⊥
-  turn_left i h no = turn_there at a b (subst (λ q. (row at q a b).holds) i h) (inl no)
+  turn_left i h out = turn_there at a b (subst (λ q. (row at q a b).holds) i h) (inl out)
 
   pub turn_right : rule ≡ R.Loop → (row at rule a b).holds →
       ((starts : List Start) (guard test : Exp) (m : Mon) → b ≡ M.Loop starts guard test m → ⊥) → ⊥
-  turn_right i h no = turn_there at a b (subst (λ q. (row at q a b).holds) i h) (inr no)
+  turn_right i h out = turn_there at a b (subst (λ q. (row at q a b).holds) i h) (inr out)
 
 pub leaf_left : (r : C.Rule) → is_along (rule_of r) ≡ false → (r ≡ C.TheVariants.If → ⊥) → (r ≡ C.TheVariants.Loop → ⊥) →
     is_leaf (rule_of r) ≡ true

@@ -302,5 +302,6 @@ fn is_known(e: &Exp, facts: &Facts<'_, Parts<'_>>) -> bool
     ensures { IsTrue result ↔ IsKnown (known_in facts.now) (exp_of e.now) }
 {
     let fact = Fact::Whole(e);
-    known(facts, &fact)
+    let here = (&*facts).pass(Parts::None, 0);
+    known(&here, &fact)
 }

@@ -127,7 +127,7 @@ fn turn(m: &Mon) -> Option<(&Exp, &Exp, &Mon)>
         IfNone result (mon_of m.now ≡ programs.Loop starts guard test body → ⊥) }
 {
     match m {
-        Mon::Loop(_, guard, test, body) => Some((guard, test, &**body)),
+        Mon::Loop(_starts, guard, test, body) => Some((guard, test, &**body)),
         _ => None,
     }
 }

@@ -5,7 +5,8 @@ use Rattle.ac_expr.specs.Fact.{Whole, NotTrue}
 use Rattle.program_facts.specs.CodeParts.{sequence}
 use Rattle.monad_lang.specs.Program as M
 use Rattle.monad_lang.specs.CodeProgram.{mon_of}
-use Rattle.monad_sorts.specs.CodeInside.{scalars_in}
+use Rattle.monad_sorts.specs.CodeInside.{setting_in, scalars_in, no_names}
+use Rattle.monad_sorts.specs.CodeTold.{names_after}
 use Rattle.rule_trees.specs.RuleTree.{Checked}
 use Rattle.rule_trees.specs.CodeNodes.{nodes}
 use Rattle.rule_eq.specs.Rule as R
@@ -45,7 +46,7 @@ checked-checked_last-requires t c =
     let same = point_here c.args.setting (known_in c.args.facts.now) (known_in c.pass-known.result) (scalars_in c.args.inside.now)
     (scalars_in c.pass-names.result) (mon_of c.args.right.now) c.along.count (sequence c.of-head.result) c.of-head.ensures
     c.pass-known.ensures.facts c.pass-names.ensures in
-    (omega (arith, c.along.invariant.smaller, c.decreases), (sym c.is_along.ensures ∙ c.if-not-is_along.true, c.is_asked.ensures.0 c.if-not-is_asked.false, fits_here _ _ _ _ _ _ c.along.invariant p same))
+    (omega (arith, c.along.invariant.smaller, c.decreases), (sym c.is_along.ensures ∙ c.if-not-is_along.true, (c.is_asked.ensures.0 c.if-not-is_asked.false, fits_here _ _ _ _ _ _ c.along.invariant p same)))
 
 pub checked-returns-then-not-is_along : goal.checked-returns-then-not-is_along
 checked-returns-then-not-is_along t c =
@@ -88,6 +89,46 @@ checked-returns-in_err-later t c =
     (is_bad _ _ _ _ _ _ c.along.invariant p same (sym c.is_along.ensures ∙ c.if-not-is_along.false) (c.is_asked.ensures.0 c.if-not-is_asked.false) c.in-Some.first.now c.in-Some.last.now items c.next.result c.in_err-later.field-0.0 c.next.ensures
     (first_as _ _ _ _ _ _ c.along.invariant p same c.in-Some.first.now (mon_of c.left_first.result.now) (mon_of c.right_first.result.now) c.next.result (Err c.in_err-later.field-0.0) c.left_first.ensures c.right_first.ensures
     (subst (λ r. Checked table (tree_of c.in-Some.first.now) (does p (mon_of c.left_first.result.now) (mon_of c.right_first.result.now)) c.next.result r) c.in_err-later.was c.checked.ensures)))
+
+-- past the greatest count, with links of their own
+
+pub checked-checked-requires-then-count : goal.checked-checked-requires-then-count
+checked-checked-requires-then-count t c =
+    let p = point_in c.args.setting c.pass-known.result c.pass-names.result in
+    let same = point_here c.args.setting (known_in c.args.facts.now) (known_in c.pass-known.result) (scalars_in c.args.inside.now)
+    (scalars_in c.pass-names.result) (mon_of c.args.right.now) c.along.count (sequence c.of-head.result) c.of-head.ensures
+    c.pass-known.ensures.facts c.pass-names.ensures in
+    let items : parts_at c.along.tree.now ≡ c.in-Some.first.now ∷ c.in-Some.last.now ∷ [] = search rules in
+    let names = names_after (setting_in c.args.setting no_names) c.along.count (scalars_in c.args.inside.now) (mon_of c.args.right.now) in
+    let there = point_here c.args.setting (known_in c.pass-known.result) (known_in c.pass-behind.result) names (scalars_in c.pass-more.result)
+    (mon_of c.along.right.now) c.passes-steps.result (sequence c.of.result) c.of.ensures c.pass-behind.ensures.facts
+    (c.pass-more.ensures ∙ ap (λ ns. names_after (setting_in c.args.setting no_names) c.passes-steps.result ns (mon_of c.along.right.now)) c.pass-names.ensures) in
+    (
+      last_less _ _ _ _ _ _ c.along.invariant p same (sym c.is_along.ensures ∙ c.if-not-is_along.false) (c.is_asked.ensures.0 c.if-not-is_asked.false) c.in-Some.first.now c.in-Some.last.now items _ 2 (sym c.decreases),
+      (again _ _ _ _ _ _ c.along.invariant p same (sym c.is_along.ensures ∙ c.if-not-is_along.false) (c.is_asked.ensures.0 c.if-not-is_asked.false) c.in-Some.first.now c.in-Some.last.now items c.next.result c.in_ok-later.later c.next.ensures
+    (first_as _ _ _ _ _ _ c.along.invariant p same c.in-Some.first.now (mon_of c.left_first.result.now) (mon_of c.right_first.result.now) c.next.result (Ok c.in_ok-later.later) c.left_first.ensures c.right_first.ensures
+    (subst (λ r. Checked table (tree_of c.in-Some.first.now) (does p (mon_of c.left_first.result.now) (mon_of c.right_first.result.now)) c.next.result r) c.in_ok-later.was c.checked.ensures))
+    (point_in c.args.setting c.pass-behind.result c.pass-more.result) c.passes-steps.result (mon_of c.left_behind-left_after.result.now) (mon_of c.right_behind-right_after.result.now)
+    c.passes-steps.ensures.count there c.left_behind-left_after.ensures c.right_behind-right_after.ensures).0,
+    )
+
+pub checked-returns-then-count : goal.checked-returns-then-count
+checked-returns-then-count t c =
+    let p = point_in c.args.setting c.pass-known.result c.pass-names.result in
+    let same = point_here c.args.setting (known_in c.args.facts.now) (known_in c.pass-known.result) (scalars_in c.args.inside.now)
+    (scalars_in c.pass-names.result) (mon_of c.args.right.now) c.along.count (sequence c.of-head.result) c.of-head.ensures
+    c.pass-known.ensures.facts c.pass-names.ensures in
+    let items : parts_at c.along.tree.now ≡ c.in-Some.first.now ∷ c.in-Some.last.now ∷ [] = search rules in
+    let names = names_after (setting_in c.args.setting no_names) c.along.count (scalars_in c.args.inside.now) (mon_of c.args.right.now) in
+    let there = point_here c.args.setting (known_in c.pass-known.result) (known_in c.pass-behind.result) names (scalars_in c.pass-more.result)
+    (mon_of c.along.right.now) c.passes-steps.result (sequence c.of.result) c.of.ensures c.pass-behind.ensures.facts
+    (c.pass-more.ensures ∙ ap (λ ns. names_after (setting_in c.args.setting no_names) c.passes-steps.result ns (mon_of c.along.right.now)) c.pass-names.ensures) in
+    (again _ _ _ _ _ _ c.along.invariant p same (sym c.is_along.ensures ∙ c.if-not-is_along.false) (c.is_asked.ensures.0 c.if-not-is_asked.false) c.in-Some.first.now c.in-Some.last.now items c.next.result c.in_ok-later.later c.next.ensures
+    (first_as _ _ _ _ _ _ c.along.invariant p same c.in-Some.first.now (mon_of c.left_first.result.now) (mon_of c.right_first.result.now) c.next.result (Ok c.in_ok-later.later) c.left_first.ensures c.right_first.ensures
+    (subst (λ r. Checked table (tree_of c.in-Some.first.now) (does p (mon_of c.left_first.result.now) (mon_of c.right_first.result.now)) c.next.result r) c.in_ok-later.was c.checked.ensures))
+    (point_in c.args.setting c.pass-behind.result c.pass-more.result) c.passes-steps.result (mon_of c.left_behind-left_after.result.now) (mon_of c.right_behind-right_after.result.now)
+    c.passes-steps.ensures.count there c.left_behind-left_after.ensures c.right_behind-right_after.ensures).1
+    c.checked-then-count.result c.checked-then-count.ensures
 
 pub checked-along-preserved : goal.checked-along-preserved
 checked-along-preserved t c =
