@@ -184,7 +184,15 @@ fn checked(
         if count == u32::MAX {
             let behind = known.pass(Parts::of(right), steps);
             let more = names.pass(setting, right, steps as usize);
-            return checked(last, left_after, right_after, setting, &behind, &more, later);
+            return checked(
+                last,
+                left_after,
+                right_after,
+                setting,
+                &behind,
+                &more,
+                later,
+            );
         }
         count += steps;
         tree = last;

@@ -71,8 +71,7 @@ checked-checked-requires t c =
     let same = point_here c.args.setting (known_in c.args.facts.now) (known_in c.pass-known.result) (scalars_in c.args.inside.now)
     (scalars_in c.pass-names.result) (mon_of c.args.right.now) c.along.count (sequence c.of-head.result) c.of-head.ensures
     c.pass-known.ensures.facts c.pass-names.ensures in
-    let items : parts_at c.along.tree.now ≡ c.in-Some.first.now ∷ c.in-Some.last.now ∷ [] = search rules in
-    (
+    let items : parts_at c.along.tree.now ≡ c.in-Some.first.now ∷ c.in-Some.last.now ∷ [] = search rules in (
       first_less _ _ _ _ _ _ c.along.invariant p same (sym c.is_along.ensures ∙ c.if-not-is_along.false) (c.is_asked.ensures.0 c.if-not-is_asked.false) c.in-Some.first.now c.in-Some.last.now items _ 2 (sym c.decreases),
       first_fits _ _ _ _ _ _ c.along.invariant p same (sym c.is_along.ensures ∙ c.if-not-is_along.false) (c.is_asked.ensures.0 c.if-not-is_asked.false) (mon_of c.left_first.result.now) (mon_of c.right_first.result.now) c.left_first.ensures c.right_first.ensures,
     )
@@ -102,14 +101,13 @@ checked-checked-requires-then-count t c =
     let names = names_after (setting_in c.args.setting no_names) c.along.count (scalars_in c.args.inside.now) (mon_of c.args.right.now) in
     let there = point_here c.args.setting (known_in c.pass-known.result) (known_in c.pass-behind.result) names (scalars_in c.pass-more.result)
     (mon_of c.along.right.now) c.passes-steps.result (sequence c.of.result) c.of.ensures c.pass-behind.ensures.facts
-    (c.pass-more.ensures ∙ ap (λ ns. names_after (setting_in c.args.setting no_names) c.passes-steps.result ns (mon_of c.along.right.now)) c.pass-names.ensures) in
-    (
+    (c.pass-more.ensures ∙ ap (λ ns. names_after (setting_in c.args.setting no_names) c.passes-steps.result ns (mon_of c.along.right.now)) c.pass-names.ensures) in (
       last_less _ _ _ _ _ _ c.along.invariant p same (sym c.is_along.ensures ∙ c.if-not-is_along.false) (c.is_asked.ensures.0 c.if-not-is_asked.false) c.in-Some.first.now c.in-Some.last.now items _ 2 (sym c.decreases),
       (again _ _ _ _ _ _ c.along.invariant p same (sym c.is_along.ensures ∙ c.if-not-is_along.false) (c.is_asked.ensures.0 c.if-not-is_asked.false) c.in-Some.first.now c.in-Some.last.now items c.next.result c.in_ok-later.later c.next.ensures
-    (first_as _ _ _ _ _ _ c.along.invariant p same c.in-Some.first.now (mon_of c.left_first.result.now) (mon_of c.right_first.result.now) c.next.result (Ok c.in_ok-later.later) c.left_first.ensures c.right_first.ensures
-    (subst (λ r. Checked table (tree_of c.in-Some.first.now) (does p (mon_of c.left_first.result.now) (mon_of c.right_first.result.now)) c.next.result r) c.in_ok-later.was c.checked.ensures))
-    (point_in c.args.setting c.pass-behind.result c.pass-more.result) c.passes-steps.result (mon_of c.left_behind-left_after.result.now) (mon_of c.right_behind-right_after.result.now)
-    c.passes-steps.ensures.count there c.left_behind-left_after.ensures c.right_behind-right_after.ensures).0,
+          (first_as _ _ _ _ _ _ c.along.invariant p same c.in-Some.first.now (mon_of c.left_first.result.now) (mon_of c.right_first.result.now) c.next.result (Ok c.in_ok-later.later) c.left_first.ensures c.right_first.ensures
+          (subst (λ r. Checked table (tree_of c.in-Some.first.now) (does p (mon_of c.left_first.result.now) (mon_of c.right_first.result.now)) c.next.result r) c.in_ok-later.was c.checked.ensures))
+          (point_in c.args.setting c.pass-behind.result c.pass-more.result) c.passes-steps.result (mon_of c.left_behind-left_after.result.now) (mon_of c.right_behind-right_after.result.now)
+          c.passes-steps.ensures.count there c.left_behind-left_after.ensures c.right_behind-right_after.ensures).0,
     )
 
 pub checked-returns-then-count : goal.checked-returns-then-count
