@@ -32,9 +32,10 @@ pub(crate) fn is_taken(
     let Some(value) = value_at(values, position) else {
         return false;
     };
-    let Some(name) = name_at(names, position) else {
+    let Some(held) = name_at(names, position) else {
         return false;
     };
+    let name = held.as_str();
     can_stand(value, name, names, position, m)
         && is_right(value, name, values, names, position, m, right)
 }
