@@ -121,18 +121,18 @@ fn no_facts<'a>(facts: &'a Facts<'a, Passed<'a>>) -> &'a Facts<'a, Passed<'a>>
 }
 
 // How the left side of a pair is seen, where it has the sort.
-fn seen_at(e: &Exp, seen: Seen, context: Context<'_>, point: Point<'_>) -> Option<View>
-    requires { IsReady (scope_at context point) (exp_of e.now) seen }
-    ensures some { IfSome result (λ v. (view_at (scope_at context.entry point.entry) (exp_of e.now) v
-        ≡ seen_in (scope_at context.entry point.entry) (exp_of e.now) seen)
-        × FitsAt context.entry point.entry (exp_of e.now) v) }
-    ensures none { IfNone result (Fits (scope_at context.entry point.entry) (exp_of e.now)
-        (seen_in (scope_at context.entry point.entry) (exp_of e.now) seen) → ⊥) }
+fn seen_at(e: &Exp, seen: Seen, context: &Context<'_>, point: Point<'_>) -> Option<View>
+    requires { IsReady (scope_at context.now point) (exp_of e.now) seen }
+    ensures some { IfSome result (λ v. (view_at (scope_at context.now point.entry) (exp_of e.now) v
+        ≡ seen_in (scope_at context.now point.entry) (exp_of e.now) seen)
+        × FitsAt context.now point.entry (exp_of e.now) v) }
+    ensures none { IfNone result (Fits (scope_at context.now point.entry) (exp_of e.now)
+        (seen_in (scope_at context.now point.entry) (exp_of e.now) seen) → ⊥) }
 {
     match seen {
         Seen::As(view) => Some(view),
         Seen::At(kind) => {
-            if is_of_kind(e, kind, context, point.names) {
+            if is_of_kind(e, kind, *context, point.names) {
                 Some(view_of_kind(kind))
             } else {
                 None
@@ -195,15 +195,15 @@ fn checked_exp(
     left: &Exp,
     view: View,
     right: &Exp,
-    context: Context<'_>,
+    context: &Context<'_>,
     point: Point<'_>,
     at: u32,
 ) -> Result<u32, u32>
-    requires fits { FitsAt context point (exp_of left.now) view }
+    requires fits { FitsAt context.now point (exp_of left.now) view }
     requires kinds { HasKinds point.names.now }
-    requires results { are_results (context_in context).functions ≡ true }
-    ensures { Checked (table_at context.entry) (tree_of tree.now)
-        (claim_at context.entry point.entry (exp_of left.now) view (exp_of right.now)) at result }
+    requires results { are_results (context_in context.now).functions ≡ true }
+    ensures { Checked (table_at context.now) (tree_of tree.now)
+        (claim_at context.now point.entry (exp_of left.now) view (exp_of right.now)) at result }
 {
     let mut tree = tree;
     let mut left = left;
@@ -211,22 +211,22 @@ fn checked_exp(
     let mut right = right;
     let mut at = at;
     'down: loop {
-        if !is_exp_asked(&tree.rule, left, view, right, context, point) {
+        if !is_exp_asked(&tree.rule, left, view, right, *context, point) {
             return Err(at);
         }
         if is_and(&tree.rule, left, right) {
-            return checked_ands(tree, left, right, context, point, at);
+            return checked_ands(tree, left, right, &*context, point, at);
         }
         let pairs = lefts(&tree.rule, left);
         let others = rights(&tree.rule, right);
-        let views = exp_views(&tree.rule, left, view, context, point.names);
+        let views = exp_views(&tree.rule, left, view, *context, point.names);
         let then = exp_then(left, view, right);
         if !is_matched(&tree.parts, pairs, views, others, then) {
             return Err(at);
         }
-        match checked_pairs(&tree.parts, pairs, views, others, context, point, next(at))? {
+        match checked_pairs(&tree.parts, pairs, views, others, &*context, point, next(at))? {
             Front::Behind(rest, number) => {
-                return checked_then(rest, then, context, point, number);
+                return checked_then(rest, then, &*context, point, number);
             }
             Front::Last(part, e, seen, other, number) => {
                 tree = part;
@@ -246,17 +246,17 @@ fn checked_pairs<'a>(
     left: Exps<'a>,
     views: Views<'a>,
     right: Exps<'a>,
-    context: Context<'_>,
+    context: &Context<'_>,
     point: Point<'_>,
     at: u32,
 ) -> Result<Front<'a>, u32>
-    requires ready { AreReadyAt context point left views right }
+    requires ready { AreReadyAt context.now point left views right }
     requires kinds { HasKinds point.names.now }
-    requires results { are_results (context_in context).functions ≡ true }
-    requires enough { length (pairs_at (context_in context) (point_in point) left views right)
+    requires results { are_results (context_in context.now).functions ≡ true }
+    requires enough { length (pairs_at (context_in context.now) (point_in point) left views right)
         ≤ length parts.now }
-    ensures { Leaves context.entry point.entry parts.now
-        (pairs_at (context_in context.entry) (point_in point.entry) left.entry views.entry right.entry) at result }
+    ensures { Leaves context.now point.entry parts.now
+        (pairs_at (context_in context.now) (point_in point.entry) left.entry views.entry right.entry) at result }
 {
     let mut rest = parts;
     let mut left = left;
@@ -276,13 +276,13 @@ fn checked_pairs<'a>(
         let Some((part, behind)) = rest.split_first() else {
             return Err(at);
         };
-        let Some(view) = seen_at(e, seen, context, point) else {
+        let Some(view) = seen_at(e, seen, &*context, point) else {
             return Err(at);
         };
         if behind.is_empty() {
             return Ok(Front::Last(part, e, view, a, at));
         }
-        at = checked_exp(part, e, view, a, context, point, at)?;
+        at = checked_exp(part, e, view, a, &*context, point, at)?;
         rest = behind;
         left = lefts;
         views = others;
@@ -297,16 +297,16 @@ fn checked_ands(
     tree: &Tree<Rule>,
     left: &Exp,
     right: &Exp,
-    context: Context<'_>,
+    context: &Context<'_>,
     point: Point<'_>,
     at: u32,
 ) -> Result<u32, u32>
     requires ands { is_and (rule_at tree.now) (exp_of left.now) (exp_of right.now) ≡ true }
-    requires fits { FitsAt context point (exp_of left.now) View.AsIs }
+    requires fits { FitsAt context.now point (exp_of left.now) View.AsIs }
     requires kinds { HasKinds point.names.now }
-    requires results { are_results (context_in context).functions ≡ true }
-    ensures { Checked (table_at context.entry) (tree_of tree.now)
-        (claim_at context.entry point.entry (exp_of left.now) View.AsIs (exp_of right.now)) at result }
+    requires results { are_results (context_in context.now).functions ≡ true }
+    ensures { Checked (table_at context.now) (tree_of tree.now)
+        (claim_at context.now point.entry (exp_of left.now) View.AsIs (exp_of right.now)) at result }
 {
     let head = Passed::sides(right);
     let mut tree = tree;
@@ -329,7 +329,7 @@ fn checked_ands(
         let Some((first, last)) = both(&tree.parts) else {
             return Err(at);
         };
-        at = checked_exp(first, a, View::AsIs, other, context, here, next(at))?;
+        at = checked_exp(first, a, View::AsIs, other, &*context, here, next(at))?;
         if count == u32::MAX || !is_and(&last.rule, b, behind) {
             let fact = Fact::Whole(other);
             let known = facts.with(&fact);
@@ -337,7 +337,7 @@ fn checked_ands(
                 facts: &known,
                 names: point.names,
             };
-            return checked_exp(last, b, View::AsIs, behind, context, there, at);
+            return checked_exp(last, b, View::AsIs, behind, &*context, there, at);
         }
         count += 1;
         left = b;
@@ -351,17 +351,17 @@ fn checked_ands(
 fn checked_then(
     parts: &[Tree<Rule>],
     then: Then<'_>,
-    context: Context<'_>,
+    context: &Context<'_>,
     point: Point<'_>,
     at: u32,
 ) -> Result<u32, u32>
     requires count { length parts.now
-        ≡ length (thens_at (context_in context) (point_in point) then) }
-    requires fit { FitInTurn (context_in context) (thens_at (context_in context) (point_in point) then) }
+        ≡ length (thens_at (context_in context.now) (point_in point) then) }
+    requires fit { FitInTurn (context_in context.now) (thens_at (context_in context.now) (point_in point) then) }
     requires kinds { HasKinds point.names.now }
-    requires results { are_results (context_in context).functions ≡ true }
-    ensures { AllChecked (table_at context.entry) (trees_in rule_of parts.now)
-        (thens_at (context_in context.entry) (point_in point.entry) then.entry) at result }
+    requires results { are_results (context_in context.now).functions ≡ true }
+    ensures { AllChecked (table_at context.now) (trees_in rule_of parts.now)
+        (thens_at (context_in context.now) (point_in point.entry) then.entry) at result }
 {
     let mut rest = parts;
     let mut then = then;
@@ -370,7 +370,7 @@ fn checked_then(
         let Some(claim) = then.next() else {
             return Err(at);
         };
-        at = checked_under(part, claim, context, point, at)?;
+        at = checked_under(part, claim, &*context, point, at)?;
         rest = behind;
     }
     Ok(at)
@@ -381,20 +381,20 @@ fn checked_then(
 fn checked_under(
     tree: &Tree<Rule>,
     claim: Claim<'_>,
-    context: Context<'_>,
+    context: &Context<'_>,
     point: Point<'_>,
     at: u32,
 ) -> Result<u32, u32>
-    requires fits { ClaimFits (context_in context) (claim_in (context_in context) (point_in point) claim) }
+    requires fits { ClaimFits (context_in context.now) (claim_in (context_in context.now) (point_in point) claim) }
     requires kinds { HasKinds point.names.now }
-    requires results { are_results (context_in context).functions ≡ true }
-    ensures { Checked (table_at context.entry) (tree_of tree.now)
-        (claim_in (context_in context.entry) (point_in point.entry) claim.entry) at result }
+    requires results { are_results (context_in context.now).functions ≡ true }
+    ensures { Checked (table_at context.now) (tree_of tree.now)
+        (claim_in (context_in context.now) (point_in point.entry) claim.entry) at result }
 {
     match given_of(claim) {
-        Given::Nothing => checked_here(tree, claim, context, point, at),
-        Given::Whole(e) => checked_where(tree, claim, &Fact::Whole(e), context, point, at),
-        Given::Not(e) => checked_where(tree, claim, &Fact::Not(e), context, point, at),
+        Given::Nothing => checked_here(tree, claim, &*context, point, at),
+        Given::Whole(e) => checked_where(tree, claim, &Fact::Whole(e), &*context, point, at),
+        Given::Not(e) => checked_where(tree, claim, &Fact::Not(e), &*context, point, at),
         Given::Both(e, older) => {
             let known = Fact::Whole(older);
             let facts = point.facts.with(&known);
@@ -402,7 +402,7 @@ fn checked_under(
                 facts: &facts,
                 names: point.names,
             };
-            checked_where(tree, claim, &Fact::Whole(e), context, there, at)
+            checked_where(tree, claim, &Fact::Whole(e), &*context, there, at)
         }
     }
 }
@@ -414,16 +414,16 @@ fn checked_where(
     tree: &Tree<Rule>,
     claim: Claim<'_>,
     fact: &Fact<'_>,
-    context: Context<'_>,
+    context: &Context<'_>,
     point: Point<'_>,
     at: u32,
 ) -> Result<u32, u32>
-    requires fits { ClaimFits (context_in context)
-        (claim_here (context_in context) (knowing (fact_of fact.now) (point_in point)) claim) }
+    requires fits { ClaimFits (context_in context.now)
+        (claim_here (context_in context.now) (knowing (fact_of fact.now) (point_in point)) claim) }
     requires kinds { HasKinds point.names.now }
-    requires results { are_results (context_in context).functions ≡ true }
-    ensures { Checked (table_at context.entry) (tree_of tree.now)
-        (claim_here (context_in context.entry) (knowing (fact_of fact.now) (point_in point.entry)) claim.entry)
+    requires results { are_results (context_in context.now).functions ≡ true }
+    ensures { Checked (table_at context.now) (tree_of tree.now)
+        (claim_here (context_in context.now) (knowing (fact_of fact.now) (point_in point.entry)) claim.entry)
         at result }
 {
     let facts = point.facts.with(&*fact);
@@ -431,7 +431,7 @@ fn checked_where(
         facts: &facts,
         names: point.names,
     };
-    checked_here(tree, claim, context, there, at)
+    checked_here(tree, claim, &*context, there, at)
 }
 
 // The same of a claim, where what is known at its part is known already.
@@ -439,21 +439,21 @@ fn checked_where(
 fn checked_here(
     tree: &Tree<Rule>,
     claim: Claim<'_>,
-    context: Context<'_>,
+    context: &Context<'_>,
     point: Point<'_>,
     at: u32,
 ) -> Result<u32, u32>
-    requires fits { ClaimFits (context_in context) (claim_here (context_in context) (point_in point) claim) }
+    requires fits { ClaimFits (context_in context.now) (claim_here (context_in context.now) (point_in point) claim) }
     requires kinds { HasKinds point.names.now }
-    requires results { are_results (context_in context).functions ≡ true }
-    ensures { Checked (table_at context.entry) (tree_of tree.now)
-        (claim_here (context_in context.entry) (point_in point.entry) claim.entry) at result }
+    requires results { are_results (context_in context.now).functions ≡ true }
+    ensures { Checked (table_at context.now) (tree_of tree.now)
+        (claim_here (context_in context.now) (point_in point.entry) claim.entry) at result }
 {
     match claim {
         Claim::Exp(_, e, sight, a) => {
-            checked_exp(tree, e, view_of(sight), a, context, point, at)
+            checked_exp(tree, e, view_of(sight), a, &*context, point, at)
         }
-        Claim::Program(_, m, n, kinds) => checked(tree, m, n, kinds, context, point, at),
+        Claim::Program(_, m, n, kinds) => checked(tree, m, n, kinds, &*context, point, at),
     }
 }
 
@@ -464,35 +464,35 @@ fn checked_flat(
     left: &Mon,
     right: &Mon,
     kinds: &[Kind],
-    context: Context<'_>,
+    context: &Context<'_>,
     point: Point<'_>,
     at: u32,
 ) -> Result<u32, u32>
     requires flat { is_flat (rule_at tree.now) ≡ true }
-    requires fits { ClaimFits (context_in context)
+    requires fits { ClaimFits (context_in context.now)
         (program (point_in point) (mon_of left.now) (mon_of right.now) (map kind_of kinds.now)) }
     requires kinds { HasKinds point.names.now }
-    requires results { are_results (context_in context).functions ≡ true }
-    ensures { Checked (table_at context.entry) (tree_of tree.now)
+    requires results { are_results (context_in context.now).functions ≡ true }
+    ensures { Checked (table_at context.now) (tree_of tree.now)
         (program (point_in point.entry) (mon_of left.now) (mon_of right.now) (map kind_of kinds.now)) at result }
 {
-    if !is_asked(&tree.rule, left, right, kinds, context, point) {
+    if !is_asked(&tree.rule, left, right, kinds, *context, point) {
         return Err(at);
     }
     let pairs = program_exps(left);
     let others = program_exps(right);
-    let views = program_views(&tree.rule, left, kinds, context);
+    let views = program_views(&tree.rule, left, kinds, *context);
     let then = program_then(&tree.rule, left, right, kinds);
     if !is_matched(&tree.parts, pairs, views, others, then) {
         return Err(at);
     }
     laid_out(context.layout);
-    match checked_pairs(&tree.parts, pairs, views, others, context, point, next(at))? {
+    match checked_pairs(&tree.parts, pairs, views, others, &*context, point, next(at))? {
         Front::Behind(rest, number) => {
-            checked_inside(&tree.rule, left, rest, then, context, point, number)
+            checked_inside(&tree.rule, left, rest, then, &*context, point, number)
         }
         Front::Last(part, e, view, a, number) => {
-            checked_exp(part, e, view, a, context, point, number)
+            checked_exp(part, e, view, a, &*context, point, number)
         }
     }
 }
@@ -505,18 +505,18 @@ fn checked_inside(
     left: &Mon,
     parts: &[Tree<Rule>],
     then: Then<'_>,
-    context: Context<'_>,
+    context: &Context<'_>,
     point: Point<'_>,
     at: u32,
 ) -> Result<u32, u32>
     requires count { length parts.now
-        ≡ length (thens_at (context_in context) (inside (rule_of rule.now) (mon_of left.now) (point_in point)) then) }
-    requires fit { FitInTurn (context_in context)
-        (thens_at (context_in context) (inside (rule_of rule.now) (mon_of left.now) (point_in point)) then) }
+        ≡ length (thens_at (context_in context.now) (inside (rule_of rule.now) (mon_of left.now) (point_in point)) then) }
+    requires fit { FitInTurn (context_in context.now)
+        (thens_at (context_in context.now) (inside (rule_of rule.now) (mon_of left.now) (point_in point)) then) }
     requires kinds { are_binders (inside (rule_of rule.now) (mon_of left.now) (point_in point)).names ≡ true }
-    requires results { are_results (context_in context).functions ≡ true }
-    ensures { AllChecked (table_at context.entry) (trees_in rule_of parts.now)
-        (thens_at (context_in context.entry)
+    requires results { are_results (context_in context.now).functions ≡ true }
+    ensures { AllChecked (table_at context.now) (trees_in rule_of parts.now)
+        (thens_at (context_in context.now)
         (inside (rule_of rule.now) (mon_of left.now) (point_in point.entry)) then.entry) at result }
 {
     match rule {
@@ -527,11 +527,11 @@ fn checked_inside(
                     facts: no_facts(point.facts),
                     names: &names,
                 };
-                checked_then(parts, then, context, there, at)
+                checked_then(parts, then, &*context, there, at)
             }
-            _ => checked_then(parts, then, context, point, at),
+            _ => checked_then(parts, then, &*context, point, at),
         },
-        _ => checked_then(parts, then, context, point, at),
+        _ => checked_then(parts, then, &*context, point, at),
     }
 }
 
@@ -543,25 +543,25 @@ fn checked_recast(
     left: &Mon,
     right: &Mon,
     kinds: &[Kind],
-    context: Context<'_>,
+    context: &Context<'_>,
     point: Point<'_>,
     at: u32,
 ) -> Result<u32, u32>
     requires recast { rule_at tree.now ≡ names.Recast (map kind_of js.now) }
-    requires fits { ClaimFits (context_in context)
+    requires fits { ClaimFits (context_in context.now)
         (program (point_in point) (mon_of left.now) (mon_of right.now) (map kind_of kinds.now)) }
     requires kinds { HasKinds point.names.now }
-    requires results { are_results (context_in context).functions ≡ true }
-    ensures { Checked (table_at context.entry) (tree_of tree.now)
+    requires results { are_results (context_in context.now).functions ≡ true }
+    ensures { Checked (table_at context.now) (tree_of tree.now)
         (program (point_in point.entry) (mon_of left.now) (mon_of right.now) (map kind_of kinds.now)) at result }
 {
-    if !is_asked(&tree.rule, left, right, kinds, context, point) {
+    if !is_asked(&tree.rule, left, right, kinds, *context, point) {
         return Err(at);
     }
     let Some(part) = only(&tree.parts) else {
         return Err(at);
     };
-    checked(part, left, first_of(right), js, context, point, next(at))
+    checked(part, left, first_of(right), js, &*context, point, next(at))
 }
 
 // The same of two programs by a rule that doesn't go along a sequence.
@@ -571,21 +571,21 @@ fn checked_last(
     left: &Mon,
     right: &Mon,
     kinds: &[Kind],
-    context: Context<'_>,
+    context: &Context<'_>,
     point: Point<'_>,
     at: u32,
 ) -> Result<u32, u32>
     requires last { is_bind (rule_at tree.now) ≡ false }
-    requires fits { ClaimFits (context_in context)
+    requires fits { ClaimFits (context_in context.now)
         (program (point_in point) (mon_of left.now) (mon_of right.now) (map kind_of kinds.now)) }
     requires kinds { HasKinds point.names.now }
-    requires results { are_results (context_in context).functions ≡ true }
-    ensures { Checked (table_at context.entry) (tree_of tree.now)
+    requires results { are_results (context_in context.now).functions ≡ true }
+    ensures { Checked (table_at context.now) (tree_of tree.now)
         (program (point_in point.entry) (mon_of left.now) (mon_of right.now) (map kind_of kinds.now)) at result }
 {
     match &tree.rule {
-        Rule::Recast(js) => checked_recast(js, tree, left, right, kinds, context, point, at),
-        _ => checked_flat(tree, left, right, kinds, context, point, at),
+        Rule::Recast(js) => checked_recast(js, tree, left, right, kinds, &*context, point, at),
+        _ => checked_flat(tree, left, right, kinds, &*context, point, at),
     }
 }
 
@@ -597,15 +597,15 @@ fn checked(
     left: &Mon,
     right: &Mon,
     kinds: &[Kind],
-    context: Context<'_>,
+    context: &Context<'_>,
     point: Point<'_>,
     at: u32,
 ) -> Result<u32, u32>
-    requires fits { ClaimFits (context_in context)
+    requires fits { ClaimFits (context_in context.now)
         (program (point_in point) (mon_of left.now) (mon_of right.now) (map kind_of kinds.now)) }
     requires kinds { HasKinds point.names.now }
-    requires results { are_results (context_in context).functions ≡ true }
-    ensures { Checked (table_at context.entry) (tree_of tree.now)
+    requires results { are_results (context_in context.now).functions ≡ true }
+    ensures { Checked (table_at context.now) (tree_of tree.now)
         (program (point_in point.entry) (mon_of left.now) (mon_of right.now) (map kind_of kinds.now)) at result }
 {
     laid_out(context.layout);
@@ -624,9 +624,9 @@ fn checked(
             names: &names,
         };
         let Some(js) = bound(&tree.rule) else {
-            return checked_last(tree, left, right, kinds, context, here, at);
+            return checked_last(tree, left, right, kinds, &*context, here, at);
         };
-        if !is_asked(&tree.rule, left, right, kinds, context, here) {
+        if !is_asked(&tree.rule, left, right, kinds, *context, here) {
             return Err(at);
         }
         let Some((first, last)) = both(&tree.parts) else {
@@ -637,7 +637,7 @@ fn checked(
             first_of(left),
             first_of(right),
             js,
-            context,
+            &*context,
             here,
             next(at),
         )?;
@@ -649,7 +649,7 @@ fn checked(
                 facts: &known,
                 names: &more,
             };
-            return checked(last, behind(left), behind(right), kinds, context, there, at);
+            return checked(last, behind(left), behind(right), kinds, &*context, there, at);
         }
         count += 1;
         stretch = stretch.step(left, last);
@@ -681,7 +681,7 @@ pub fn check(
         (program (point_in point.entry) (mon_of left.now) (mon_of right.now) (map kind_of kinds.now))
         (verdict_of result) }
 {
-    match checked(tree, left, right, kinds, context, point, 0) {
+    match checked(tree, left, right, kinds, &context, point, 0) {
         Ok(_) => Ok(()),
         Err(at) => Err(At(at)),
     }
