@@ -224,7 +224,15 @@ fn checked_exp(
         if !is_matched(&tree.parts, pairs, views, others, then) {
             return Err(at);
         }
-        match checked_pairs(&tree.parts, pairs, views, others, &*context, point, next(at))? {
+        match checked_pairs(
+            &tree.parts,
+            pairs,
+            views,
+            others,
+            &*context,
+            point,
+            next(at),
+        )? {
             Front::Behind(rest, number) => {
                 return checked_then(rest, then, &*context, point, number);
             }
@@ -487,7 +495,15 @@ fn checked_flat(
         return Err(at);
     }
     laid_out(context.layout);
-    match checked_pairs(&tree.parts, pairs, views, others, &*context, point, next(at))? {
+    match checked_pairs(
+        &tree.parts,
+        pairs,
+        views,
+        others,
+        &*context,
+        point,
+        next(at),
+    )? {
         Front::Behind(rest, number) => {
             checked_inside(&tree.rule, left, rest, then, &*context, point, number)
         }
@@ -649,7 +665,15 @@ fn checked(
                 facts: &known,
                 names: &more,
             };
-            return checked(last, behind(left), behind(right), kinds, &*context, there, at);
+            return checked(
+                last,
+                behind(left),
+                behind(right),
+                kinds,
+                &*context,
+                there,
+                at,
+            );
         }
         count += 1;
         stretch = stretch.step(left, last);
