@@ -1,6 +1,7 @@
 -- What steps of expressions leave of a program.
-use Rattle.std.proofs.Common.{◌≡◌, ℕ, zero, suc, List, Option, Some, None, refl, ◌∙◌}
-use Rattle.ac_expr.specs.Fact.{Fact}
+use Rattle.std.proofs.Common.{◌≡◌, ℕ, zero, suc, Option, Some, None, refl, ◌∙◌}
+use Rattle.expression_lang.specs.Sort.{Scope}
+use Rattle.rule_eq.specs.Rule.{Point}
 use Rattle.monad_lang.specs.Program as M
 use Rattle.monad_lang.specs.Program.{Mon}
 use Rattle.polish.specs.Rewritten.{Choice, direct_step, more, direct_steps}
@@ -35,16 +36,16 @@ same_alike (M.If e m n) = (refl, refl)
 same_alike (M.Loop starts guard test m) = refl
 same_alike m = tt
 
-step_alike : (f : Choice) (fs : List Fact) (m r : Mon) → direct_step f fs m ≡ Some r → Alike m r
-step_alike f fs (M.Ret es) r h = one_case r (λ q. IsLeaf q) (λ xs. M.Ret xs) _ h (λ x j. tt)
-step_alike f fs (M.Bind m xs n) r h = absurd cc
-step_alike f fs (M.Guard e) r h = one_case r (λ q. IsLeaf q) (λ x. M.Guard x) _ h (λ x j. tt)
-step_alike f fs (M.If e m n) r h = one_case r (λ q. IsIf m n q) (λ x. M.If x m n) _ h (λ x j. (refl, refl))
-step_alike f fs (M.Write place e) r h = two_case r (λ q. IsLeaf q) (λ x y. M.Write x y) place e _ _ h (λ x j. tt) (λ y j. tt)
-step_alike f fs (M.Loop starts guard test m) r h =
+step_alike : (f : Scope → Choice) (at : Point) (m r : Mon) → direct_step f at m ≡ Some r → Alike m r
+step_alike f at (M.Ret es) r h = one_case r (λ q. IsLeaf q) (λ xs. M.Ret xs) _ h (λ x j. tt)
+step_alike f at (M.Bind m xs n) r h = absurd cc
+step_alike f at (M.Guard e) r h = one_case r (λ q. IsLeaf q) (λ x. M.Guard x) _ h (λ x j. tt)
+step_alike f at (M.If e m n) r h = one_case r (λ q. IsIf m n q) (λ x. M.If x m n) _ h (λ x j. (refl, refl))
+step_alike f at (M.Write place e) r h = two_case r (λ q. IsLeaf q) (λ x y. M.Write x y) place e _ _ h (λ x j. tt) (λ y j. tt)
+step_alike f at (M.Loop starts guard test m) r h =
     three_case r (λ q. IsLoop m q) (λ x y z. M.Loop x y z m) starts guard test _ _ _ h (λ x j. refl) (λ y j. refl) (λ z j. refl)
-step_alike f fs (M.Call g es) r h = one_case r (λ q. IsLeaf q) (λ xs. M.Call g xs) _ h (λ x j. tt)
-step_alike f fs (M.Pick k) r h = absurd cc
+step_alike f at (M.Call g es) r h = one_case r (λ q. IsLeaf q) (λ xs. M.Call g xs) _ h (λ x j. tt)
+step_alike f at (M.Pick k) r h = absurd cc
 
 leaf_alike : (a b : Mon) → IsLeaf a → Alike a b → IsLeaf b
 leaf_alike (M.Bind m xs n) b h k = absurd h
@@ -76,11 +77,11 @@ then_alike (M.Write q e) b c h k = leaf_alike b c h k
 then_alike (M.Call g es) b c h k = leaf_alike b c h k
 then_alike (M.Pick kind) b c h k = leaf_alike b c h k
 
-pub steps_alike : (f : Choice) (fs : List Fact) (n : ℕ) (m : Mon) → Alike m (last_of m (direct_steps f fs n m))
-steps_alike f fs zero m = same_alike m
-steps_alike f fs (suc n) m = by_step (direct_step f fs m) refl (λ x. steps_alike f fs n x)
+pub steps_alike : (f : Scope → Choice) (at : Point) (n : ℕ) (m : Mon) → Alike m (last_of m (direct_steps f at n m))
+steps_alike f at zero m = same_alike m
+steps_alike f at (suc n) m = by_step (direct_step f at m) refl (λ x. steps_alike f at n x)
   where
-    by_step : (o : Option Mon) → direct_step f fs m ≡ o → ((x : Mon) → Alike x (last_of x (direct_steps f fs n x))) →
-        Alike m (last_of m (more o (λ x. direct_steps f fs n x)))
+    by_step : (o : Option Mon) → direct_step f at m ≡ o → ((x : Mon) → Alike x (last_of x (direct_steps f at n x))) →
+        Alike m (last_of m (more o (λ x. direct_steps f at n x)))
     by_step None e r = same_alike m
-    by_step (Some x) e r = then_alike m x (last_of x (direct_steps f fs n x)) (step_alike f fs m x e) (r x)
+    by_step (Some x) e r = then_alike m x (last_of x (direct_steps f at n x)) (step_alike f at m x e) (r x)

@@ -1,5 +1,5 @@
 -- A program in whose expressions a step is made gives the scalars that it gave.
-use Rattle.std.proofs.Common.{◌≡◌, Bool, true, false, cond, ◌&&◌, List, [], ◌∷◌, Option, Some, None, refl, sym, ap, ap₂, ◌∙◌}
+use Rattle.std.proofs.Common.{◌≡◌, Bool, true, false, cond, ◌&&◌, List, [], ◌∷◌, Option, Some, None, unwrap_or, refl, sym, ap, ap₂, ◌∙◌, subst}
 use Rattle.std.proofs.lemmas.Bool.{and_parts}
 use Rattle.c_values.specs.Name.{Name, are_distinct}
 use Rattle.c_values.specs.Types.{CType, address_width}
@@ -16,8 +16,10 @@ use Rattle.ac_expr.proofs.PartsSorted.{path_sorted}
 use Rattle.monad_lang.specs.Program as M
 use Rattle.monad_lang.specs.Program.{Mon, Place, Start}
 use Rattle.monad_lang.specs.Run.{start_names}
-use Rattle.monad_lang.specs.Sorted.{Setting, setting_with, start_scalars, place_sort, scalars_given, and_then_scalars, where_fits, are_scalars}
+use Rattle.monad_lang.specs.Sorted.{setting_with, start_scalars, place_sort, scalars_given, and_then_scalars, where_fits, are_scalars}
 use Rattle.program_facts.proofs.Sorts.{none_is, then_parts, fits_parts, call_parts}
+use Rattle.rule_eq.specs.Rule.{Point}
+use Rattle.rule_eq.specs.Table.{within}
 use Rattle.polish.specs.Rewritten.{Choice, first_step, path_step, list_step, start_step, place_step, direct_step}
 use Rattle.polish.proofs.Cases.{one_case, two_case, three_case}
 use Rattle.polish.proofs.SortsKept.{KeepsSorts, step_sort, path_along}
@@ -114,7 +116,8 @@ module _ (g : Scope) (f : Choice) (keeps : KeepsSorts g f) (whole : KeepsFree is
             i x path ∙ ap (λ q. cond (is_object g.layout t && width q) (part_place g t path) None)
             (program_step fs p x h _ (word_of_inv (address_width g.layout.target) (program_sort g p) w.1)) ∙ sym (i p path),
         λ y h.
-            i p y ∙ ap (λ q. cond (is_object g.layout t && width (program_sort g p)) q None) (part_step fs t path y h o j.1) ∙ sym
+            i p y ∙ ap (λ q. cond (is_object g.layout t && width (program_sort g p)) q None)
+            (part_step fs t path y h o j.1) ∙ sym
             (i p path),
       )
 
@@ -137,90 +140,107 @@ module _ (g : Scope) (f : Choice) (keeps : KeepsSorts g f) (whole : KeepsFree is
       one_case r (λ q. place_sort g q ≡ place_sort g (M.Global x path)) (λ y. M.Global x y) _ h
       (λ y j. global_step fs (g.globals x) path y j o c)
 
-module _ (l : Layout) (f : Choice) (keeps : (g : Scope) → g.layout ≡ l → KeepsSorts g f) (whole : KeepsFree is_part_of_value f)
-  where
-    pub direct_gives : (t : Setting) → t.scope.layout ≡ l → (fs : List Fact) (m r : Mon) → direct_step f fs m ≡ Some r →
-        (cs : List Scalar) → scalars_given t m ≡ Some cs → scalars_given t r ≡ Some cs
-    direct_gives t same fs (M.Ret es) r h cs c =
-        one_case r (λ q. scalars_given t q ≡ Some cs) (λ xs. M.Ret xs) _ h
-        (λ x j. list_scalars t.scope f (keeps t.scope same) whole fs es x j cs c ∙ c)
-    direct_gives t same fs (M.Bind m xs n) r h cs c = absurd cc
-    direct_gives t same fs (M.Guard e) r h cs c =
-        let k = fits_parts (is_truth (program_sort t.scope e)) (Some []) cs c in
-        one_case r (λ q. scalars_given t q ≡ Some cs) (λ x. M.Guard x) _ h
-        (λ x j. ap (λ o. where_fits (is_truth o) (Some [])) (truth_step t.scope f (keeps t.scope same) whole fs e x j k.0) ∙ c)
-    direct_gives t same fs (M.If e m n) r h cs c =
-        let o = then_parts (scalars_given t m)
-        (λ ss. where_fits (is_truth (program_sort t.scope e) && are_scalars ss (scalars_given t n)) (Some ss)) cs c in
-        let k = fits_parts (is_truth (program_sort t.scope e) && are_scalars o.0 (scalars_given t n)) (Some o.0) cs o.2 in
-        let b = and_parts (is_truth (program_sort t.scope e)) (are_scalars o.0 (scalars_given t n)) k.0 in
-        one_case r (λ q. scalars_given t q ≡ Some cs) (λ x. M.If x m n) _ h
-        (λ x j.
-        ap
-        (λ q.
-        and_then_scalars (scalars_given t m)
-        (λ ss. where_fits (is_truth q && are_scalars ss (scalars_given t n)) (Some ss)))
-        (truth_step t.scope f (keeps t.scope same) whole fs e x j b.0) ∙ c)
-    direct_gives t same fs (M.Write place e) r h cs c =
-        let k = fits_parts (fits_place (place_sort t.scope place) (program_sort t.scope e)) (Some []) cs c in
-        let b = both_fit (place_sort t.scope place) (program_sort t.scope e) k.0 in
-        two_case r (λ q. scalars_given t q ≡ Some cs) (λ x y. M.Write x y) place e _ _ h
-        (λ x j.
-        ap (λ q. where_fits (fits_place q (program_sort t.scope e)) (Some []))
-        (place_kept t.scope f (keeps t.scope same) whole fs place x j b.0.0 b.0.1) ∙ c)
-        (λ y j.
-        ap (λ q. where_fits (fits_place (place_sort t.scope place) q) (Some []))
-        (program_step t.scope f (keeps t.scope same) whole fs e y j b.1.0 b.1.1) ∙ c)
-    direct_gives t same fs (M.Loop starts guard test m) r h cs c =
-        let o = then_parts (start_scalars t.scope starts) (turn starts guard test) cs c in
-        let inner = setting_with (start_names starts) o.0 t in
-        let k = fits_parts
-        (are_distinct (start_names starts) && is_truth (program_sort inner.scope guard) && is_truth
-        (program_sort inner.scope test)
-        && are_scalars o.0 (scalars_given inner m))
-        (Some o.0) cs o.2 in
-        let b = and_parts
-        (are_distinct (start_names starts) && is_truth (program_sort inner.scope guard) && is_truth
-        (program_sort inner.scope test))
-        (are_scalars o.0 (scalars_given inner m)) k.0 in
-        let d = and_parts (are_distinct (start_names starts) && is_truth (program_sort inner.scope guard))
-        (is_truth (program_sort inner.scope test)) b.0 in
-        let a = and_parts (are_distinct (start_names starts)) (is_truth (program_sort inner.scope guard)) d.0 in
-        three_case r (λ q. scalars_given t q ≡ Some cs) (λ x y z. M.Loop x y z m) starts guard test _ _ _ h
-        (λ x j.
-        let i = start_scalars_kept t.scope f (keeps t.scope same) whole fs starts x j o.0 o.1 in
-        ap₂ (λ q xs. and_then_scalars q (λ ss. turn_named xs guard test ss)) i.0 i.1 ∙ c)
-        (λ y j. ap (λ q. and_then_scalars q (turn starts y test)) o.1
-        ∙ ap
-        (λ q.
-        where_fits
-        (are_distinct (start_names starts) && is_truth q && is_truth (program_sort inner.scope test) && are_scalars o.0
-        (scalars_given inner m))
-        (Some o.0))
-        (truth_step inner.scope f (keeps inner.scope same) whole [] guard y j a.1) ∙ o.2)
-        (λ z j. ap (λ q. and_then_scalars q (turn starts guard z)) o.1
-        ∙ ap
-        (λ q.
-        where_fits
-        (are_distinct (start_names starts) && is_truth (program_sort inner.scope guard) && is_truth q && are_scalars o.0
-        (scalars_given inner m))
-        (Some o.0))
-        (truth_step inner.scope f (keeps inner.scope same) whole (Whole guard ∷ []) test z j d.1) ∙ o.2)
-      where
-        turn_named : List Name → Exp → Exp → List Scalar → Option (List Scalar)
-        turn_named xs a b ss =
-            let inner = setting_with xs ss t in
-            where_fits
-            (are_distinct xs && is_truth (program_sort inner.scope a) && is_truth (program_sort inner.scope b) && are_scalars ss
-            (scalars_given inner m))
-            (Some ss)
+module _ (f : Scope → Choice) (whole : (g : Scope) → KeepsFree is_part_of_value (f g)) (l : Layout)
+    (keeps : (g : Scope) → g.layout ≡ l → KeepsSorts g (f g)) where
+  -- a step in a truth value of the scope of a loop's names
+  inner_step : (at : Point) → at.setting.scope.layout ≡ l → (starts : List Start) (cs : List Scalar) →
+      start_scalars at.setting.scope starts ≡ Some cs → (fs : List Fact) (a r : Exp) →
+      first_step (f (within starts [] at).setting.scope) fs a ≡ Some r →
+      is_truth (program_sort (setting_with (start_names starts) cs at.setting).scope a) ≡ true →
+      program_sort (setting_with (start_names starts) cs at.setting).scope r
+      ≡ program_sort (setting_with (start_names starts) cs at.setting).scope a
+  inner_step at same starts cs e fs a r h k =
+      let inner = setting_with (start_names starts) cs at.setting in
+      truth_step inner.scope (f inner.scope) (keeps inner.scope same) (whole inner.scope) fs a r
+      (subst (λ o. first_step (f (setting_with (start_names starts) (unwrap_or o []) at.setting).scope) fs a ≡ Some r) e h) k
 
-        turn : List Start → Exp → Exp → List Scalar → Option (List Scalar)
-        turn ss a b cs = turn_named (start_names ss) a b cs
-    direct_gives t same fs (M.Call g es) r h cs c =
-        let p = call_parts t.sort_for (signature t.functions g) (scalars_of t.scope es) cs c in
-        one_case r (λ q. scalars_given t q ≡ Some cs) (λ xs. M.Call g xs) _ h
-        (λ x j.
-        ap (λ q. call_scalars t.sort_for (signature t.functions g) q)
-        (list_scalars t.scope f (keeps t.scope same) whole fs es x j _ p.2) ∙ c)
-    direct_gives t same fs (M.Pick k) r h cs c = absurd cc
+  abbrev here : Point → Scope
+  here at = at.setting.scope
+
+  pub direct_gives : (at : Point) → (here at).layout ≡ l → (m r : Mon) → direct_step f at m ≡ Some r →
+      (cs : List Scalar) → scalars_given at.setting m ≡ Some cs → scalars_given at.setting r ≡ Some cs
+  direct_gives at same (M.Ret es) r h cs c =
+      one_case r (λ q. scalars_given at.setting q ≡ Some cs) (λ xs. M.Ret xs) _ h
+      (λ x j. list_scalars (here at) (f (here at)) (keeps (here at) same) (whole (here at)) at.facts es x j cs c ∙ c)
+  direct_gives at same (M.Bind m xs n) r h cs c = absurd cc
+  direct_gives at same (M.Guard e) r h cs c =
+      let k = fits_parts (is_truth (program_sort (here at) e)) (Some []) cs c in
+      one_case r (λ q. scalars_given at.setting q ≡ Some cs) (λ x. M.Guard x) _ h
+      (λ x j. ap (λ o. where_fits (is_truth o) (Some []))
+      (truth_step (here at) (f (here at)) (keeps (here at) same) (whole (here at)) at.facts e x j k.0) ∙ c)
+  direct_gives at same (M.If e m n) r h cs c =
+      let o = then_parts (scalars_given at.setting m)
+      (λ ss. where_fits (is_truth (program_sort (here at) e) && are_scalars ss (scalars_given at.setting n)) (Some ss)) cs c in
+      let k = fits_parts (is_truth (program_sort (here at) e) && are_scalars o.0 (scalars_given at.setting n))
+      (Some o.0) cs o.2 in
+      let b = and_parts (is_truth (program_sort (here at) e)) (are_scalars o.0 (scalars_given at.setting n)) k.0 in
+      one_case r (λ q. scalars_given at.setting q ≡ Some cs) (λ x. M.If x m n) _ h
+      (λ x j.
+      ap
+      (λ q.
+      and_then_scalars (scalars_given at.setting m)
+      (λ ss. where_fits (is_truth q && are_scalars ss (scalars_given at.setting n)) (Some ss)))
+      (truth_step (here at) (f (here at)) (keeps (here at) same) (whole (here at)) at.facts e x j b.0) ∙ c)
+  direct_gives at same (M.Write place e) r h cs c =
+      let k = fits_parts (fits_place (place_sort (here at) place) (program_sort (here at) e)) (Some []) cs c in
+      let b = both_fit (place_sort (here at) place) (program_sort (here at) e) k.0 in
+      two_case r (λ q. scalars_given at.setting q ≡ Some cs) (λ x y. M.Write x y) place e _ _ h
+      (λ x j.
+      ap (λ q. where_fits (fits_place q (program_sort (here at) e)) (Some []))
+      (place_kept (here at) (f (here at)) (keeps (here at) same) (whole (here at)) at.facts place x j b.0.0 b.0.1) ∙ c)
+      (λ y j.
+      ap (λ q. where_fits (fits_place (place_sort (here at) place) q) (Some []))
+      (program_step (here at) (f (here at)) (keeps (here at) same) (whole (here at)) at.facts e y j b.1.0 b.1.1) ∙ c)
+  direct_gives at same (M.Loop starts guard test m) r h cs c =
+      let o = then_parts (start_scalars (here at) starts) (turn starts guard test) cs c in
+      let inner = setting_with (start_names starts) o.0 at.setting in
+      let k = fits_parts
+      (are_distinct (start_names starts) && is_truth (program_sort inner.scope guard) && is_truth
+      (program_sort inner.scope test)
+      && are_scalars o.0 (scalars_given inner m))
+      (Some o.0) cs o.2 in
+      let b = and_parts
+      (are_distinct (start_names starts) && is_truth (program_sort inner.scope guard) && is_truth
+      (program_sort inner.scope test))
+      (are_scalars o.0 (scalars_given inner m)) k.0 in
+      let d = and_parts (are_distinct (start_names starts) && is_truth (program_sort inner.scope guard))
+      (is_truth (program_sort inner.scope test)) b.0 in
+      let a = and_parts (are_distinct (start_names starts)) (is_truth (program_sort inner.scope guard)) d.0 in
+      three_case r (λ q. scalars_given at.setting q ≡ Some cs) (λ x y z. M.Loop x y z m) starts guard test _ _ _ h
+      (λ x j.
+      let i = start_scalars_kept (here at) (f (here at)) (keeps (here at) same) (whole (here at)) at.facts starts x j o.0 o.1 in
+      ap₂ (λ q xs. and_then_scalars q (λ ss. turn_named xs guard test ss)) i.0 i.1 ∙ c)
+      (λ y j. ap (λ q. and_then_scalars q (turn starts y test)) o.1
+      ∙ ap
+      (λ q.
+      where_fits
+      (are_distinct (start_names starts) && is_truth q && is_truth (program_sort inner.scope test) && are_scalars o.0
+      (scalars_given inner m))
+      (Some o.0))
+      (inner_step at same starts o.0 o.1 [] guard y j a.1) ∙ o.2)
+      (λ z j. ap (λ q. and_then_scalars q (turn starts guard z)) o.1
+      ∙ ap
+      (λ q.
+      where_fits
+      (are_distinct (start_names starts) && is_truth (program_sort inner.scope guard) && is_truth q && are_scalars o.0
+      (scalars_given inner m))
+      (Some o.0))
+      (inner_step at same starts o.0 o.1 (Whole guard ∷ []) test z j d.1) ∙ o.2)
+    where
+      turn_named : List Name → Exp → Exp → List Scalar → Option (List Scalar)
+      turn_named xs a b ss =
+          let inner = setting_with xs ss at.setting in
+          where_fits
+          (are_distinct xs && is_truth (program_sort inner.scope a) && is_truth (program_sort inner.scope b) && are_scalars ss
+          (scalars_given inner m))
+          (Some ss)
+
+      turn : List Start → Exp → Exp → List Scalar → Option (List Scalar)
+      turn ss a b cs = turn_named (start_names ss) a b cs
+  direct_gives at same (M.Call g es) r h cs c =
+      let p = call_parts at.setting.sort_for (signature at.setting.functions g) (scalars_of (here at) es) cs c in
+      one_case r (λ q. scalars_given at.setting q ≡ Some cs) (λ xs. M.Call g xs) _ h
+      (λ x j.
+      ap (λ q. call_scalars at.setting.sort_for (signature at.setting.functions g) q)
+      (list_scalars (here at) (f (here at)) (keeps (here at) same) (whole (here at)) at.facts es x j _ p.2) ∙ c)
+  direct_gives at same (M.Pick k) r h cs c = absurd cc

@@ -1,19 +1,15 @@
 -- Each step leaves fewer nodes, so there are as many steps as there were nodes at most, and then none can be made.
-use Rattle.std.proofs.Common.{◌≡◌, ℕ, zero, suc, ◌+◌, ◌<◌, ◌≤◌, true, false, List, [], ◌∷◌, Option, Some, None, refl, sym, ap, ◌∙◌, arith}
-use Rattle.c_values.specs.Number.{least, greatest}
-use Rattle.c_values.specs.Layout.{Layout}
+use Rattle.std.proofs.Common.{◌≡◌, ℕ, zero, suc, ◌+◌, ◌<◌, ◌≤◌, List, [], ◌∷◌, Option, Some, None, refl, sym, ap, ◌∙◌, arith}
 use Rattle.expression_lang.specs.Expression.{Exp, Var, WordLit, NumberLit, TruthLit, WordBinary, WordShift, WordUnary, WordCompare, Cast, ToNat, ToInt, ToWord, Arith, Negate, Lt, Le, Between, Eq, And, Or, Imp, Not, If, Padd, At, Load, Read, Tagged, PtrOk, Global, Sel, Upd, Path, Here, IntoField, IntoElement}
+use Rattle.expression_lang.specs.Sort.{Scope}
 use Rattle.ac_expr.specs.Fact.{Fact, Whole, NotTrue}
-use Rattle.ac_expr.specs.Step.{constant_value, IsItsValue}
 use Rattle.monad_lang.specs.Program as M
 use Rattle.monad_lang.specs.Program.{Mon, Place, Start}
+use Rattle.rule_eq.specs.Rule.{Point}
+use Rattle.rule_eq.specs.Table.{within}
 use Rattle.polish.specs.Rewritten.{Choice, first_step, path_step, list_step, start_step, place_step, direct_step, more, direct_steps, nodes, path_nodes, list_nodes, start_nodes, place_nodes, direct_nodes}
-use Rattle.polish.specs.Folded.{folded}
 use Rattle.polish.specs.Polished.{last_of}
-use Rattle.polish.specs.Pruned.{converted_back}
 use Rattle.polish.proofs.Cases.{first_case, one_case, two_case, three_case}
-use Rattle.polish.proofs.Folds.{IsConstant, is_constant, folds}
-use Rattle.polish.proofs.PrunedReached.{in_range}
 
 -- what stands in an expression's place is smaller
 abbrev pub Shrinks : Choice → Type 0
@@ -194,169 +190,94 @@ module _ (f : Choice) (shrinks : Shrinks f) where
   place_fewer fs (M.Global x path) r h =
       one_case r (λ z. place_nodes z < path_nodes path) (λ y. M.Global x y) _ h (λ y j. path_fewer fs path y j)
 
-  pub direct_fewer : (fs : List Fact) (m r : Mon) → direct_step f fs m ≡ Some r → direct_nodes r < direct_nodes m
-  direct_fewer fs (M.Ret es) r h =
-      one_case r (λ z. direct_nodes z < list_nodes es) (λ xs. M.Ret xs) _ h (λ x j. list_fewer fs es x j)
-  direct_fewer fs (M.Bind m xs n) r h = absurd cc
-  direct_fewer fs (M.Guard e) r h = one_case r (λ z. direct_nodes z < nodes e) (λ x. M.Guard x) _ h (λ x j. step_fewer fs e x j)
-  direct_fewer fs (M.If e m n) r h = one_case r (λ z. direct_nodes z < nodes e) (λ x. M.If x m n) _ h (λ x j. step_fewer fs e x j)
-  direct_fewer fs (M.Write place e) r h =
-      two_case r (λ z. direct_nodes z < place_nodes place + nodes e) (λ x y. M.Write x y) place e (place_step f fs place)
-      (first_step f fs e) h
-      (λ x j. omega (arith, place_fewer fs place x j)) (λ y j. omega (arith, step_fewer fs e y j))
-  direct_fewer fs (M.Loop starts guard test m) r h =
-      three_case r (λ z. direct_nodes z < start_nodes starts + nodes guard + nodes test) (λ x y z. M.Loop x y z m) starts guard
-      test (start_step f fs starts) (first_step f [] guard) (first_step f (Whole guard ∷ []) test) h
-      (λ x j. omega (arith, start_fewer fs starts x j)) (λ y j. omega (arith, step_fewer [] guard y j))
-      (λ z j. omega (arith, step_fewer (Whole guard ∷ []) test z j))
-  direct_fewer fs (M.Call g es) r h =
-      one_case r (λ z. direct_nodes z < list_nodes es) (λ xs. M.Call g xs) _ h (λ x j. list_fewer fs es x j)
-  direct_fewer fs (M.Pick k) r h = absurd cc
+module _ (f : Scope → Choice) (shrinks : (g : Scope) → Shrinks (f g)) where
+  abbrev inner : List Start → Point → Scope
+  inner starts at = (within starts [] at).setting.scope
 
-  same_steps : (fs : List Fact) (n k : ℕ) (m : Mon) → direct_nodes m ≤ n → direct_nodes m ≤ k →
-      direct_steps f fs n m ≡ direct_steps f fs k m
-  same_steps fs zero zero m h i = refl
-  same_steps fs zero (suc k) m h i = sym (no_step fs k m h)
+  abbrev here : Point → Choice
+  here at = f at.setting.scope
+
+  abbrev small : (at : Point) → Shrinks (here at)
+  small at = shrinks at.setting.scope
+
+  pub direct_fewer : (at : Point) (m r : Mon) → direct_step f at m ≡ Some r → direct_nodes r < direct_nodes m
+  direct_fewer at (M.Ret es) r h =
+      one_case r (λ z. direct_nodes z < list_nodes es) (λ xs. M.Ret xs) _ h
+      (λ x j. list_fewer (here at) (small at) at.facts es x j)
+  direct_fewer at (M.Bind m xs n) r h = absurd cc
+  direct_fewer at (M.Guard e) r h = one_case r (λ z. direct_nodes z < nodes e) (λ x. M.Guard x) _ h
+      (λ x j. step_fewer (here at) (small at) at.facts e x j)
+  direct_fewer at (M.If e m n) r h = one_case r (λ z. direct_nodes z < nodes e) (λ x. M.If x m n) _ h
+      (λ x j. step_fewer (here at) (small at) at.facts e x j)
+  direct_fewer at (M.Write place e) r h =
+      two_case r (λ z. direct_nodes z < place_nodes place + nodes e) (λ x y. M.Write x y) place e
+      (place_step (here at) at.facts place)
+      (first_step (here at) at.facts e) h
+      (λ x j. omega (arith, place_fewer (here at) (small at) at.facts place x j))
+      (λ y j. omega (arith, step_fewer (here at) (small at) at.facts e y j))
+  direct_fewer at (M.Loop starts guard test m) r h =
+      three_case r (λ z. direct_nodes z < start_nodes starts + nodes guard + nodes test) (λ x y z. M.Loop x y z m) starts guard
+      test (start_step (here at) at.facts starts) (first_step (f (inner starts at)) [] guard)
+      (first_step (f (inner starts at)) (Whole guard ∷ []) test) h
+      (λ x j. omega (arith, start_fewer (here at) (small at) at.facts starts x j))
+      (λ y j. omega (arith, step_fewer (f (inner starts at)) (shrinks (inner starts at)) [] guard y j))
+      (λ z j. omega (arith, step_fewer (f (inner starts at)) (shrinks (inner starts at)) (Whole guard ∷ []) test z j))
+  direct_fewer at (M.Call g es) r h =
+      one_case r (λ z. direct_nodes z < list_nodes es) (λ xs. M.Call g xs) _ h
+      (λ x j. list_fewer (here at) (small at) at.facts es x j)
+  direct_fewer at (M.Pick k) r h = absurd cc
+
+  same_steps : (at : Point) (n k : ℕ) (m : Mon) → direct_nodes m ≤ n → direct_nodes m ≤ k →
+      direct_steps f at n m ≡ direct_steps f at k m
+  same_steps at zero zero m h i = refl
+  same_steps at zero (suc k) m h i = sym (no_step at k m h)
     where
-      no_step : (fs : List Fact) (k : ℕ) (m : Mon) → direct_nodes m ≤ zero →
-          more (direct_step f fs m) (λ x. direct_steps f fs k x) ≡ []
-      no_step fs k m h = by_step (direct_step f fs m) refl
+      no_step : (at : Point) (k : ℕ) (m : Mon) → direct_nodes m ≤ zero →
+          more (direct_step f at m) (λ x. direct_steps f at k x) ≡ []
+      no_step at k m h = by_step (direct_step f at m) refl
         where
-          by_step : (o : Option Mon) → direct_step f fs m ≡ o → more o (λ x. direct_steps f fs k x) ≡ []
+          by_step : (o : Option Mon) → direct_step f at m ≡ o → more o (λ x. direct_steps f at k x) ≡ []
           by_step None e = refl
-          by_step (Some x) e = absurd (omega (arith, direct_fewer fs m x e, h))
-  same_steps fs (suc n) zero m h i = by_step (direct_step f fs m) refl
+          by_step (Some x) e = absurd (omega (arith, direct_fewer at m x e, h))
+  same_steps at (suc n) zero m h i = by_step (direct_step f at m) refl
     where
-      by_step : (o : Option Mon) → direct_step f fs m ≡ o → more o (λ x. direct_steps f fs n x) ≡ []
+      by_step : (o : Option Mon) → direct_step f at m ≡ o → more o (λ x. direct_steps f at n x) ≡ []
       by_step None e = refl
-      by_step (Some x) e = absurd (omega (arith, direct_fewer fs m x e, i))
-  same_steps fs (suc n) (suc k) m h i =
-      by_step (direct_step f fs m) refl (λ x j. same_steps fs n k x (omega (arith, j, h)) (omega (arith, j, i)))
+      by_step (Some x) e = absurd (omega (arith, direct_fewer at m x e, i))
+  same_steps at (suc n) (suc k) m h i =
+      by_step (direct_step f at m) refl (λ x j. same_steps at n k x (omega (arith, j, h)) (omega (arith, j, i)))
     where
-      by_step : (o : Option Mon) → direct_step f fs m ≡ o →
-          ((x : Mon) → direct_nodes x < direct_nodes m → direct_steps f fs n x ≡ direct_steps f fs k x) →
-          more o (λ x. direct_steps f fs n x) ≡ more o (λ x. direct_steps f fs k x)
+      by_step : (o : Option Mon) → direct_step f at m ≡ o →
+          ((x : Mon) → direct_nodes x < direct_nodes m → direct_steps f at n x ≡ direct_steps f at k x) →
+          more o (λ x. direct_steps f at n x) ≡ more o (λ x. direct_steps f at k x)
       by_step None e r = refl
-      by_step (Some x) e r = ap (λ xs. x ∷ xs) (r x (direct_fewer fs m x e))
+      by_step (Some x) e r = ap (λ xs. x ∷ xs) (r x (direct_fewer at m x e))
 
   -- Steps are made until none can be.
-  pub steps_go_on : (fs : List Fact) (m : Mon) →
-      direct_steps f fs (direct_nodes m) m ≡ more (direct_step f fs m) (λ x. direct_steps f fs (direct_nodes x) x)
-  steps_go_on fs m =
-      same_steps fs (direct_nodes m) (suc (direct_nodes m)) m (omega arith) (omega arith) ∙ by_step (direct_step f fs m) refl
+  pub steps_go_on : (at : Point) (m : Mon) →
+      direct_steps f at (direct_nodes m) m ≡ more (direct_step f at m) (λ x. direct_steps f at (direct_nodes x) x)
+  steps_go_on at m =
+      same_steps at (direct_nodes m) (suc (direct_nodes m)) m (omega arith) (omega arith) ∙ by_step (direct_step f at m) refl
     where
-      by_step : (o : Option Mon) → direct_step f fs m ≡ o →
-          more o (λ x. direct_steps f fs (direct_nodes m) x) ≡ more o (λ x. direct_steps f fs (direct_nodes x) x)
+      by_step : (o : Option Mon) → direct_step f at m ≡ o →
+          more o (λ x. direct_steps f at (direct_nodes m) x) ≡ more o (λ x. direct_steps f at (direct_nodes x) x)
       by_step None e = refl
       by_step (Some x) e =
           ap (λ xs. x ∷ xs)
-          (same_steps fs (direct_nodes m) (direct_nodes x) x (omega (arith, direct_fewer fs m x e)) (omega arith))
+          (same_steps at (direct_nodes m) (direct_nodes x) x (omega (arith, direct_fewer at m x e)) (omega arith))
 
   -- and then none can be
-  pub steps_end : (fs : List Fact) (n : ℕ) (m : Mon) → direct_nodes m ≤ n →
-      direct_step f fs (last_of m (direct_steps f fs n m)) ≡ None
-  steps_end fs zero m h = by_step (direct_step f fs m) refl
+  pub steps_end : (at : Point) (n : ℕ) (m : Mon) → direct_nodes m ≤ n →
+      direct_step f at (last_of m (direct_steps f at n m)) ≡ None
+  steps_end at zero m h = by_step (direct_step f at m) refl
     where
-      by_step : (o : Option Mon) → direct_step f fs m ≡ o → o ≡ None
+      by_step : (o : Option Mon) → direct_step f at m ≡ o → o ≡ None
       by_step None e = refl
-      by_step (Some x) e = absurd (omega (arith, direct_fewer fs m x e, h))
-  steps_end fs (suc n) m h = by_step (direct_step f fs m) refl (λ x j. steps_end fs n x (omega (arith, j, h)))
+      by_step (Some x) e = absurd (omega (arith, direct_fewer at m x e, h))
+  steps_end at (suc n) m h = by_step (direct_step f at m) refl (λ x j. steps_end at n x (omega (arith, j, h)))
     where
-      by_step : (o : Option Mon) → direct_step f fs m ≡ o →
-          ((x : Mon) → direct_nodes x < direct_nodes m → direct_step f fs (last_of x (direct_steps f fs n x)) ≡ None) →
-          direct_step f fs (last_of m (more o (λ x. direct_steps f fs n x))) ≡ None
+      by_step : (o : Option Mon) → direct_step f at m ≡ o →
+          ((x : Mon) → direct_nodes x < direct_nodes m → direct_step f at (last_of x (direct_steps f at n x)) ≡ None) →
+          direct_step f at (last_of m (more o (λ x. direct_steps f at n x))) ≡ None
       by_step None e r = e
-      by_step (Some x) e r = r x (direct_fewer fs m x e)
-
--- Folding and conversions back are such steps.
-
-some_nodes : (e : Exp) → 1 ≤ nodes e
-some_nodes (Var x) = omega arith
-some_nodes (WordLit w) = omega arith
-some_nodes (NumberLit n) = omega arith
-some_nodes (TruthLit b) = omega arith
-some_nodes (WordBinary op a b) = omega arith
-some_nodes (WordShift op a n) = omega arith
-some_nodes (WordUnary op a) = omega arith
-some_nodes (WordCompare op a b) = omega arith
-some_nodes (Cast op width a) = omega arith
-some_nodes (ToNat a) = omega arith
-some_nodes (ToInt a) = omega arith
-some_nodes (ToWord width a) = omega arith
-some_nodes (Arith op a b) = omega arith
-some_nodes (Negate a) = omega arith
-some_nodes (Lt a b) = omega arith
-some_nodes (Le a b) = omega arith
-some_nodes (Between low a high) = omega arith
-some_nodes (Eq a b) = omega arith
-some_nodes (And a b) = omega arith
-some_nodes (Or a b) = omega arith
-some_nodes (Imp a b) = omega arith
-some_nodes (Not a) = omega arith
-some_nodes (If c a b) = omega arith
-some_nodes (Padd t p n) = omega arith
-some_nodes (At t p path) = omega arith
-some_nodes (Load t p path) = omega arith
-some_nodes (Read t p path) = omega arith
-some_nodes (Tagged t p) = omega arith
-some_nodes (PtrOk t p) = omega arith
-some_nodes (Global x path) = omega arith
-some_nodes (Sel e path) = omega arith
-some_nodes (Upd e path v) = omega arith
-
-one_node : (l : Layout) (e r : Exp) → IsItsValue l e r → nodes r ≡ 1
-one_node l e r h = by_constant r (is_constant (constant_value l e) r h.1)
-  where
-    by_constant : (r : Exp) → IsConstant r → nodes r ≡ 1
-    by_constant (WordLit w) c = refl
-    by_constant (NumberLit n) c = refl
-    by_constant (TruthLit b) c = refl
-    by_constant r c = absurd c
-
-pub fold_shrinks : (l : Layout) → Shrinks (folded l)
-fold_shrinks l fs (Var x) r h = absurd cc
-fold_shrinks l fs (WordLit w) r h = absurd cc
-fold_shrinks l fs (NumberLit n) r h = absurd cc
-fold_shrinks l fs (TruthLit b) r h = absurd cc
-fold_shrinks l fs (WordBinary op a b) r h =
-    omega (arith, one_node l (WordBinary op a b) r (folds l fs (WordBinary op a b) r h), some_nodes a)
-fold_shrinks l fs (WordShift op a n) r h =
-    omega (arith, one_node l (WordShift op a n) r (folds l fs (WordShift op a n) r h), some_nodes a)
-fold_shrinks l fs (WordUnary op a) r h =
-    omega (arith, one_node l (WordUnary op a) r (folds l fs (WordUnary op a) r h), some_nodes a)
-fold_shrinks l fs (WordCompare op a b) r h =
-    omega (arith, one_node l (WordCompare op a b) r (folds l fs (WordCompare op a b) r h), some_nodes a)
-fold_shrinks l fs (Cast op width a) r h =
-    omega (arith, one_node l (Cast op width a) r (folds l fs (Cast op width a) r h), some_nodes a)
-fold_shrinks l fs (ToNat a) r h = omega (arith, one_node l (ToNat a) r (folds l fs (ToNat a) r h), some_nodes a)
-fold_shrinks l fs (ToInt a) r h = omega (arith, one_node l (ToInt a) r (folds l fs (ToInt a) r h), some_nodes a)
-fold_shrinks l fs (ToWord width a) r h =
-    omega (arith, one_node l (ToWord width a) r (folds l fs (ToWord width a) r h), some_nodes a)
-fold_shrinks l fs (Arith op a b) r h = omega (arith, one_node l (Arith op a b) r (folds l fs (Arith op a b) r h), some_nodes a)
-fold_shrinks l fs (Negate a) r h = omega (arith, one_node l (Negate a) r (folds l fs (Negate a) r h), some_nodes a)
-fold_shrinks l fs (Lt a b) r h = omega (arith, one_node l (Lt a b) r (folds l fs (Lt a b) r h), some_nodes a)
-fold_shrinks l fs (Le a b) r h = omega (arith, one_node l (Le a b) r (folds l fs (Le a b) r h), some_nodes a)
-fold_shrinks l fs (Between low a high) r h =
-    omega (arith, one_node l (Between low a high) r (folds l fs (Between low a high) r h), some_nodes a)
-fold_shrinks l fs (Eq a b) r h = omega (arith, one_node l (Eq a b) r (folds l fs (Eq a b) r h), some_nodes a)
-fold_shrinks l fs (And a b) r h = omega (arith, one_node l (And a b) r (folds l fs (And a b) r h), some_nodes a)
-fold_shrinks l fs (Or a b) r h = omega (arith, one_node l (Or a b) r (folds l fs (Or a b) r h), some_nodes a)
-fold_shrinks l fs (Imp a b) r h = omega (arith, one_node l (Imp a b) r (folds l fs (Imp a b) r h), some_nodes a)
-fold_shrinks l fs (Not a) r h = omega (arith, one_node l (Not a) r (folds l fs (Not a) r h), some_nodes a)
-fold_shrinks l fs (If c a b) r h = omega (arith, one_node l (If c a b) r (folds l fs (If c a b) r h), some_nodes a)
-fold_shrinks l fs (Padd t p n) r h = omega (arith, one_node l (Padd t p n) r (folds l fs (Padd t p n) r h), some_nodes p)
-fold_shrinks l fs (At t p path) r h = omega (arith, one_node l (At t p path) r (folds l fs (At t p path) r h), some_nodes p)
-fold_shrinks l fs (Load t p path) r h = omega (arith, one_node l (Load t p path) r (folds l fs (Load t p path) r h), some_nodes p)
-fold_shrinks l fs (Read t p path) r h = omega (arith, one_node l (Read t p path) r (folds l fs (Read t p path) r h), some_nodes p)
-fold_shrinks l fs (Tagged t p) r h = omega (arith, one_node l (Tagged t p) r (folds l fs (Tagged t p) r h), some_nodes p)
-fold_shrinks l fs (PtrOk t p) r h = omega (arith, one_node l (PtrOk t p) r (folds l fs (PtrOk t p) r h), some_nodes p)
-fold_shrinks l fs (Global x path) r h = absurd cc
-fold_shrinks l fs (Sel e path) r h = omega (arith, one_node l (Sel e path) r (folds l fs (Sel e path) r h), some_nodes e)
-fold_shrinks l fs (Upd e path v) r h = omega (arith, one_node l (Upd e path v) r (folds l fs (Upd e path v) r h), some_nodes e)
-
-pub back_shrinks : Shrinks converted_back
-back_shrinks fs (ToNat (ToWord n a)) b h =
-    let e = ap nodes (in_range fs (Between (least false n) a (greatest false n)) a b h).1 in omega (arith, e)
-back_shrinks fs (ToInt (ToWord n a)) b h =
-    let e = ap nodes (in_range fs (Between (least true n) a (greatest true n)) a b h).1 in omega (arith, e)
-back_shrinks fs e b h = absurd cc
+      by_step (Some x) e r = r x (direct_fewer at m x e)

@@ -1,49 +1,34 @@
--- Folding makes one step: the value of constants alone stands in their place, has their sort, and passes no test of heads that
+-- The value of constants alone stands in their place by one step: it has their sort, is one node, and passes no test of heads that
 -- no constant passes.
-use Rattle.std.proofs.Common.{◌≡◌, ℕ, ◌^◌, ◌<◌, nat_lt, Bool, true, false, cond, ◌&&◌, ◌||◌, List, [], Some, None, inr, refl, sym, ap, ◌∙◌, subst}
+use Rattle.std.proofs.Common.{◌≡◌, ℕ, ◌^◌, ◌<◌, nat_lt, Bool, true, false, ◌&&◌, ◌||◌, Option, Some, None, refl, sym, ap, ◌∙◌, subst, arith}
 use Rattle.std.proofs.lemmas.Bool.{and_from, or_parts, lt-ltb}
 use Rattle.c_values.specs.Word.{Word, IsWord}
 use Rattle.c_values.specs.Value.{Value, Bits, Number, Truth, Parts}
 use Rattle.c_values.specs.Layout.{Layout, IsLayout}
-use Rattle.expression_lang.specs.Expression.{Exp, WordLit, NumberLit, TruthLit}
+use Rattle.expression_lang.specs.Expression.{Exp, Var, WordLit, NumberLit, TruthLit, WordBinary, WordShift, WordUnary, WordCompare, Cast, ToNat, ToInt, ToWord, Arith, Negate, Lt, Le, Between, Eq, And, Or, Imp, Not, If, Padd, At, Load, Read, Tagged, PtrOk, Global, Sel, Upd}
 use Rattle.expression_lang.specs.Form.{has, is_part_of_value}
 use Rattle.expression_lang.specs.Sort.{WordSort, NumberSort, TruthSort, Sort, Of, PartsSort, Scope, sort_of, is_width, word_sort, where_holds}
 use Rattle.expression_lang.specs.Signature.{no_env}
 use Rattle.expression_lang.proofs.Fine.{HasSort, fine}
-use Rattle.ac_expr.specs.Fact.{Fact}
 use Rattle.ac_expr.specs.Step.{is_open, no_state, constant_value, is_wide, AreConstants, constant, IsItsValue}
-use Rattle.monad_lang.specs.Program.{Mon}
 use Rattle.program_facts.proofs.Sorts.{none_is}
-use Rattle.polish.specs.Rewritten.{direct_nodes}
-use Rattle.polish.specs.Folded.{folded}
-use Rattle.polish.specs.Polished.{folded_in, polished}
+use Rattle.ac_expr.specs.CodeConstants.{computed, as_constant}
+use Rattle.ac_expr.proofs.ConstantsSound.{right}
+use Rattle.polish.specs.Rewritten.{nodes}
+use Rattle.polish.specs.Shortened.{folded}
 use Rattle.polish.proofs.Cases.{some_same}
-use Rattle.polish.proofs.Apart.{MakesSteps, Extends}
-use Rattle.polish.proofs.SortsKept.{KeepsSorts}
-use Rattle.polish.proofs.TestsKept.{KeepsFree}
 use Rattle.polish.proofs.Closed.{closed_sort, weaker, IsGood, closed_good}
-use Rattle.polish.proofs.Accepted.{IsReached, steps_reach, program_reached}
+use Rattle.polish.proofs.Shorter.{some_nodes}
 
-by_test : (l : Layout) (e r : Exp) (b : Bool) → has (λ x. is_open x || is_wide (constant_value l x)) e ≡ b →
-    cond b None (constant (constant_value l e)) ≡ Some r → IsItsValue l e r
-by_test l e r true h k = absurd cc
-by_test l e r false h k = (h, k)
+by_value : (l : Layout) (e r : Exp) (o : Option Value) → computed l e ≡ o → as_constant o ≡ Some r → IsItsValue l e r
+by_value l e r None h k = absurd cc
+by_value l e r (Some v) h k = let x = right l e v h in (x.constants, ap constant x.value ∙ k)
 
-pub folds : (l : Layout) (fs : List Fact) (e r : Exp) → folded l fs e ≡ Some r → IsItsValue l e r
-folds l fs (WordLit w) r h = absurd cc
-folds l fs (NumberLit n) r h = absurd cc
-folds l fs (TruthLit b) r h = absurd cc
-folds l fs e r h = by_test l e r (has (λ x. is_open x || is_wide (constant_value l x)) e) refl h
-
--- whatever is known
-abbrev pub Whatever : List Fact → List Fact → Type 0
-Whatever fs gs = Unit {0}
-
-whatever : Extends Whatever
-whatever = record { none = tt; more = λ k fs gs u. tt }
-
-fold_steps : (l : Layout) → MakesSteps Whatever l (folded l)
-fold_steps l g same fs gs u a b h = inr (subst (λ m. IsItsValue m a b) (sym same) (folds l fs a b h))
+pub folds : (l : Layout) (e r : Exp) → folded l e ≡ Some r → IsItsValue l e r
+folds l (WordLit w) r h = absurd cc
+folds l (NumberLit n) r h = absurd cc
+folds l (TruthLit b) r h = absurd cc
+folds l e r h = by_value l e r (computed l e) refl h
 
 -- a constant
 
@@ -59,10 +44,11 @@ is_constant (Number n) e h = subst IsConstant (some_same (NumberLit n) e h) tt
 is_constant (Truth b) e h = subst IsConstant (some_same (TruthLit b) e h) tt
 is_constant (Parts vs) e h = absurd cc
 
-pub fold_free : (l : Layout) (test : Exp → Bool) → ((e : Exp) → IsConstant e → has test e ≡ false) → KeepsFree test (folded l)
-fold_free l test c fs a b h k = c b (is_constant (constant_value l a) b (folds l fs a b h).1)
+pub fold_free : (l : Layout) (test : Exp → Bool) → ((e : Exp) → IsConstant e → has test e ≡ false) → (a b : Exp) →
+    folded l a ≡ Some b → has test b ≡ false
+fold_free l test c a b h = c b (is_constant (constant_value l a) b (folds l a b h).1)
 
-whole_constant : (e : Exp) → IsConstant e → has is_part_of_value e ≡ false
+pub whole_constant : (e : Exp) → IsConstant e → has is_part_of_value e ≡ false
 whole_constant (WordLit w) c = refl
 whole_constant (NumberLit n) c = refl
 whole_constant (TruthLit b) c = refl
@@ -107,19 +93,59 @@ typed g laid e h o k =
     (fine (bare g.layout) laid no_env no_state (λ x c i. none_is i) (λ x t i. none_is i) (tt, tt) e o
     (closed_sort g.layout (λ x. None) g.names (λ x. None) g.globals e h ∙ k)).sort
 
-fold_sorts : (l : Layout) → IsLayout l → (g : Scope) → g.layout ≡ l → KeepsSorts g (folded l)
-fold_sorts l laid g same fs a b h o k =
-    let v = folds l fs a b h in
-    let c = not_open l a v.0 in
-    constant_sorts g o (constant_value g.layout a) b (typed g (subst IsLayout (sym same) laid) a c o k) (closed_good g a c o k)
-    (ap (λ m. constant (constant_value m a)) same ∙ v.1)
+pub fold_sorts : (g : Scope) → IsLayout g.layout → (a b : Exp) → folded g.layout a ≡ Some b → (o : Sort) →
+    sort_of g a ≡ Some o → sort_of g b ≡ Some o
+fold_sorts g laid a b h o k =
+    let v = folds g.layout a b h in
+    let c = not_open g.layout a v.0 in
+    constant_sorts g o (constant_value g.layout a) b (typed g laid a c o k) (closed_good g a c o k) v.1
 
--- what is folded is reached
-pub folded_reached : (l : Layout) → IsLayout l → (m : Mon) → IsReached l m (folded_in l m)
-folded_reached l laid m at same cs g =
-    steps_reach Whatever whatever l (folded l) (fold_steps l) (fold_sorts l laid) (fold_free l is_part_of_value whole_constant) []
-    at same tt (direct_nodes m) m cs g
+one_node : (l : Layout) (e r : Exp) → folded l e ≡ Some r → nodes r ≡ 1
+one_node l e r h = by_constant r (is_constant (constant_value l e) r (folds l e r h).1)
+  where
+    by_constant : (r : Exp) → IsConstant r → nodes r ≡ 1
+    by_constant (WordLit w) c = refl
+    by_constant (NumberLit n) c = refl
+    by_constant (TruthLit b) c = refl
+    by_constant r c = absurd c
 
--- A program is taken to the tidy one, at every point of the layout where it is well-sorted, and that gives the same scalars.
-pub polished_reached : (l : Layout) → IsLayout l → (m : Mon) → IsReached l m (polished l m)
-polished_reached l laid m = program_reached l (folded_reached l laid) m
+pub fold_nodes : (l : Layout) (e r : Exp) → folded l e ≡ Some r → nodes r < nodes e
+fold_nodes l (Var x) r h = absurd cc
+fold_nodes l (WordLit w) r h = absurd cc
+fold_nodes l (NumberLit n) r h = absurd cc
+fold_nodes l (TruthLit b) r h = absurd cc
+fold_nodes l (WordBinary op a b) r h =
+    omega (arith, one_node l (WordBinary op a b) r h, some_nodes a)
+fold_nodes l (WordShift op a n) r h =
+    omega (arith, one_node l (WordShift op a n) r h, some_nodes a)
+fold_nodes l (WordUnary op a) r h =
+    omega (arith, one_node l (WordUnary op a) r h, some_nodes a)
+fold_nodes l (WordCompare op a b) r h =
+    omega (arith, one_node l (WordCompare op a b) r h, some_nodes a)
+fold_nodes l (Cast op width a) r h =
+    omega (arith, one_node l (Cast op width a) r h, some_nodes a)
+fold_nodes l (ToNat a) r h = omega (arith, one_node l (ToNat a) r h, some_nodes a)
+fold_nodes l (ToInt a) r h = omega (arith, one_node l (ToInt a) r h, some_nodes a)
+fold_nodes l (ToWord width a) r h =
+    omega (arith, one_node l (ToWord width a) r h, some_nodes a)
+fold_nodes l (Arith op a b) r h = omega (arith, one_node l (Arith op a b) r h, some_nodes a)
+fold_nodes l (Negate a) r h = omega (arith, one_node l (Negate a) r h, some_nodes a)
+fold_nodes l (Lt a b) r h = omega (arith, one_node l (Lt a b) r h, some_nodes a)
+fold_nodes l (Le a b) r h = omega (arith, one_node l (Le a b) r h, some_nodes a)
+fold_nodes l (Between low a high) r h =
+    omega (arith, one_node l (Between low a high) r h, some_nodes a)
+fold_nodes l (Eq a b) r h = omega (arith, one_node l (Eq a b) r h, some_nodes a)
+fold_nodes l (And a b) r h = omega (arith, one_node l (And a b) r h, some_nodes a)
+fold_nodes l (Or a b) r h = omega (arith, one_node l (Or a b) r h, some_nodes a)
+fold_nodes l (Imp a b) r h = omega (arith, one_node l (Imp a b) r h, some_nodes a)
+fold_nodes l (Not a) r h = omega (arith, one_node l (Not a) r h, some_nodes a)
+fold_nodes l (If c a b) r h = omega (arith, one_node l (If c a b) r h, some_nodes a)
+fold_nodes l (Padd t p n) r h = omega (arith, one_node l (Padd t p n) r h, some_nodes p)
+fold_nodes l (At t p path) r h = omega (arith, one_node l (At t p path) r h, some_nodes p)
+fold_nodes l (Load t p path) r h = omega (arith, one_node l (Load t p path) r h, some_nodes p)
+fold_nodes l (Read t p path) r h = omega (arith, one_node l (Read t p path) r h, some_nodes p)
+fold_nodes l (Tagged t p) r h = omega (arith, one_node l (Tagged t p) r h, some_nodes p)
+fold_nodes l (PtrOk t p) r h = omega (arith, one_node l (PtrOk t p) r h, some_nodes p)
+fold_nodes l (Global x path) r h = absurd cc
+fold_nodes l (Sel e path) r h = omega (arith, one_node l (Sel e path) r h, some_nodes e)
+fold_nodes l (Upd e path v) r h = omega (arith, one_node l (Upd e path v) r h, some_nodes e)

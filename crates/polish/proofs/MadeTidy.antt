@@ -2,7 +2,6 @@
 use Rattle.std.proofs.Common.{◌≡◌, ℕ, zero, suc, ◌+◌, ◌<◌, ◌≤◌, Bool, true, false, not, cond, ◌||◌, List, [], ◌∷◌, ◌++◌, length, Option, Some, None, refl, sym, ap, ◌∙◌, subst, arith}
 use Rattle.std.proofs.lemmas.Bool.{and_parts, and_from, or_from, cond_both}
 use Rattle.c_values.specs.Name.{Name, is_among}
-use Rattle.c_values.specs.Layout.{Layout}
 use Rattle.expression_lang.specs.Expression.{Exp, TruthLit}
 use Rattle.monad_lang.specs.Program as M
 use Rattle.monad_lang.specs.Program.{Mon, Start}
@@ -11,13 +10,17 @@ use Rattle.monad_lang.specs.Form.{is_bind_ret, all_kept, is_assoc, is_true_guard
 use Rattle.ac_expr.specs.Substituted.{substituted}
 use Rattle.program_facts.specs.Substituted.{starts_substituted, program_substituted}
 use Rattle.rule_eq.specs.Rule as R
-use Rattle.rule_eq.specs.Table.{Taken, before, taken_at, with_values}
+use Rattle.rule_eq.specs.Rule.{Rule, Point}
+use Rattle.rule_eq.specs.Table.{Taken, before, taken_at, with_values, knowing, behind, within}
+use Rattle.rule_trees.specs.RuleTree.{Tree}
+use Rattle.ac_expr.specs.Fact.{Whole, NotTrue}
 use Rattle.rule_eq.proofs.PutIn.{some_taken}
 use Rattle.polish.specs.Rewritten.{direct_nodes}
-use Rattle.polish.specs.Folded.{folded}
-use Rattle.polish.specs.Polished.{Polished, unchanged, at_once, folded_in, what_is_bound, one_later, first_put, put_taken, put_at, turned, or_shorter, bound, chosen, turning, polished_with, polished_within, positions, polished}
+use Rattle.polish.specs.Shortened.{shortened}
+use Rattle.polish.specs.Known.{is_known}
+use Rattle.polish.specs.Polished.{Polished, Way, leaf, unchanged, at_once, and_then, shortened_in, what_is_bound, one_later, first_put, first_constant, put_taken, put_at, turned, or_shorter, bound, then_all, settled, put_or_settled, parted, followed, chosen, turning, polished_with, polished_within, positions, polished}
 use Rattle.polish.proofs.Alike.{IsIf, IsLoop, IsLeaf, Alike, steps_alike}
-use Rattle.polish.proofs.Accepted.{Put, first_is_put}
+use Rattle.polish.proofs.Accepted.{Put, constant_put, first_is_put}
 
 pub record Tidied (m : Mon) (n : ℕ) : Type 0 where
   pub tidy : is_tidy m ≡ true
@@ -71,7 +74,8 @@ one_fewer (suc i) (e ∷ es) [] k h = absurd cc
 -- A sequence
 
 bind_tidy : (m : Mon) (xs : List Name) (n : Mon) → is_bind_ret m xs n ≡ false → is_assoc m xs n ≡ false →
-    is_true_guard m xs ≡ false → is_ret_one m xs n ≡ false → is_tidy m ≡ true → is_tidy n ≡ true → is_tidy (M.Bind m xs n) ≡ true
+    is_true_guard m xs ≡ false → is_ret_one m xs n ≡ false → is_tidy m ≡ true → is_tidy n ≡ true → is_tidy
+    (M.Bind m xs n) ≡ true
 bind_tidy m xs n a b c d e f =
     and_from _ (is_tidy n)
     (and_from _ (is_tidy m)
@@ -89,7 +93,8 @@ bound_tidied (M.Ret []) [] n h k = record { tidy = k; fewer = omega arith }
 bound_tidied m xs n h k = record { tidy = h; fewer = omega arith }
 
 shorter_tidied : (m : Mon) (xs : List Name) (n : Mon) (p : Polished) → is_tidy m ≡ true → is_tidy n ≡ true →
-    (is_bind_ret m xs n ≡ false → is_true_guard m xs ≡ false → Tidied p.program (positions m + length xs + positions n)) → Tidied
+    (is_bind_ret m xs n ≡ false → is_true_guard m xs ≡ false → Tidied p.program (positions m + length xs + positions n)) →
+    Tidied
     (or_shorter m xs n p).program (positions m + length xs + positions n)
 shorter_tidied m xs n p h k r =
     cond_both (is_bind_ret m xs n) (at_once R.BindRet (what_is_bound m xs n))
@@ -119,52 +124,109 @@ none_put front [] xs n h = refl
 none_put front (e ∷ es) [] n h = refl
 
 -- with what makes programs tidy where they bind fewer names than k
-module _ (again : Mon → Polished) (k : ℕ) (tidies : (m : Mon) → positions m < k → Tidied (again m).program (positions m)) where
-  put_tidied : (es : List Exp) (xs : List Name) (n : Mon) (i : ℕ) → length xs + positions n ≤ k → Put [] i es xs n →
-      Tidied (put_taken again (M.Bind (M.Ret es) xs n) i n (taken_at i es xs)).program (length xs + positions n)
-  put_tidied es xs n i few p =
-      subst (λ o. Tidied (put_taken again (M.Bind (M.Ret es) xs n) i n o).program (length xs + positions n)) (sym p.taken)
+module _ (again : Way) (k : ℕ)
+    (tidies : (at : Point) (m : Mon) → positions m < k → Tidied (again at m).program (positions m)) where
+  put_tidied : (at : Point) (es : List Exp) (xs : List Name) (n : Mon) (i : ℕ) → length xs + positions n ≤ k →
+      Put [] i es xs n →
+      Tidied (put_taken again at (M.Bind (M.Ret es) xs n) i n (taken_at i es xs)).program (length xs + positions n)
+  put_tidied at es xs n i few p =
+      subst (λ o. Tidied (put_taken again at (M.Bind (M.Ret es) xs n) i n o).program (length xs + positions n)) (sym p.taken)
       (let m = program_substituted p.value.name p.value.exp n in
       let w = with_values p.value.exps p.value.names m in
       let a = with_positions p.value.exps p.value.names m in
       let b = positions_put p.value.name p.value.exp n in
       let c = one_fewer i es xs p.value p.taken in
-      more_positions (again w).program (positions w) (length xs + positions n) (omega (arith, a, b, c))
-      (tidies w (omega (arith, a, b, c, few))))
+      more_positions (again at w).program (positions w) (length xs + positions n) (omega (arith, a, b, c))
+      (tidies at w (omega (arith, a, b, c, few))))
 
-  at_tidied : (es : List Exp) (xs : List Name) (n : Mon) (o : Option ℕ) → first_put [] es xs n ≡ o → is_tidy n ≡ true →
+  at_tidied : (at : Point) (es : List Exp) (xs : List Name) (n : Mon) (o : Option ℕ) → first_put [] es xs n ≡ o →
+      is_tidy n ≡ true →
       is_bind_ret (M.Ret es) xs n ≡ false → length xs + positions n ≤ k →
-      Tidied (put_at again es xs n o).program (length xs + positions n)
-  at_tidied es xs n None e t a few =
+      Tidied (put_at again at es xs n o).program (length xs + positions n)
+  at_tidied at es xs n None e t a few =
       record { tidy = bind_tidy (M.Ret es) xs n a refl refl (none_put [] es xs n e) refl t; fewer = omega arith }
-  at_tidied es xs n (Some i) e t a few = put_tidied es xs n i few (first_is_put [] i es xs n e)
+  at_tidied at es xs n (Some i) e t a few = put_tidied at es xs n i few (first_is_put [] i es xs n e)
 
-  pub bound_made : (m : Mon) (xs : List Name) (n : Mon) → is_tidy m ≡ true → is_tidy n ≡ true →
-      positions m + length xs + positions n ≤ k → Tidied (bound again m xs n).program (positions m + length xs + positions n)
-  bound_made (M.Bind a zs b) xs n h t few =
+  pub bound_made : (at : Point) (m : Mon) (xs : List Name) (n : Mon) → is_tidy m ≡ true → is_tidy n ≡ true →
+      positions m + length xs + positions n ≤ k →
+      Tidied (bound again at m xs n).program (positions m + length xs + positions n)
+  bound_made at (M.Bind a zs b) xs n h t few =
+      let w = bound again (behind a zs at) b xs n in
       shorter_tidied (M.Bind a zs b) xs n
-      (cond (all_kept zs xs n) (turned a zs b xs n (bound again b xs n) (λ r. bound again a zs r))
-      (unchanged (M.Bind (M.Bind a zs b) xs n)))
+      (cond (all_kept zs xs n) (turned a zs b xs n w (λ r. bound again at a zs r)) (unchanged (M.Bind (M.Bind a zs b) xs n)))
       h t
       (λ i j.
-      cond_both (all_kept zs xs n) (turned a zs b xs n (bound again b xs n) (λ r. bound again a zs r))
+      cond_both (all_kept zs xs n) (turned a zs b xs n w (λ r. bound again at a zs r))
       (unchanged (M.Bind (M.Bind a zs b) xs n))
       (λ q. Tidied q.program (positions a + length zs + positions b + length xs + positions n))
       (λ e.
       let p = tidy_parts a zs b h in
-      let r = bound_made b xs n p.1 t (omega (arith, few)) in
-      let q = bound_made a zs (bound again b xs n).program p.0 r.tidy (omega (arith, few, r.fewer)) in
-      more_positions (bound again a zs (bound again b xs n).program).program
-      (positions a + length zs + positions (bound again b xs n).program) _ (omega (arith, r.fewer)) q)
+      let r = bound_made (behind a zs at) b xs n p.1 t (omega (arith, few)) in
+      let q = bound_made at a zs w.program p.0 r.tidy (omega (arith, few, r.fewer)) in
+      more_positions (bound again at a zs w.program).program (positions a + length zs + positions w.program) _
+      (omega (arith, r.fewer)) q)
       (λ e. record { tidy = bind_tidy (M.Bind a zs b) xs n i e j refl h t; fewer = omega arith }))
-  bound_made (M.Ret es) xs n h t few =
-      shorter_tidied (M.Ret es) xs n (put_at again es xs n (first_put [] es xs n)) h t
+  bound_made at (M.Ret es) xs n h t few =
+      shorter_tidied (M.Ret es) xs n (put_at again at es xs n (first_put [] es xs n)) h t
       (λ i j.
       more_positions _ (length xs + positions n) _ (omega arith)
-      (at_tidied es xs n (first_put [] es xs n) refl t i (omega (arith, few))))
-  bound_made m xs n h t few =
+      (at_tidied at es xs n (first_put [] es xs n) refl t i (omega (arith, few))))
+  bound_made at m xs n h t few =
       shorter_tidied m xs n (unchanged (M.Bind m xs n)) h t
       (λ i j. record { tidy = bind_tidy m xs n i refl j refl h t; fewer = omega arith })
+
+  -- a sequence whose second part is made tidy
+
+  module _ (last : Point → Polished) (n : Mon) (lasts : (at : Point) → Tidied (last at).program (positions n)) where
+    settled_made : (at : Point) (t : Tree Rule) (m : Mon) (xs : List Name) → is_tidy m ≡ true →
+        positions m + length xs + positions n ≤ k →
+        Tidied (settled again last at t m xs).program (positions m + length xs + positions n)
+    settled_made at t m xs h few =
+        let q = last (behind m xs at) in
+        let i = lasts (behind m xs at) in
+        more_positions (bound again at m xs q.program).program (positions m + length xs + positions q.program) _
+        (omega (arith, i.fewer)) (bound_made at m xs q.program h i.tidy (omega (arith, few, i.fewer)))
+
+    put_or_settled_made : (at : Point) (t : Tree Rule) (es : List Exp) (xs : List Name) (o : Option ℕ) →
+        first_constant es xs n ≡ o → length xs + positions n ≤ k →
+        Tidied (put_or_settled again last at t es xs n o).program (length xs + positions n)
+    put_or_settled_made at t es xs None e few =
+        more_positions _ (positions (M.Ret es) + length xs + positions n) _ (omega arith)
+        (settled_made at t (M.Ret es) xs refl (omega (arith, few)))
+    put_or_settled_made at t es xs (Some i) e few = put_tidied at es xs n i few (constant_put i es xs n e)
+
+    pub followed_made : (at : Point) (t : Tree Rule) (o m : Mon) (xs : List Name) → is_tidy m ≡ true →
+        positions m + length xs + positions n ≤ k →
+        Tidied (followed again last at t o m xs n).program (positions m + length xs + positions n)
+    followed_made at t o (M.Bind a zs b) xs h few =
+        let part = parted t o b in
+        let w = followed again last (behind a zs at) part.tree part.second b xs n in
+        let turn = then_all part.before (M.Bind a zs part.second) xs n
+        (turned a zs part.second xs n w (λ r. bound again at a zs r)) in
+        cond_both (is_bind_ret (M.Bind a zs b) xs n) (then_all t (M.Bind a zs b) xs n (at_once R.BindRet (M.Bind a zs b)))
+        (cond (all_kept zs xs n) turn (settled again last at t (M.Bind a zs b) xs))
+        (λ q. Tidied q.program (positions a + length zs + positions b + length xs + positions n))
+        (λ e. record { tidy = h; fewer = omega arith })
+        (λ e.
+        cond_both (all_kept zs xs n) turn (settled again last at t (M.Bind a zs b) xs)
+        (λ q. Tidied q.program (positions a + length zs + positions b + length xs + positions n))
+        (λ i.
+        let p = tidy_parts a zs b h in
+        let r = followed_made (behind a zs at) part.tree part.second b xs p.1 (omega (arith, few)) in
+        let q = bound_made at a zs w.program p.0 r.tidy (omega (arith, few, r.fewer)) in
+        more_positions (bound again at a zs w.program).program (positions a + length zs + positions w.program) _
+        (omega (arith, r.fewer)) q)
+        (λ i. settled_made at t (M.Bind a zs b) xs h few))
+    followed_made at t o (M.Ret es) xs h few =
+        more_positions _ (length xs + positions n) _ (omega arith)
+        (put_or_settled_made at t es xs (first_constant es xs n) refl (omega (arith, few)))
+    followed_made at t o (M.Guard e) [] h few =
+        cond_both (is_known at.facts e) (then_all t (M.Guard e) [] n (and_then (leaf R.GuardKnown) n (last at)))
+        (settled again last at t (M.Guard e) [])
+        (λ q. Tidied q.program (0 + length {A = Name} [] + positions n))
+        (λ e'. more_positions _ (positions n) _ (omega arith) (lasts at))
+        (λ e'. settled_made at t (M.Guard e) [] h few)
+    followed_made at t o m xs h few = settled_made at t m xs h few
 
   -- whole programs
 
@@ -174,49 +236,55 @@ module _ (again : Mon → Polished) (k : ℕ) (tidies : (m : Mon) → positions 
   leaf_tidied (M.Loop starts guard test m) h = absurd h
   leaf_tidied m h = record { tidy = refl; fewer = omega arith }
 
-  chosen_tidied : (x m n : Mon) (p q : Polished) → IsIf m n x → Tidied p.program (positions m) → Tidied q.program (positions n) →
-      Tidied (chosen x p q).program (positions m + positions n)
-  chosen_tidied (M.If (TruthLit true) a b) m n p q i h t =
-      more_positions p.program (positions m) (positions m + positions n) (omega arith) h
-  chosen_tidied (M.If (TruthLit false) a b) m n p q i h t =
-      more_positions q.program (positions n) (positions m + positions n) (omega arith) t
-  chosen_tidied (M.If e a b) m n p q i h t =
-      record { tidy = and_from (is_tidy p.program) (is_tidy q.program) h.tidy t.tidy; fewer = omega (arith, h.fewer, t.fewer) }
-  chosen_tidied x m n p q i h t = absurd i
+  chosen_tidied : (at : Point) (x m n : Mon) (first second : Point → Polished) → IsIf m n x →
+      ((a : Point) → Tidied (first a).program (positions m)) → ((a : Point) → Tidied (second a).program (positions n)) →
+      Tidied (chosen at x first second).program (positions m + positions n)
+  chosen_tidied at (M.If (TruthLit true) a b) m n first second i h t =
+      more_positions (first at).program (positions m) (positions m + positions n) (omega arith) (h at)
+  chosen_tidied at (M.If (TruthLit false) a b) m n first second i h t =
+      more_positions (second at).program (positions n) (positions m + positions n) (omega arith) (t at)
+  chosen_tidied at (M.If e a b) m n first second i h t =
+      let p = h (knowing (Whole e) at) in
+      let q = t (knowing (NotTrue e) at) in
+      record {
+        tidy = and_from (is_tidy (first (knowing (Whole e) at)).program) (is_tidy (second (knowing (NotTrue e) at)).program)
+            p.tidy q.tidy;
+        fewer = omega (arith, p.fewer, q.fewer);
+      }
+  chosen_tidied at x m n first second i h t = absurd i
 
-  turning_tidied : (x m : Mon) (p : Polished) → IsLoop m x → Tidied p.program (positions m) →
-      Tidied (turning x p).program (positions m)
-  turning_tidied (M.Loop starts guard test a) m p i h = record { tidy = h.tidy; fewer = h.fewer }
-  turning_tidied x m p i h = absurd i
+  turning_tidied : (at : Point) (x m : Mon) (body : Point → Polished) → IsLoop m x →
+      ((a : Point) → Tidied (body a).program (positions m)) → Tidied (turning at x body).program (positions m)
+  turning_tidied at (M.Loop starts guard test a) m body i h =
+      let p = h (within starts (Whole test ∷ Whole guard ∷ []) at) in record { tidy = p.tidy; fewer = p.fewer }
+  turning_tidied at x m body i h = absurd i
 
-  module _ (l : Layout) where
-    folded_alike : (m : Mon) → Alike m (folded_in l m).program
-    folded_alike m = steps_alike (folded l) [] (direct_nodes m) m
+  short_alike : (at : Point) (m : Mon) → Alike m (shortened_in at m).program
+  short_alike at m = steps_alike shortened at (direct_nodes m) m
 
-    pub polished_made : (m : Mon) → positions m ≤ k → Tidied (polished_with l again m).program (positions m)
-    polished_made (M.Bind m xs n) few =
-        let p = polished_made m (omega (arith, few)) in
-        let q = polished_made n (omega (arith, few)) in
-        let r = bound_made (polished_with l again m).program xs (polished_with l again n).program p.tidy q.tidy
-        (omega (arith, few, p.fewer, q.fewer)) in
-        more_positions _ (positions (polished_with l again m).program + length xs + positions (polished_with l again n).program) _
-        (omega (arith, p.fewer, q.fewer)) r
-    polished_made (M.If e m n) few =
-        chosen_tidied (folded_in l (M.If e m n)).program m n (polished_with l again m) (polished_with l again n)
-        (folded_alike (M.If e m n))
-        (polished_made m (omega (arith, few))) (polished_made n (omega (arith, few)))
-    polished_made (M.Loop starts guard test m) few =
-        turning_tidied (folded_in l (M.Loop starts guard test m)).program m (polished_with l again m)
-        (folded_alike (M.Loop starts guard test m)) (polished_made m few)
-    polished_made (M.Ret es) few = leaf_tidied (folded_in l (M.Ret es)).program (folded_alike (M.Ret es))
-    polished_made (M.Guard e) few = leaf_tidied (folded_in l (M.Guard e)).program (folded_alike (M.Guard e))
-    polished_made (M.Write q e) few = leaf_tidied (folded_in l (M.Write q e)).program (folded_alike (M.Write q e))
-    polished_made (M.Call f es) few = leaf_tidied (folded_in l (M.Call f es)).program (folded_alike (M.Call f es))
-    polished_made (M.Pick j) few = leaf_tidied (folded_in l (M.Pick j)).program (folded_alike (M.Pick j))
+  pub polished_made : (m : Mon) (at : Point) → positions m ≤ k → Tidied (polished_with again m at).program (positions m)
+  polished_made (M.Bind m xs n) at few =
+      let p = polished_made m at (omega (arith, few)) in
+      more_positions _ (positions (polished_with again m at).program + length xs + positions n) _ (omega (arith, p.fewer))
+      (followed_made (polished_with again n) n (λ a. polished_made n a (omega (arith, few))) at (polished_with again m at).tree m
+      (polished_with again m at).program xs p.tidy (omega (arith, few, p.fewer)))
+  polished_made (M.If e m n) at few =
+      chosen_tidied at (shortened_in at (M.If e m n)).program m n (polished_with again m) (polished_with again n)
+      (short_alike at (M.If e m n))
+      (λ a. polished_made m a (omega (arith, few))) (λ a. polished_made n a (omega (arith, few)))
+  polished_made (M.Loop starts guard test m) at few =
+      turning_tidied at (shortened_in at (M.Loop starts guard test m)).program m (polished_with again m)
+      (short_alike at (M.Loop starts guard test m)) (λ a. polished_made m a few)
+  polished_made (M.Ret es) at few = leaf_tidied (shortened_in at (M.Ret es)).program (short_alike at (M.Ret es))
+  polished_made (M.Guard e) at few = leaf_tidied (shortened_in at (M.Guard e)).program (short_alike at (M.Guard e))
+  polished_made (M.Write q e) at few = leaf_tidied (shortened_in at (M.Write q e)).program (short_alike at (M.Write q e))
+  polished_made (M.Call f es) at few = leaf_tidied (shortened_in at (M.Call f es)).program (short_alike at (M.Call f es))
+  polished_made (M.Pick j) at few = leaf_tidied (shortened_in at (M.Pick j)).program (short_alike at (M.Pick j))
 
-pub within_made : (l : Layout) (k : ℕ) (m : Mon) → positions m ≤ k → Tidied (polished_within l k m).program (positions m)
-within_made l zero m few = polished_made unchanged 0 (λ n i. absurd (omega (arith, i))) l m few
-within_made l (suc k) m few = polished_made (polished_within l k) (suc k) (λ n i. within_made l k n (omega (arith, i))) l m few
+pub within_made : (k : ℕ) (at : Point) (m : Mon) → positions m ≤ k → Tidied (polished_within k at m).program (positions m)
+within_made zero at m few = polished_made (λ a n. unchanged n) 0 (λ a n i. absurd (omega (arith, i))) m at few
+within_made (suc k) at m few =
+    polished_made (polished_within k) (suc k) (λ a n i. within_made k a n (omega (arith, i))) m at few
 
-pub made_tidy : (l : Layout) (m : Mon) → is_tidy (polished l m).program ≡ true
-made_tidy l m = (within_made l (positions m) m (omega arith)).tidy
+pub made_tidy : (at : Point) (m : Mon) → is_tidy (polished at m).program ≡ true
+made_tidy at m = (within_made (positions m) at m (omega arith)).tidy

@@ -1,8 +1,7 @@
 pub mod Rewritten
-pub mod Folded
-pub mod Polished
-pub mod Translation
 pub mod Known
-pub mod Pruned
-pub mod Weight
+pub mod Shortened
+pub mod Polished
 pub mod Balanced
+pub mod Translation
+pub mod Climbed

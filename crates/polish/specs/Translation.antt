@@ -1,21 +1,18 @@
 -- The translation to tidy programs, and what its answer is to the program that it was made of.
 use Rattle.std.specs.Prelude.{◌≡◌, true, List, Some}
-use Rattle.c_values.specs.Layout.{Layout}
 use Rattle.expression_lang.specs.Sort.{Scalar}
-use Rattle.ac_expr.specs.Fact.{Fact}
 use Rattle.monad_lang.specs.Program.{Mon}
 use Rattle.monad_lang.specs.Form.{is_tidy}
 use Rattle.monad_lang.specs.Sorted.{scalars_given}
 use Rattle.rule_eq.specs.Rule.{Point}
 use Rattle.rule_eq.specs.Table.{Takes}
 use Rattle.rule_eq.specs.Tidy.{KeepsForms}
-use Rattle.polish.specs.Polished.{Polished}
-use Rattle.polish.specs.Pruned.{translated}
+use Rattle.polish.specs.Polished.{Polished, polished}
 use Rattle.polish.specs.Balanced.{balanced}
 
--- made tidy, without what is known, by a balanced tree
-abbrev pub translation : Layout → List Fact → Mon → Polished
-translation l fs m = let p = translated l fs m in record { program = p.program; tree = balanced p.tree }
+-- made tidy by a balanced tree
+abbrev pub translation : Point → Mon → Polished
+translation at m = let p = polished at m in record { program = p.program; tree = balanced p.tree }
 
 -- At a point where the program gives these scalars: the rules of the tree take it to a program that is tidy, gives the same
 -- scalars and has its forms.

@@ -3,4 +3,4 @@
 
 mod laws;
 
-pub use laws::programs_are_made_tidy;
+pub use laws::{programs_are_made_tidy, steps_are_made};
