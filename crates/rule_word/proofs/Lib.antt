@@ -32,6 +32,7 @@ pub mod LeftWidths
 pub mod PartsFit
 pub mod ProgramPartsFit
 pub mod LeftSorts
+pub mod RowLeft
 pub mod Rows
 pub mod ProgramRows
 pub mod KindsAmong

@@ -21,7 +21,7 @@ ghost use Rattle.rule_word.specs.CodeRule.{rule_of, rule_at, tree_of, view_at, k
 ghost use Rattle.rule_word.specs.CodeKinds.{binders_in, point_in, scope_at};
 ghost use Rattle.rule_word.specs.CodeParts.{seen_in, sight_in, given_at, given_in, pairs_at, claim_in, claim_here, thens_at};
 ghost use Rattle.rule_word.specs.CodeRows.{FitsAt, HasKinds, claim_at};
-ghost use Rattle.rule_word.specs.CodeFront.{IsReady, AreReadyAt, Leaves};
+ghost use Rattle.rule_word.specs.CodeFront.{IsReady, AreReadyAt, Leaves, RowLeaves};
 ghost use Rattle.rule_word.specs.CodeVerdict.{verdict_of};
 
 use crate::claims::{
@@ -465,6 +465,49 @@ fn checked_here(
     }
 }
 
+// The same of the pairs of two programs by a rule that doesn't go along a sequence, but for a last
+// one behind which nothing is left.
+#[cycle(checking)]
+#[inline(never)]
+fn checked_front<'a>(
+    tree: &'a Tree<Rule>,
+    left: &'a Mon,
+    right: &'a Mon,
+    kinds: &'a [Kind],
+    context: &Context<'a>,
+    point: Point<'_>,
+    at: u32,
+) -> Result<Front<'a>, u32>
+    requires flat { is_flat (rule_at tree.now) ≡ true }
+    requires fits { ClaimFits (context_in context.now)
+        (program (point_in point) (mon_of left.now) (mon_of right.now) (map kind_of kinds.now)) }
+    requires kinds { HasKinds point.names.now }
+    requires results { are_results (context_in context.now).functions ≡ true }
+    ensures { RowLeaves context.now point.entry tree.now
+        (mon_of left.now) (mon_of right.now) (map kind_of kinds.now) at result }
+{
+    if !is_asked(&tree.rule, left, right, kinds, *context, point) {
+        return Err(at);
+    }
+    let pairs = program_exps(left);
+    let others = program_exps(right);
+    let views = program_views(&tree.rule, left, kinds, *context);
+    let then = program_then(&tree.rule, left, right, kinds);
+    if !is_matched(&tree.parts, pairs, views, others, then) {
+        return Err(at);
+    }
+    laid_out(context.layout);
+    checked_pairs(
+        &tree.parts,
+        pairs,
+        views,
+        others,
+        &*context,
+        point,
+        next(at),
+    )
+}
+
 // The same of two programs by a rule that doesn't go along a sequence.
 #[cycle(checking)]
 fn checked_flat(
@@ -484,27 +527,9 @@ fn checked_flat(
     ensures { Checked (table_at context.now) (tree_of tree.now)
         (program (point_in point.entry) (mon_of left.now) (mon_of right.now) (map kind_of kinds.now)) at result }
 {
-    if !is_asked(&tree.rule, left, right, kinds, *context, point) {
-        return Err(at);
-    }
-    let pairs = program_exps(left);
-    let others = program_exps(right);
-    let views = program_views(&tree.rule, left, kinds, *context);
-    let then = program_then(&tree.rule, left, right, kinds);
-    if !is_matched(&tree.parts, pairs, views, others, then) {
-        return Err(at);
-    }
-    laid_out(context.layout);
-    match checked_pairs(
-        &tree.parts,
-        pairs,
-        views,
-        others,
-        &*context,
-        point,
-        next(at),
-    )? {
+    match checked_front(tree, left, right, kinds, &*context, point, at)? {
         Front::Behind(rest, number) => {
+            let then = program_then(&tree.rule, left, right, kinds);
             checked_inside(&tree.rule, left, rest, then, &*context, point, number)
         }
         Front::Last(part, e, view, a, number) => {

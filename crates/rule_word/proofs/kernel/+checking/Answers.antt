@@ -1,5 +1,5 @@
 -- What each function of the kernel finds.
-use Rattle.std.proofs.Common.{rules, ◌≡◌, ◌<◌, ◌≤◌, ◌+◌, ◌*◌, ◌++◌, true, false, Some, [], ◌∷◌, map, length, Ok, Err, sym, subst, ap, ap₂, ◌∙◌, arith}
+use Rattle.std.proofs.Common.{rules, ◌≡◌, ◌<◌, ◌≤◌, ◌+◌, ◌*◌, ◌++◌, true, false, Some, [], ◌∷◌, map, length, Ok, Err, refl, sym, subst, ap, ap₂, ◌∙◌, arith}
 use Rattle.expression_lang.specs.Expression as X
 use Rattle.expression_lang.specs.CodeExpression.{exp_of, kind_of}
 use Rattle.ac_expr.specs.Fact.{Whole}
@@ -15,7 +15,7 @@ use Rattle.rule_word.specs.declared.passed.Passed as Q
 use Rattle.rule_word.specs.Rule.{Point, expression, program}
 use Rattle.rule_word.specs.Scopes.{own}
 use Rattle.rule_word.specs.Table.{program_row}
-use Rattle.rule_word.specs.CodeFits.{Fits, AllFit, ClaimFits}
+use Rattle.rule_word.specs.CodeFits.{Fits, AllFit, ClaimFits, FitInTurn}
 use Rattle.rule_word.specs.CodeNames.{with_passed, are_binders}
 use Rattle.rule_word.specs.CodePassed.{sequence, conjuncts}
 use Rattle.rule_word.specs.CodeClaims.{inside, is_and, first_of, behind, names_bound}
@@ -23,8 +23,9 @@ use Rattle.rule_word.specs.CodeRule.{rule_of, rule_at, tree_of, known_in, contex
 use Rattle.rule_word.specs.CodeKinds.{binders_in, point_in, scope_at}
 use Rattle.rule_word.specs.CodeParts.{seen_in, pairs_at, thens_at, claim_in}
 use Rattle.rule_word.specs.CodeRows.{claim_at}
-use Rattle.rule_word.specs.CodeFront.{Leaves, IsBehind, IsLast}
+use Rattle.rule_word.specs.CodeFront.{Leaves, IsBehind, IsLast, row_thens, IsEntered, IsLastOf, RowLeaves}
 use Rattle.rule_word.proofs.Walked as walked
+use Rattle.rule_word.proofs.RowLeft.{row_left}
 use Rattle.rule_word.proofs.Paired as paired
 use Rattle.rule_word.proofs.Along as along
 use Rattle.rule_word.proofs.Steps as steps
@@ -134,77 +135,76 @@ checked_pairs-pairs-preserved t c =
       ready = paired.rest_ready c.args.context.now c.args.point c.pairs.left c.in-Some.lefts c.pairs.views c.in-Some-next.others c.pairs.right c.in-Some-next-2.rights (exp_of c.in-Some.e.now) (exp_of c.in-Some-next-2.a.now) c.in-Some-next.seen c.in-Some.ensures.some c.in-Some-next-2.ensures.some c.in-Some-next.ensures.some c.in-Some-next.ensures.looks.0 c.pairs.invariant.ready;
     }
 
-pub checked_flat-returns-then-not-is_asked : goal.checked_flat-returns-then-not-is_asked
-checked_flat-returns-then-not-is_asked t c =
+pub checked_front-returns-then-not-is_asked : goal.checked_front-returns-then-not-is_asked
+checked_front-returns-then-not-is_asked t c =
     walked.refused c.args.context.now c.args.tree.now (program (point_in c.args.point) (mon_of c.args.left.now) (mon_of c.args.right.now) (map kind_of c.args.kinds.now)) c.is_asked.result c.args.at c.if-not-is_asked.true c.is_asked.ensures.1
 
-pub checked_flat-returns-then-not-is_matched : goal.checked_flat-returns-then-not-is_matched
-checked_flat-returns-then-not-is_matched t c =
+pub checked_front-returns-then-not-is_matched : goal.checked_front-returns-then-not-is_matched
+checked_front-returns-then-not-is_matched t c =
     let items : walked.parts_at c.args.tree.now ≡ c.deref.result.now = search rules in
     walked.unmatched c.args.context.now c.args.tree.now (program (point_in c.args.point) (mon_of c.args.left.now) (mon_of c.args.right.now) (map kind_of c.args.kinds.now)) ((pairs_at (context_in c.args.context.now) (point_in c.args.point) c.program_exps-pairs.result c.program_views-views.result c.program_exps-others.result) ++ (thens_at (context_in c.args.context.now) (inside (rule_at c.args.tree.now) (mon_of c.args.left.now) (point_in c.args.point)) c.program_then-then.result)) c.deref.result.now c.is_matched.result c.args.at (walked.program_claims c.args.context.now c.args.point (rule_at c.args.tree.now) (mon_of c.args.left.now) (mon_of c.args.right.now) (map kind_of c.args.kinds.now) c.program_exps-pairs.result c.program_views-views.result c.program_exps-others.result c.program_exps-pairs.ensures c.program_exps-others.ensures (c.program_views-views.ensures.views (scope_at c.args.context.now c.args.point)) c.requires.flat c.requires.fits (c.is_asked.ensures.0 c.if-not-is_asked.false) (thens_at (context_in c.args.context.now) (inside (rule_at c.args.tree.now) (mon_of c.args.left.now) (point_in c.args.point)) c.program_then-then.result) (c.program_then-then.ensures (context_in c.args.context.now) (inside (rule_at c.args.tree.now) (mon_of c.args.left.now) (point_in c.args.point)))) items c.if-not-is_matched.true (c.is_matched.ensures (context_in c.args.context.now) (point_in c.args.point) (inside (rule_at c.args.tree.now) (mon_of c.args.left.now) (point_in c.args.point)))
 
-pub checked_flat-checked_pairs-requires : goal.checked_flat-checked_pairs-requires
-checked_flat-checked_pairs-requires t c =
+pub checked_front-checked_pairs-requires : goal.checked_front-checked_pairs-requires
+checked_front-checked_pairs-requires t c =
     let items : walked.parts_at c.args.tree.now ≡ c.deref-2.result.now = search rules in
     let same : c.deref.result.now ≡ c.deref-2.result.now = search rules in
     let count : length c.deref-2.result.now ≡ length ((pairs_at (context_in c.args.context.now) (point_in c.args.point) c.program_exps-pairs.result c.program_views-views.result c.program_exps-others.result) ++ (thens_at (context_in c.args.context.now) (inside (rule_at c.args.tree.now) (mon_of c.args.left.now) (point_in c.args.point)) c.program_then-then.result)) = sym (ap length same) ∙ (c.is_matched.ensures (context_in c.args.context.now) (point_in c.args.point) (inside (rule_at c.args.tree.now) (mon_of c.args.left.now) (point_in c.args.point))).0 c.if-not-is_matched.false in (
-      subst (λ n. 8 * nodes_in (trees_in rule_of c.deref-2.result.now) + 6 < n) c.decreases (along.below_flat _ _ 6 (walked.parts_less c.args.tree.now c.deref-2.result.now items) (omega arith)),
+      subst (λ n. 8 * nodes_in (trees_in rule_of c.deref-2.result.now) + 6 < n) c.decreases (subst (λ ts. 8 * nodes_in (trees_in rule_of ts) + 6 < 8 * nodes_in (trees_in rule_of (walked.parts_at c.args.tree.now)) + 7) items (omega arith)),
       (walked.program_is_ready c.args.context.now c.args.point (rule_at c.args.tree.now) (mon_of c.args.left.now) (mon_of c.args.right.now) (map kind_of c.args.kinds.now) c.program_exps-pairs.result c.program_views-views.result c.program_exps-others.result c.program_exps-pairs.ensures c.program_exps-others.ensures (c.program_views-views.ensures.views (scope_at c.args.context.now c.args.point)) c.requires.flat c.requires.fits (c.is_asked.ensures.0 c.if-not-is_asked.false) c.program_views-views.ensures.looks, (c.requires.kinds, (c.requires.results, subst (λ n. length (pairs_at (context_in c.args.context.now) (point_in c.args.point) c.program_exps-pairs.result c.program_views-views.result c.program_exps-others.result) ≤ n) (sym count) (walked.fewer_first (pairs_at (context_in c.args.context.now) (point_in c.args.point) c.program_exps-pairs.result c.program_views-views.result c.program_exps-others.result) (thens_at (context_in c.args.context.now) (inside (rule_at c.args.tree.now) (mon_of c.args.left.now) (point_in c.args.point)) c.program_then-then.result))))),
     )
 
-pub checked_flat-returns-in_err-rest : goal.checked_flat-returns-in_err-rest
-checked_flat-returns-in_err-rest t c =
+pub checked_front-returns : goal.checked_front-returns
+checked_front-returns t c =
     let items : walked.parts_at c.args.tree.now ≡ c.deref-2.result.now = search rules in
     let same : c.deref.result.now ≡ c.deref-2.result.now = search rules in
     let count : length c.deref-2.result.now ≡ length ((pairs_at (context_in c.args.context.now) (point_in c.args.point) c.program_exps-pairs.result c.program_views-views.result c.program_exps-others.result) ++ (thens_at (context_in c.args.context.now) (inside (rule_at c.args.tree.now) (mon_of c.args.left.now) (point_in c.args.point)) c.program_then-then.result)) = sym (ap length same) ∙ (c.is_matched.ensures (context_in c.args.context.now) (point_in c.args.point) (inside (rule_at c.args.tree.now) (mon_of c.args.left.now) (point_in c.args.point))).0 c.if-not-is_matched.false in
-    let bad : c.checked_pairs.result ≡ Err c.in_err-rest.field-0.0 = search rules in
-    let same-2 : c.from_residual.result ≡ Err c.in_err-rest.field-0.0 = search rules in
-    subst (λ r. Checked (table_at c.args.context.now) (tree_of c.args.tree.now) (program (point_in c.args.point) (mon_of c.args.left.now) (mon_of c.args.right.now) (map kind_of c.args.kinds.now)) c.args.at r) (sym same-2)
-    (walked.decided c.args.context.now c.args.tree.now (program (point_in c.args.point) (mon_of c.args.left.now) (mon_of c.args.right.now) (map kind_of c.args.kinds.now)) ((pairs_at (context_in c.args.context.now) (point_in c.args.point) c.program_exps-pairs.result c.program_views-views.result c.program_exps-others.result) ++ (thens_at (context_in c.args.context.now) (inside (rule_at c.args.tree.now) (mon_of c.args.left.now) (point_in c.args.point)) c.program_then-then.result)) c.deref-2.result.now c.args.at c.next.result (Err c.in_err-rest.field-0.0) (c.is_asked.ensures.0 c.if-not-is_asked.false) (walked.program_claims c.args.context.now c.args.point (rule_at c.args.tree.now) (mon_of c.args.left.now) (mon_of c.args.right.now) (map kind_of c.args.kinds.now) c.program_exps-pairs.result c.program_views-views.result c.program_exps-others.result c.program_exps-pairs.ensures c.program_exps-others.ensures (c.program_views-views.ensures.views (scope_at c.args.context.now c.args.point)) c.requires.flat c.requires.fits (c.is_asked.ensures.0 c.if-not-is_asked.false) (thens_at (context_in c.args.context.now) (inside (rule_at c.args.tree.now) (mon_of c.args.left.now) (point_in c.args.point)) c.program_then-then.result) (c.program_then-then.ensures (context_in c.args.context.now) (inside (rule_at c.args.tree.now) (mon_of c.args.left.now) (point_in c.args.point)))) items count c.next.ensures (subst (λ r. Leaves c.args.context.now c.args.point c.deref-2.result.now (pairs_at (context_in c.args.context.now) (point_in c.args.point) c.program_exps-pairs.result c.program_views-views.result c.program_exps-others.result) c.next.result r) bad c.checked_pairs.ensures (thens_at (context_in c.args.context.now) (inside (rule_at c.args.tree.now) (mon_of c.args.left.now) (point_in c.args.point)) c.program_then-then.result)))
+    let thens : thens_at (context_in c.args.context.now) (inside (rule_at c.args.tree.now) (mon_of c.args.left.now) (point_in c.args.point)) c.program_then-then.result ≡ (row_thens c.args.point c.args.tree.now (mon_of c.args.left.now) (mon_of c.args.right.now) (map kind_of c.args.kinds.now)) = (c.program_then-then.ensures (context_in c.args.context.now) (inside (rule_at c.args.tree.now) (mon_of c.args.left.now) (point_in c.args.point))) in
+    row_left c.args.context.now c.args.point c.args.tree.now (mon_of c.args.left.now) (mon_of c.args.right.now) (map kind_of c.args.kinds.now) (pairs_at (context_in c.args.context.now) (point_in c.args.point) c.program_exps-pairs.result c.program_views-views.result c.program_exps-others.result) c.deref-2.result.now c.args.at c.next.result
+    (c.is_asked.ensures.0 c.if-not-is_asked.false)
+    (walked.program_claims c.args.context.now c.args.point (rule_at c.args.tree.now) (mon_of c.args.left.now) (mon_of c.args.right.now) (map kind_of c.args.kinds.now) c.program_exps-pairs.result c.program_views-views.result c.program_exps-others.result c.program_exps-pairs.ensures c.program_exps-others.ensures (c.program_views-views.ensures.views (scope_at c.args.context.now c.args.point)) c.requires.flat c.requires.fits (c.is_asked.ensures.0 c.if-not-is_asked.false) (row_thens c.args.point c.args.tree.now (mon_of c.args.left.now) (mon_of c.args.right.now) (map kind_of c.args.kinds.now)) refl)
+    items (count ∙ ap (λ ds. length ((pairs_at (context_in c.args.context.now) (point_in c.args.point) c.program_exps-pairs.result c.program_views-views.result c.program_exps-others.result) ++ ds)) thens) c.next.ensures
+    (walked.program_thens_fit c.args.context.now c.args.point (rule_at c.args.tree.now) (mon_of c.args.left.now) (mon_of c.args.right.now) (map kind_of c.args.kinds.now) c.program_exps-pairs.result c.program_views-views.result c.program_exps-others.result c.program_exps-pairs.ensures c.program_exps-others.ensures (c.program_views-views.ensures.views (scope_at c.args.context.now c.args.point)) c.requires.flat c.requires.fits (c.is_asked.ensures.0 c.if-not-is_asked.false) (row_thens c.args.point c.args.tree.now (mon_of c.args.left.now) (mon_of c.args.right.now) (map kind_of c.args.kinds.now)) refl)
+    (λ f. inside_stay (context_in c.args.context.now) c.laid_out.ensures c.requires.results (point_in c.args.point) c.requires.kinds (rule_at c.args.tree.now) (mon_of c.args.left.now) (mon_of c.args.right.now) (map kind_of c.args.kinds.now) (c.is_asked.ensures.0 c.if-not-is_asked.false) (subst (λ cs. AllFit (context_in c.args.context.now) cs) (walked.program_pairs_are c.args.context.now c.args.point (rule_at c.args.tree.now) (mon_of c.args.left.now) (mon_of c.args.right.now) (map kind_of c.args.kinds.now) c.program_exps-pairs.result c.program_views-views.result c.program_exps-others.result c.program_exps-pairs.ensures c.program_exps-others.ensures (c.program_views-views.ensures.views (scope_at c.args.context.now c.args.point))) f))
+    c.checked_pairs.result c.checked_pairs.ensures
+
+pub checked_flat-checked_front-requires : goal.checked_flat-checked_front-requires
+checked_flat-checked_front-requires t c =
+    (subst (λ n. 8 * nodes_in (trees_in rule_of (walked.parts_at c.args.tree.now)) + 7 < n) c.decreases (along.below_flat _ _ 7 (walked.parts_less c.args.tree.now (walked.parts_at c.args.tree.now) refl) (omega arith)), (c.requires.flat, (c.requires.fits, (c.requires.kinds, c.requires.results))))
+
+pub checked_flat-returns-in_err-rest : goal.checked_flat-returns-in_err-rest
+checked_flat-returns-in_err-rest t c =
+    let bad : c.checked_front.result ≡ Err c.in_err-rest.field-0.0 = search rules in
+    let same : c.from_residual.result ≡ Err c.in_err-rest.field-0.0 = search rules in
+    subst (λ r. Checked (table_at c.args.context.now) (tree_of c.args.tree.now) (program (point_in c.args.point) (mon_of c.args.left.now) (mon_of c.args.right.now) (map kind_of c.args.kinds.now)) c.args.at r) (sym same)
+    (subst (λ r. RowLeaves c.args.context.now c.args.point c.args.tree.now (mon_of c.args.left.now) (mon_of c.args.right.now) (map kind_of c.args.kinds.now) c.args.at r) bad c.checked_front.ensures)
 
 pub checked_flat-checked_inside-requires : goal.checked_flat-checked_inside-requires
 checked_flat-checked_inside-requires t c =
-    let items : walked.parts_at c.args.tree.now ≡ c.deref-2.result.now = search rules in
-    let same : c.deref.result.now ≡ c.deref-2.result.now = search rules in
-    let count : length c.deref-2.result.now ≡ length ((pairs_at (context_in c.args.context.now) (point_in c.args.point) c.program_exps-pairs.result c.program_views-views.result c.program_exps-others.result) ++ (thens_at (context_in c.args.context.now) (inside (rule_at c.args.tree.now) (mon_of c.args.left.now) (point_in c.args.point)) c.program_then-then.result)) = sym (ap length same) ∙ (c.is_matched.ensures (context_in c.args.context.now) (point_in c.args.point) (inside (rule_at c.args.tree.now) (mon_of c.args.left.now) (point_in c.args.point))).0 c.if-not-is_matched.false in
-    let was : c.checked_pairs.result ≡ Ok (F.TheVariants.Behind c.in-Behind.rest c.in-Behind.number) = search rules in
-    let b : IsBehind c.args.context.now c.deref-2.result.now (pairs_at (context_in c.args.context.now) (point_in c.args.point) c.program_exps-pairs.result c.program_views-views.result c.program_exps-others.result) c.next.result c.in-Behind.rest.now c.in-Behind.number = subst (λ r. Leaves c.args.context.now c.args.point c.deref-2.result.now (pairs_at (context_in c.args.context.now) (point_in c.args.point) c.program_exps-pairs.result c.program_views-views.result c.program_exps-others.result) c.next.result r) was c.checked_pairs.ensures in (
-      subst (λ n. 8 * nodes_in (trees_in rule_of c.in-Behind.rest.now) + 7 < n) c.decreases (along.below_flat _ _ 7 (along.le_less _ _ _ b.fewer (walked.parts_less c.args.tree.now c.deref-2.result.now items)) (omega arith)),
-      (
-        walked.rest_count (pairs_at (context_in c.args.context.now) (point_in c.args.point) c.program_exps-pairs.result c.program_views-views.result c.program_exps-others.result) (thens_at (context_in c.args.context.now) (inside (rule_at c.args.tree.now) (mon_of c.args.left.now) (point_in c.args.point)) c.program_then-then.result) (length c.in-Behind.rest.now) (length c.deref-2.result.now) count b.count,
-        (
-          b.turn (thens_at (context_in c.args.context.now) (inside (rule_at c.args.tree.now) (mon_of c.args.left.now) (point_in c.args.point)) c.program_then-then.result) (walked.program_thens_fit c.args.context.now c.args.point (rule_at c.args.tree.now) (mon_of c.args.left.now) (mon_of c.args.right.now) (map kind_of c.args.kinds.now) c.program_exps-pairs.result c.program_views-views.result c.program_exps-others.result c.program_exps-pairs.ensures c.program_exps-others.ensures (c.program_views-views.ensures.views (scope_at c.args.context.now c.args.point)) c.requires.flat c.requires.fits (c.is_asked.ensures.0 c.if-not-is_asked.false) (thens_at (context_in c.args.context.now) (inside (rule_at c.args.tree.now) (mon_of c.args.left.now) (point_in c.args.point)) c.program_then-then.result) (c.program_then-then.ensures (context_in c.args.context.now) (inside (rule_at c.args.tree.now) (mon_of c.args.left.now) (point_in c.args.point))) b.fit),
-          (inside_stay (context_in c.args.context.now) c.laid_out.ensures c.requires.results (point_in c.args.point) c.requires.kinds (rule_at c.args.tree.now) (mon_of c.args.left.now) (mon_of c.args.right.now) (map kind_of c.args.kinds.now) (c.is_asked.ensures.0 c.if-not-is_asked.false) (subst (λ cs. AllFit (context_in c.args.context.now) cs) (walked.program_pairs_are c.args.context.now c.args.point (rule_at c.args.tree.now) (mon_of c.args.left.now) (mon_of c.args.right.now) (map kind_of c.args.kinds.now) c.program_exps-pairs.result c.program_views-views.result c.program_exps-others.result c.program_exps-pairs.ensures c.program_exps-others.ensures (c.program_views-views.ensures.views (scope_at c.args.context.now c.args.point))) b.fit), c.requires.results),
-        ),
-      ),
+    let was : c.checked_front.result ≡ Ok (F.TheVariants.Behind c.in-Behind.rest c.in-Behind.number) = search rules in
+    let b : IsEntered c.args.context.now c.args.point c.args.tree.now (mon_of c.args.left.now) (mon_of c.args.right.now) (map kind_of c.args.kinds.now) c.args.at c.in-Behind.rest.now c.in-Behind.number = subst (λ r. RowLeaves c.args.context.now c.args.point c.args.tree.now (mon_of c.args.left.now) (mon_of c.args.right.now) (map kind_of c.args.kinds.now) c.args.at r) was c.checked_front.ensures in
+    let thens : thens_at (context_in c.args.context.now) (inside (rule_at c.args.tree.now) (mon_of c.args.left.now) (point_in c.args.point)) c.program_then-then.result ≡ (row_thens c.args.point c.args.tree.now (mon_of c.args.left.now) (mon_of c.args.right.now) (map kind_of c.args.kinds.now)) = (c.program_then-then.ensures (context_in c.args.context.now) (inside (rule_at c.args.tree.now) (mon_of c.args.left.now) (point_in c.args.point))) in (
+      subst (λ n. 8 * nodes_in (trees_in rule_of c.in-Behind.rest.now) + 7 < n) c.decreases (along.below_flat _ _ 7 b.fewer (omega arith)),
+      (b.count ∙ ap length (sym thens), (subst (λ ds. FitInTurn (context_in c.args.context.now) ds) (sym thens) b.fit, (b.names, c.requires.results))),
     )
 
 pub checked_flat-returns-in-Behind : goal.checked_flat-returns-in-Behind
 checked_flat-returns-in-Behind t c =
-    let items : walked.parts_at c.args.tree.now ≡ c.deref-2.result.now = search rules in
-    let same : c.deref.result.now ≡ c.deref-2.result.now = search rules in
-    let count : length c.deref-2.result.now ≡ length ((pairs_at (context_in c.args.context.now) (point_in c.args.point) c.program_exps-pairs.result c.program_views-views.result c.program_exps-others.result) ++ (thens_at (context_in c.args.context.now) (inside (rule_at c.args.tree.now) (mon_of c.args.left.now) (point_in c.args.point)) c.program_then-then.result)) = sym (ap length same) ∙ (c.is_matched.ensures (context_in c.args.context.now) (point_in c.args.point) (inside (rule_at c.args.tree.now) (mon_of c.args.left.now) (point_in c.args.point))).0 c.if-not-is_matched.false in
-    let was : c.checked_pairs.result ≡ Ok (F.TheVariants.Behind c.in-Behind.rest c.in-Behind.number) = search rules in
-    let b : IsBehind c.args.context.now c.deref-2.result.now (pairs_at (context_in c.args.context.now) (point_in c.args.point) c.program_exps-pairs.result c.program_views-views.result c.program_exps-others.result) c.next.result c.in-Behind.rest.now c.in-Behind.number = subst (λ r. Leaves c.args.context.now c.args.point c.deref-2.result.now (pairs_at (context_in c.args.context.now) (point_in c.args.point) c.program_exps-pairs.result c.program_views-views.result c.program_exps-others.result) c.next.result r) was c.checked_pairs.ensures in
-    walked.decided c.args.context.now c.args.tree.now (program (point_in c.args.point) (mon_of c.args.left.now) (mon_of c.args.right.now) (map kind_of c.args.kinds.now)) ((pairs_at (context_in c.args.context.now) (point_in c.args.point) c.program_exps-pairs.result c.program_views-views.result c.program_exps-others.result) ++ (thens_at (context_in c.args.context.now) (inside (rule_at c.args.tree.now) (mon_of c.args.left.now) (point_in c.args.point)) c.program_then-then.result)) c.deref-2.result.now c.args.at c.next.result c.checked_inside.result (c.is_asked.ensures.0 c.if-not-is_asked.false) (walked.program_claims c.args.context.now c.args.point (rule_at c.args.tree.now) (mon_of c.args.left.now) (mon_of c.args.right.now) (map kind_of c.args.kinds.now) c.program_exps-pairs.result c.program_views-views.result c.program_exps-others.result c.program_exps-pairs.ensures c.program_exps-others.ensures (c.program_views-views.ensures.views (scope_at c.args.context.now c.args.point)) c.requires.flat c.requires.fits (c.is_asked.ensures.0 c.if-not-is_asked.false) (thens_at (context_in c.args.context.now) (inside (rule_at c.args.tree.now) (mon_of c.args.left.now) (point_in c.args.point)) c.program_then-then.result) (c.program_then-then.ensures (context_in c.args.context.now) (inside (rule_at c.args.tree.now) (mon_of c.args.left.now) (point_in c.args.point)))) items count c.next.ensures (b.decides (thens_at (context_in c.args.context.now) (inside (rule_at c.args.tree.now) (mon_of c.args.left.now) (point_in c.args.point)) c.program_then-then.result) c.checked_inside.result c.checked_inside.ensures)
+    let was : c.checked_front.result ≡ Ok (F.TheVariants.Behind c.in-Behind.rest c.in-Behind.number) = search rules in
+    let b : IsEntered c.args.context.now c.args.point c.args.tree.now (mon_of c.args.left.now) (mon_of c.args.right.now) (map kind_of c.args.kinds.now) c.args.at c.in-Behind.rest.now c.in-Behind.number = subst (λ r. RowLeaves c.args.context.now c.args.point c.args.tree.now (mon_of c.args.left.now) (mon_of c.args.right.now) (map kind_of c.args.kinds.now) c.args.at r) was c.checked_front.ensures in
+    let thens : thens_at (context_in c.args.context.now) (inside (rule_at c.args.tree.now) (mon_of c.args.left.now) (point_in c.args.point)) c.program_then-then.result ≡ (row_thens c.args.point c.args.tree.now (mon_of c.args.left.now) (mon_of c.args.right.now) (map kind_of c.args.kinds.now)) = (c.program_then-then.ensures (context_in c.args.context.now) (inside (rule_at c.args.tree.now) (mon_of c.args.left.now) (point_in c.args.point))) in
+    b.decides c.checked_inside.result (subst (λ ds. AllChecked (table_at c.args.context.now) (trees_in rule_of c.in-Behind.rest.now) ds c.in-Behind.number c.checked_inside.result) thens c.checked_inside.ensures)
 
 pub checked_flat-checked_exp-requires : goal.checked_flat-checked_exp-requires
 checked_flat-checked_exp-requires t c =
-    let items : walked.parts_at c.args.tree.now ≡ c.deref-2.result.now = search rules in
-    let same : c.deref.result.now ≡ c.deref-2.result.now = search rules in
-    let count : length c.deref-2.result.now ≡ length ((pairs_at (context_in c.args.context.now) (point_in c.args.point) c.program_exps-pairs.result c.program_views-views.result c.program_exps-others.result) ++ (thens_at (context_in c.args.context.now) (inside (rule_at c.args.tree.now) (mon_of c.args.left.now) (point_in c.args.point)) c.program_then-then.result)) = sym (ap length same) ∙ (c.is_matched.ensures (context_in c.args.context.now) (point_in c.args.point) (inside (rule_at c.args.tree.now) (mon_of c.args.left.now) (point_in c.args.point))).0 c.if-not-is_matched.false in
-    let was : c.checked_pairs.result ≡ Ok (F.TheVariants.Last c.in-Last.part c.in-Last.e c.in-Last.view c.in-Last.a c.in-Last.number) = search rules in
-    let k : IsLast c.args.context.now c.args.point c.deref-2.result.now (pairs_at (context_in c.args.context.now) (point_in c.args.point) c.program_exps-pairs.result c.program_views-views.result c.program_exps-others.result) c.next.result c.in-Last.part.now (exp_of c.in-Last.e.now) c.in-Last.view (exp_of c.in-Last.a.now) c.in-Last.number = subst (λ r. Leaves c.args.context.now c.args.point c.deref-2.result.now (pairs_at (context_in c.args.context.now) (point_in c.args.point) c.program_exps-pairs.result c.program_views-views.result c.program_exps-others.result) c.next.result r) was c.checked_pairs.ensures in
-    (subst (λ n. 8 * nodes (tree_of c.in-Last.part.now) + 2 < n) c.decreases (along.below_flat _ _ 2 (along.le_less _ _ _ k.fewer (walked.parts_less c.args.tree.now c.deref-2.result.now items)) (omega arith)), (k.fits, (c.requires.kinds, c.requires.results)))
+    let was : c.checked_front.result ≡ Ok (F.TheVariants.Last c.in-Last.part c.in-Last.e c.in-Last.view c.in-Last.a c.in-Last.number) = search rules in
+    let k : IsLastOf c.args.context.now c.args.point c.args.tree.now (mon_of c.args.left.now) (mon_of c.args.right.now) (map kind_of c.args.kinds.now) c.args.at c.in-Last.part.now (exp_of c.in-Last.e.now) c.in-Last.view (exp_of c.in-Last.a.now) c.in-Last.number = subst (λ r. RowLeaves c.args.context.now c.args.point c.args.tree.now (mon_of c.args.left.now) (mon_of c.args.right.now) (map kind_of c.args.kinds.now) c.args.at r) was c.checked_front.ensures in
+    (subst (λ n. 8 * nodes (tree_of c.in-Last.part.now) + 2 < n) c.decreases (along.below_flat _ _ 2 k.fewer (omega arith)), (k.fits, (c.requires.kinds, c.requires.results)))
 
 pub checked_flat-returns-in-Last : goal.checked_flat-returns-in-Last
 checked_flat-returns-in-Last t c =
-    let items : walked.parts_at c.args.tree.now ≡ c.deref-2.result.now = search rules in
-    let same : c.deref.result.now ≡ c.deref-2.result.now = search rules in
-    let count : length c.deref-2.result.now ≡ length ((pairs_at (context_in c.args.context.now) (point_in c.args.point) c.program_exps-pairs.result c.program_views-views.result c.program_exps-others.result) ++ (thens_at (context_in c.args.context.now) (inside (rule_at c.args.tree.now) (mon_of c.args.left.now) (point_in c.args.point)) c.program_then-then.result)) = sym (ap length same) ∙ (c.is_matched.ensures (context_in c.args.context.now) (point_in c.args.point) (inside (rule_at c.args.tree.now) (mon_of c.args.left.now) (point_in c.args.point))).0 c.if-not-is_matched.false in
-    let was : c.checked_pairs.result ≡ Ok (F.TheVariants.Last c.in-Last.part c.in-Last.e c.in-Last.view c.in-Last.a c.in-Last.number) = search rules in
-    let k : IsLast c.args.context.now c.args.point c.deref-2.result.now (pairs_at (context_in c.args.context.now) (point_in c.args.point) c.program_exps-pairs.result c.program_views-views.result c.program_exps-others.result) c.next.result c.in-Last.part.now (exp_of c.in-Last.e.now) c.in-Last.view (exp_of c.in-Last.a.now) c.in-Last.number = subst (λ r. Leaves c.args.context.now c.args.point c.deref-2.result.now (pairs_at (context_in c.args.context.now) (point_in c.args.point) c.program_exps-pairs.result c.program_views-views.result c.program_exps-others.result) c.next.result r) was c.checked_pairs.ensures in
-    walked.decided c.args.context.now c.args.tree.now (program (point_in c.args.point) (mon_of c.args.left.now) (mon_of c.args.right.now) (map kind_of c.args.kinds.now)) ((pairs_at (context_in c.args.context.now) (point_in c.args.point) c.program_exps-pairs.result c.program_views-views.result c.program_exps-others.result) ++ (thens_at (context_in c.args.context.now) (inside (rule_at c.args.tree.now) (mon_of c.args.left.now) (point_in c.args.point)) c.program_then-then.result)) c.deref-2.result.now c.args.at c.next.result c.checked_exp.result (c.is_asked.ensures.0 c.if-not-is_asked.false) (walked.program_claims c.args.context.now c.args.point (rule_at c.args.tree.now) (mon_of c.args.left.now) (mon_of c.args.right.now) (map kind_of c.args.kinds.now) c.program_exps-pairs.result c.program_views-views.result c.program_exps-others.result c.program_exps-pairs.ensures c.program_exps-others.ensures (c.program_views-views.ensures.views (scope_at c.args.context.now c.args.point)) c.requires.flat c.requires.fits (c.is_asked.ensures.0 c.if-not-is_asked.false) (thens_at (context_in c.args.context.now) (inside (rule_at c.args.tree.now) (mon_of c.args.left.now) (point_in c.args.point)) c.program_then-then.result) (c.program_then-then.ensures (context_in c.args.context.now) (inside (rule_at c.args.tree.now) (mon_of c.args.left.now) (point_in c.args.point)))) items count c.next.ensures (subst (λ cs. AllChecked (table_at c.args.context.now) (trees_in rule_of c.deref-2.result.now) cs c.next.result c.checked_exp.result) (sym (walked.nothing_more (pairs_at (context_in c.args.context.now) (point_in c.args.point) c.program_exps-pairs.result c.program_views-views.result c.program_exps-others.result) (thens_at (context_in c.args.context.now) (inside (rule_at c.args.tree.now) (mon_of c.args.left.now) (point_in c.args.point)) c.program_then-then.result) (k.count ∙ count))) (k.decides c.checked_exp.result c.checked_exp.ensures))
+    let was : c.checked_front.result ≡ Ok (F.TheVariants.Last c.in-Last.part c.in-Last.e c.in-Last.view c.in-Last.a c.in-Last.number) = search rules in
+    let k : IsLastOf c.args.context.now c.args.point c.args.tree.now (mon_of c.args.left.now) (mon_of c.args.right.now) (map kind_of c.args.kinds.now) c.args.at c.in-Last.part.now (exp_of c.in-Last.e.now) c.in-Last.view (exp_of c.in-Last.a.now) c.in-Last.number = subst (λ r. RowLeaves c.args.context.now c.args.point c.args.tree.now (mon_of c.args.left.now) (mon_of c.args.right.now) (map kind_of c.args.kinds.now) c.args.at r) was c.checked_front.ensures in
+    k.decides c.checked_exp.result c.checked_exp.ensures
 
 pub checked_recast-returns-then-not-is_asked : goal.checked_recast-returns-then-not-is_asked
 checked_recast-returns-then-not-is_asked t c =

@@ -22,6 +22,7 @@ use Rattle.rule_word.specs.CodeFront.{AreReadyAt}
 use Rattle.rule_word.specs.CodeStretch.{IsKept}
 use Rattle.rule_word.proofs.Sequences.{FactsLeft, NamesLeft}
 use Rattle.rule_word.proofs.SteppedOn.{Stands}
+use Rattle.rule_word.proofs.Walked.{parts_at}
 use Rattle.rule_word.proofs.Paired.{IsWalked}
 use Rattle.rule_word.proofs.kernel.+checking.Given as goal
 
@@ -125,6 +126,9 @@ decreases-checked_last l = 8 * nodes (tree_of l.tree.now) + 1
 
 abbrev pub decreases-checked_flat : goal.decreases-checked_flat
 decreases-checked_flat l = 8 * nodes (tree_of l.tree.now)
+
+abbrev pub decreases-checked_front : goal.decreases-checked_front
+decreases-checked_front l = 8 * nodes_in (trees_in rule_of (parts_at l.tree.now)) + 7
 
 abbrev pub decreases-checked_recast : goal.decreases-checked_recast
 decreases-checked_recast l = 8 * nodes (tree_of l.tree.now)
