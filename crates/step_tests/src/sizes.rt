@@ -55,7 +55,7 @@ fn deep_programs(rt: HostRuntime) -> Result<(), Fail> {
         assert!(rt; heaps::is_so(alloc, row.as_str())?, "{line}");
     }
     for line in DEEP_ON_NUMBERS.lines() {
-        let row = repeated(alloc, line, 2_047)?;
+        let row = repeated(alloc, line, 4_095)?;
         assert!(rt; words::is_so(alloc, row.as_str())?, "{line}");
         let row = repeated(alloc, line, 1_023)?;
         assert!(rt; words::is_made(alloc, row.as_str())?, "{line}");
