@@ -5,3 +5,10 @@ pub mod Exact
 pub mod Units
 pub mod Tidy
 pub mod Captures
+pub mod CodeRule
+pub mod CodeVerdict
+pub mod CodeFits
+pub mod CodeSteps
+pub mod CodePutting
+pub mod CodeTaken
+pub mod CodeExps
