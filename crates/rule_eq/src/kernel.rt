@@ -1,12 +1,12 @@
 //! The kernel of the rules that take programs to programs that mean the same.
 
-ghost use Rattle.std.specs.Prelude.{◌≡◌, ◌≤◌, List, IsTrue, IfSome, IfNone, Some, true, false};
+ghost use Rattle.std.specs.Prelude.{◌≡◌, ◌≤◌, List, map, IsTrue, IfSome, IfNone, Some, true, false};
 ghost use Rattle.expression_lang.specs.Expression as plain;
 ghost use Rattle.expression_lang.specs.CodeExpression.{exp_of};
 ghost use Rattle.expression_lang.specs.Sort.{Scalar};
 ghost use Rattle.ac_expr.specs.CodeFacts.{fact_of};
 ghost use Rattle.monad_lang.specs.Program as programs;
-ghost use Rattle.monad_lang.specs.CodeProgram.{mon_of};
+ghost use Rattle.monad_lang.specs.CodeProgram.{mon_of, start_of};
 ghost use Rattle.monad_lang.specs.Sorted.{scalars_given};
 ghost use Rattle.rule_trees.specs.RuleTree.{Checked, IsVerdict};
 ghost use Rattle.rule_eq.specs.Rule as names;
@@ -22,7 +22,7 @@ use crate::instances::is_asked;
 use crate::rule::Rule;
 use ac_expr::{Fact, Facts};
 use expression_lang::Exp;
-use monad_lang::Mon;
+use monad_lang::{Mon, Start};
 use monad_sorts::{Inside, Setting};
 use program_facts::Parts;
 use rule_trees::{At, Tree, both, next, only};
@@ -118,16 +118,16 @@ fn branches(m: &Mon) -> Option<(&Exp, &Mon, &Mon)>
     }
 }
 
-// A loop's guard, its test and its body.
-fn turn(m: &Mon) -> Option<(&Exp, &Exp, &Mon)>
-    ensures some { IfSome result (λ (guard, test, body). (starts : List programs.Start)
-        × (mon_of m.now
-        ≡ programs.Loop starts (exp_of guard.now) (exp_of test.now) (mon_of body.now))) }
+// What a loop begins with, its guard, its test and its body.
+fn turn(m: &Mon) -> Option<(&[Start], &Exp, &Exp, &Mon)>
+    ensures some { IfSome result (λ (starts, guard, test, body). mon_of m.now
+        ≡ programs.Loop (map start_of starts.now)
+        (exp_of guard.now) (exp_of test.now) (mon_of body.now)) }
     ensures none { (starts : List programs.Start) (guard test : plain.Exp) (body : programs.Mon) →
         IfNone result (mon_of m.now ≡ programs.Loop starts guard test body → ⊥) }
 {
     match m {
-        Mon::Loop(_starts, guard, test, body) => Some((guard, test, &**body)),
+        Mon::Loop(starts, guard, test, body) => Some((starts, guard, test, &**body)),
         _ => None,
     }
 }
@@ -146,9 +146,11 @@ fn checked(
     inside: &Inside<'_>,
     at: u32,
 ) -> Result<u32, u32>
-    requires { Fits (point_in setting facts.now inside.now).setting (mon_of left.now) (mon_of right.now) }
+    requires { Fits (point_in setting facts.now inside.now).setting (mon_of left.now)
+        (mon_of right.now) }
     ensures { Checked table (tree_of tree.now)
-        (does (point_in setting.entry facts.now inside.now) (mon_of left.now) (mon_of right.now)) at result }
+        (does (point_in setting.entry facts.now inside.now) (mon_of left.now)
+        (mon_of right.now)) at result }
 {
     let head = Parts::of(right);
     let whole = right;
@@ -216,9 +218,11 @@ fn checked_last(
     requires last { is_along (rule_at tree.now) ≡ false }
     requires asked { (row (point_in setting facts.now inside.now) (rule_at tree.now)
         (mon_of left.now) (mon_of right.now)).holds }
-    requires fits { Fits (point_in setting facts.now inside.now).setting (mon_of left.now) (mon_of right.now) }
+    requires fits { Fits (point_in setting facts.now inside.now).setting (mon_of left.now)
+        (mon_of right.now) }
     ensures { Checked table (tree_of tree.now)
-        (does (point_in setting.entry facts.now inside.now) (mon_of left.now) (mon_of right.now)) at result }
+        (does (point_in setting.entry facts.now inside.now) (mon_of left.now)
+        (mon_of right.now)) at result }
 {
     match &tree.rule {
         Rule::If => checked_branches(tree, left, right, setting, facts, inside, at),
@@ -241,7 +245,8 @@ fn checked_leaf(
     requires asked { (row (point_in setting facts.now inside.now) (rule_at tree.now)
         (mon_of left.now) (mon_of right.now)).holds }
     ensures { Checked table (tree_of tree.now)
-        (does (point_in setting.entry facts.now inside.now) (mon_of left.now) (mon_of right.now)) at result }
+        (does (point_in setting.entry facts.now inside.now) (mon_of left.now)
+        (mon_of right.now)) at result }
 {
     if tree.parts.is_empty() {
         Ok(next(at))
@@ -264,9 +269,11 @@ fn checked_branches(
     requires choice { rule_at tree.now ≡ names.If }
     requires asked { (row (point_in setting facts.now inside.now) (rule_at tree.now)
         (mon_of left.now) (mon_of right.now)).holds }
-    requires fits { Fits (point_in setting facts.now inside.now).setting (mon_of left.now) (mon_of right.now) }
+    requires fits { Fits (point_in setting facts.now inside.now).setting (mon_of left.now)
+        (mon_of right.now) }
     ensures { Checked table (tree_of tree.now)
-        (does (point_in setting.entry facts.now inside.now) (mon_of left.now) (mon_of right.now)) at result }
+        (does (point_in setting.entry facts.now inside.now) (mon_of left.now)
+        (mon_of right.now)) at result }
 {
     let Some((_test, m, n)) = branches(left) else {
         return Err(at);
@@ -311,7 +318,8 @@ fn checked_knowing(
     inside: &Inside<'_>,
     at: u32,
 ) -> Result<u32, u32>
-    requires { Fits (point_in setting facts.now inside.now).setting (mon_of left.now) (mon_of right.now) }
+    requires { Fits (point_in setting facts.now inside.now).setting (mon_of left.now)
+        (mon_of right.now) }
     ensures { Checked table (tree_of tree.now)
         (does (knowing (fact_of fact.now) (point_in setting.entry facts.now inside.now))
         (mon_of left.now) (mon_of right.now)) at result }
@@ -334,14 +342,16 @@ fn checked_turn(
     requires turn { rule_at tree.now ≡ names.Loop }
     requires asked { (row (point_in setting facts.now inside.now) (rule_at tree.now)
         (mon_of left.now) (mon_of right.now)).holds }
-    requires fits { Fits (point_in setting facts.now inside.now).setting (mon_of left.now) (mon_of right.now) }
+    requires fits { Fits (point_in setting facts.now inside.now).setting (mon_of left.now)
+        (mon_of right.now) }
     ensures { Checked table (tree_of tree.now)
-        (does (point_in setting.entry facts.now inside.now) (mon_of left.now) (mon_of right.now)) at result }
+        (does (point_in setting.entry facts.now inside.now) (mon_of left.now)
+        (mon_of right.now)) at result }
 {
-    let Some((_guard, _test, m)) = turn(left) else {
+    let Some((_starts, _guard, _test, m)) = turn(left) else {
         return Err(at);
     };
-    let Some((guard, test, n)) = turn(right) else {
+    let Some((_others, guard, test, n)) = turn(right) else {
         return Err(at);
     };
     let Some(part) = only(&tree.parts) else {
@@ -368,9 +378,11 @@ pub fn check(
     inside: &Inside<'_>,
 ) -> Result<(), At>
     requires left { (given : List Scalar)
-        × (scalars_given (point_in setting facts.now inside.now).setting (mon_of left.now) ≡ Some given) }
+        × (scalars_given (point_in setting facts.now inside.now).setting (mon_of left.now)
+        ≡ Some given) }
     requires right { (given : List Scalar)
-        × (scalars_given (point_in setting facts.now inside.now).setting (mon_of right.now) ≡ Some given) }
+        × (scalars_given (point_in setting facts.now inside.now).setting (mon_of right.now)
+        ≡ Some given) }
     ensures { IsVerdict table (tree_of tree.now)
         (does (point_in setting.entry facts.now inside.now) (mon_of left.now) (mon_of right.now))
         (verdict_of result) }

@@ -1,19 +1,16 @@
 -- What is left decides, as the loop goes along a sequence; then the parts of each rule do.
-use Rattle.std.proofs.Common.{rules, ◌≡◌, ◌<◌, ◌≤◌, ◌+◌, ◌*◌, suc, true, false, [], ◌∷◌, Ok, Err, refl, sym, subst, ap, ap₂, ◌∙◌, length, arith}
+use Rattle.std.proofs.Common.{rules, ◌≡◌, ◌+◌, [], ◌∷◌, Ok, Err, sym, subst, ap, ◌∙◌, map, length, arith}
 use Rattle.expression_lang.specs.CodeExpression.{exp_of}
-use Rattle.ac_expr.specs.Fact.{Whole, NotTrue}
+use Rattle.ac_expr.specs.Fact.{Whole}
 use Rattle.program_facts.specs.CodeParts.{sequence}
-use Rattle.monad_lang.specs.Program as M
-use Rattle.monad_lang.specs.CodeProgram.{mon_of}
+use Rattle.monad_lang.specs.CodeProgram.{mon_of, start_of}
 use Rattle.monad_sorts.specs.CodeInside.{setting_in, scalars_in, no_names}
 use Rattle.monad_sorts.specs.CodeTold.{names_after}
 use Rattle.rule_trees.specs.RuleTree.{Checked}
-use Rattle.rule_trees.specs.CodeNodes.{nodes}
-use Rattle.rule_eq.specs.Rule as R
 use Rattle.rule_eq.specs.Rule.{Point, does}
-use Rattle.rule_eq.specs.Table.{table, row, knowing}
+use Rattle.rule_eq.specs.Table.{table, knowing}
 use Rattle.rule_eq.specs.CodeFits.{Fits}
-use Rattle.rule_eq.specs.CodeRule.{rule_of, rule_at, tree_of, known_in, point_in}
+use Rattle.rule_eq.specs.CodeRule.{rule_at, tree_of, known_in, point_in}
 use Rattle.rule_eq.proofs.States.{point_here, begun, fits_here, decided_here, is_refused, first_as, is_miscounted, first_fits, first_less, last_less, is_bad, turned, again}
 use Rattle.rule_eq.proofs.Walked.{parts_at, two_less, one_less, choice_left, choice_right, choice_miscounted, both_fit, choice_bad, choice_onward, turn_left, turn_right, turn_miscounted, body_fits, turn_onward}
 use Rattle.rule_eq.proofs.Turning.{turn_here}
@@ -200,7 +197,7 @@ checked_turn-returns-in_default-turn t c =
 pub checked_turn-returns-in_default-only : goal.checked_turn-returns-in_default-only
 checked_turn-returns-in_default-only t c =
     let other : length (parts_at c.args.tree.now) ≡ 1 → ⊥ = search rules in
-    turn_miscounted c.args.tree.now (point_in c.args.setting c.args.facts.now c.args.inside.now) (mon_of c.args.left.now) (mon_of c.args.right.now) c.requires.turn c.requires.asked c.in-Some.ensures.some.0 c.in-Some-turn.ensures.some.0 (exp_of c.in-Some._guard.now) (exp_of c.in-Some-turn.guard.now) (exp_of c.in-Some._test.now) (exp_of c.in-Some-turn.test.now) (mon_of c.in-Some.m.now) (mon_of c.in-Some-turn.n.now) c.in-Some.ensures.some.1 c.in-Some-turn.ensures.some.1 c.args.at other
+    turn_miscounted c.args.tree.now (point_in c.args.setting c.args.facts.now c.args.inside.now) (mon_of c.args.left.now) (mon_of c.args.right.now) c.requires.turn c.requires.asked (map start_of c.in-Some._starts.now) (map start_of c.in-Some-turn._others.now) (exp_of c.in-Some._guard.now) (exp_of c.in-Some-turn.guard.now) (exp_of c.in-Some._test.now) (exp_of c.in-Some-turn.test.now) (mon_of c.in-Some.m.now) (mon_of c.in-Some-turn.n.now) c.in-Some.ensures.some c.in-Some-turn.ensures.some c.args.at other
 
 pub checked_turn-checked-requires : goal.checked_turn-checked-requires
 checked_turn-checked-requires t c =
@@ -209,10 +206,10 @@ checked_turn-checked-requires t c =
     let facts : known_in c.with-known.result ≡ Whole (exp_of c.in-Some-turn.test.now) ∷ Whole (exp_of c.in-Some-turn.guard.now) ∷ [] =
     c.with-known.ensures.facts ∙ ap (λ fs. Whole (exp_of c.in-Some-turn.test.now) ∷ fs) (c.with-first.ensures.facts ∙ ap (λ fs. Whole (exp_of c.in-Some-turn.guard.now) ∷ fs) none) in
     let here = turn_here c.args.setting (known_in c.args.facts.now) (known_in c.with-known.result) (Whole (exp_of c.in-Some-turn.test.now) ∷ Whole (exp_of c.in-Some-turn.guard.now) ∷ [])
-    (scalars_in c.args.inside.now) (scalars_in c.pass-names.result) (mon_of c.args.right.now) c.in-Some-turn.ensures.some.0 (exp_of c.in-Some-turn.guard.now) (exp_of c.in-Some-turn.test.now) (mon_of c.in-Some-turn.n.now)
-    c.in-Some-turn.ensures.some.1 c.requires.fits.right c.pass-names.ensures facts in
+    (scalars_in c.args.inside.now) (scalars_in c.pass-names.result) (mon_of c.args.right.now) (map start_of c.in-Some-turn._others.now) (exp_of c.in-Some-turn.guard.now) (exp_of c.in-Some-turn.test.now) (mon_of c.in-Some-turn.n.now)
+    c.in-Some-turn.ensures.some c.requires.fits.right c.pass-names.ensures facts in
     let less = one_less c.args.tree.now c.in-Some-only.part.now items in
-    (omega (arith, less, c.decreases), subst (λ (q : Point). Fits q.setting (mon_of c.in-Some.m.now) (mon_of c.in-Some-turn.n.now)) (sym here) (body_fits c.args.tree.now (point_in c.args.setting c.args.facts.now c.args.inside.now) (mon_of c.args.left.now) (mon_of c.args.right.now) c.requires.turn c.requires.asked c.in-Some.ensures.some.0 c.in-Some-turn.ensures.some.0 (exp_of c.in-Some._guard.now) (exp_of c.in-Some-turn.guard.now) (exp_of c.in-Some._test.now) (exp_of c.in-Some-turn.test.now) (mon_of c.in-Some.m.now) (mon_of c.in-Some-turn.n.now) c.in-Some.ensures.some.1 c.in-Some-turn.ensures.some.1 c.requires.fits))
+    (omega (arith, less, c.decreases), subst (λ (q : Point). Fits q.setting (mon_of c.in-Some.m.now) (mon_of c.in-Some-turn.n.now)) (sym here) (body_fits c.args.tree.now (point_in c.args.setting c.args.facts.now c.args.inside.now) (mon_of c.args.left.now) (mon_of c.args.right.now) c.requires.turn c.requires.asked (map start_of c.in-Some._starts.now) (map start_of c.in-Some-turn._others.now) (exp_of c.in-Some._guard.now) (exp_of c.in-Some-turn.guard.now) (exp_of c.in-Some._test.now) (exp_of c.in-Some-turn.test.now) (mon_of c.in-Some.m.now) (mon_of c.in-Some-turn.n.now) c.in-Some.ensures.some c.in-Some-turn.ensures.some c.requires.fits))
 
 pub checked_turn-returns : goal.checked_turn-returns
 checked_turn-returns t c =
@@ -221,7 +218,7 @@ checked_turn-returns t c =
     let facts : known_in c.with-known.result ≡ Whole (exp_of c.in-Some-turn.test.now) ∷ Whole (exp_of c.in-Some-turn.guard.now) ∷ [] =
     c.with-known.ensures.facts ∙ ap (λ fs. Whole (exp_of c.in-Some-turn.test.now) ∷ fs) (c.with-first.ensures.facts ∙ ap (λ fs. Whole (exp_of c.in-Some-turn.guard.now) ∷ fs) none) in
     let here = turn_here c.args.setting (known_in c.args.facts.now) (known_in c.with-known.result) (Whole (exp_of c.in-Some-turn.test.now) ∷ Whole (exp_of c.in-Some-turn.guard.now) ∷ [])
-    (scalars_in c.args.inside.now) (scalars_in c.pass-names.result) (mon_of c.args.right.now) c.in-Some-turn.ensures.some.0 (exp_of c.in-Some-turn.guard.now) (exp_of c.in-Some-turn.test.now) (mon_of c.in-Some-turn.n.now)
-    c.in-Some-turn.ensures.some.1 c.requires.fits.right c.pass-names.ensures facts in
-    turn_onward c.args.tree.now (point_in c.args.setting c.args.facts.now c.args.inside.now) (mon_of c.args.left.now) (mon_of c.args.right.now) c.requires.turn c.requires.asked c.in-Some.ensures.some.0 c.in-Some-turn.ensures.some.0 (exp_of c.in-Some._guard.now) (exp_of c.in-Some-turn.guard.now) (exp_of c.in-Some._test.now) (exp_of c.in-Some-turn.test.now) (mon_of c.in-Some.m.now) (mon_of c.in-Some-turn.n.now) c.in-Some.ensures.some.1 c.in-Some-turn.ensures.some.1 c.in-Some-only.part.now items c.args.at c.next.result c.checked.result c.next.ensures
+    (scalars_in c.args.inside.now) (scalars_in c.pass-names.result) (mon_of c.args.right.now) (map start_of c.in-Some-turn._others.now) (exp_of c.in-Some-turn.guard.now) (exp_of c.in-Some-turn.test.now) (mon_of c.in-Some-turn.n.now)
+    c.in-Some-turn.ensures.some c.requires.fits.right c.pass-names.ensures facts in
+    turn_onward c.args.tree.now (point_in c.args.setting c.args.facts.now c.args.inside.now) (mon_of c.args.left.now) (mon_of c.args.right.now) c.requires.turn c.requires.asked (map start_of c.in-Some._starts.now) (map start_of c.in-Some-turn._others.now) (exp_of c.in-Some._guard.now) (exp_of c.in-Some-turn.guard.now) (exp_of c.in-Some._test.now) (exp_of c.in-Some-turn.test.now) (mon_of c.in-Some.m.now) (mon_of c.in-Some-turn.n.now) c.in-Some.ensures.some c.in-Some-turn.ensures.some c.in-Some-only.part.now items c.args.at c.next.result c.checked.result c.next.ensures
     (subst (λ q. Checked table (tree_of c.in-Some-only.part.now) (does q (mon_of c.in-Some.m.now) (mon_of c.in-Some-turn.n.now)) c.next.result c.checked.result) here c.checked.ensures)

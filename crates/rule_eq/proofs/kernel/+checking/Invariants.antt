@@ -1,5 +1,5 @@
 -- Where the loop along a sequence stands; and each part of a tree has fewer nodes.
-use Rattle.std.proofs.Common.{ℕ, ◌+◌, ◌*◌}
+use Rattle.std.proofs.Common.{◌+◌, ◌*◌}
 use Rattle.monad_lang.specs.CodeProgram.{mon_of}
 use Rattle.monad_sorts.specs.CodeInside.{setting_in, scalars_in, no_names}
 use Rattle.rule_trees.specs.CodeNodes.{nodes}
