@@ -1,5 +1,5 @@
 -- The expressions that stand directly in two sides that fit a point are well-sorted, whatever names are in scope.
-use Rattle.std.proofs.Common.{◌≡◌, List, [], ◌∷◌, ◌++◌, Option, Some}
+use Rattle.std.proofs.Common.{◌≡◌, List, [], ◌∷◌, Option, Some, subst}
 use Rattle.c_values.specs.Name.{Name}
 use Rattle.expression_lang.specs.Expression.{Exp}
 use Rattle.expression_lang.specs.Signature.{signature}
@@ -16,7 +16,7 @@ use Rattle.monad_sorts.proofs.ValuesTold.{fits_parts}
 use Rattle.program_facts.proofs.Sorts.{call_parts}
 use Rattle.rule_eq.specs.Table.{start_exps}
 use Rattle.rule_eq.specs.CodeExps.{write_exps, AreSomewhereSorted}
-use Rattle.rule_eq.specs.CodeFits.{IsSorted, IsSomewhereSorted, Fits}
+use Rattle.rule_eq.specs.CodeFits.{IsSorted, IsSomewhereSorted}
 use Rattle.rule_eq.proofs.Direct.{scalars_sorted, starts_are_sorted, truth_sorted, write_sorted}
 use Rattle.rule_eq.proofs.Fitting.{choice_sorted, turn_sorted, itself_fits}
 
@@ -75,9 +75,6 @@ module _ (t : Setting) where
       let i = turn_sorted (with_names h.0 t) starts guard test m h.1 in
       some_sorted t.scope _ test (truth_sorted _ test i.test_sorted)
 
--- each of two sides
-pub left_fits : (t : Setting) (a b : Mon) → Fits t a b → IsSomewhereSorted t a
-left_fits t a b f = f.left
-
-pub right_fits : (t : Setting) (a b : Mon) → Fits t a b → IsSomewhereSorted t b
-right_fits t a b f = itself_fits t b f.right
+-- the right side, which is this program
+pub right_fits : (t : Setting) (b c : Mon) → b ≡ c → IsSorted t b → IsSomewhereSorted t c
+right_fits t b c e h = subst (λ q. IsSomewhereSorted t q) e (itself_fits t b h)

@@ -1,5 +1,5 @@
 -- Where a loop's guard, test and body stand, as the code has it.
-use Rattle.std.proofs.Common.{◌≡◌, List, Option, ap, ap₂, sym, subst, ◌∙◌}
+use Rattle.std.proofs.Common.{◌≡◌, List, Option, refl, ap, ap₂, subst, ◌∙◌}
 use Rattle.c_values.specs.Name.{Name}
 use Rattle.expression_lang.specs.Expression.{Exp}
 use Rattle.expression_lang.specs.Sort.{Scalar}
@@ -11,6 +11,7 @@ use Rattle.monad_sorts.specs.CodeInside.{setting_in, no_names}
 use Rattle.monad_sorts.specs.CodeTold.{names_after}
 use Rattle.rule_eq.specs.Table.{point, within}
 use Rattle.rule_eq.specs.CodeFits.{IsSorted}
+use Rattle.rule_eq.specs.CodeSteps.{IsTurn, turn_of}
 use Rattle.rule_eq.proofs.Fitting.{names_within}
 
 pub turn_here : (s : S.Setting) (fs gs hs : List Fact) (names ms : Name → Option Scalar) (whole : Mon) (starts : List Start)
@@ -20,3 +21,17 @@ turn_here s fs gs hs names ms whole starts guard test m e sorted k h =
     ap₂ (λ g n. point g (setting_in s n)) h (k ∙ ap (λ q. names_after (setting_in s no_names) 1 names q) e)
     ∙ ap (λ t. point hs t)
     (names_within (setting_in s no_names) names starts guard test m (subst (λ q. IsSorted (setting_in s names) q) e sorted))
+
+-- whatever loop it is
+pub turned_here : (s : S.Setting) (fs gs hs : List Fact) (names ms : Name → Option Scalar) (whole : Mon) → IsTurn whole →
+    IsSorted (setting_in s names) whole → ms ≡ names_after (setting_in s no_names) 1 names whole → gs ≡ hs →
+    point gs (setting_in s ms) ≡ turn_of whole hs (point fs (setting_in s names))
+turned_here s fs gs hs names ms (M.Loop starts guard test m) t sorted k h =
+    turn_here s fs gs hs names ms (M.Loop starts guard test m) starts guard test m refl sorted k h
+turned_here s fs gs hs names ms (M.Ret es) t sorted k h = absurd t
+turned_here s fs gs hs names ms (M.Bind m xs n) t sorted k h = absurd t
+turned_here s fs gs hs names ms (M.Guard e) t sorted k h = absurd t
+turned_here s fs gs hs names ms (M.If e m n) t sorted k h = absurd t
+turned_here s fs gs hs names ms (M.Write place e) t sorted k h = absurd t
+turned_here s fs gs hs names ms (M.Call f es) t sorted k h = absurd t
+turned_here s fs gs hs names ms (M.Pick j) t sorted k h = absurd t
