@@ -10,6 +10,8 @@ use Rattle.monad_lang.specs.Program.{Mon, Place, Stored, Written, Global, Start}
 use Rattle.monad_lang.specs.Run.{start_names}
 use Rattle.program_facts.specs.Places.{place_head, place_children}
 use Rattle.program_facts.specs.Substituted.{each_substituted, starts_substituted, place_substituted, program_substituted}
+use Rattle.rule_eq.specs.declared.program_putting.Looked as L
+use Rattle.rule_eq.specs.CodePutting.{SaysOf, exp_behind, put_behind, turn_put}
 use Rattle.rule_eq.proofs.PutParts.{path_head_put, put_before}
 
 -- one program of another's parts is so where its own last part is
@@ -25,22 +27,32 @@ pub loop_iff : (xs ys : List Start) (c d f g : Exp) (n m : Mon) → ys ≡ xs �
 loop_iff xs ys c d f g n m h i k = ((λ e. cc), (λ e. cc))
 
 module _ (x : Name) (e : Exp) where
-  abbrev where_bound : Bool → Exp → Exp
-  where_bound b a = if b then a else substituted x e a
+  -- what is said of the one is said of the other
+  pub says_as : (r : L.Looked) (n m n' m' : Mon) → (m ≡ n) ↔ (m' ≡ n') → SaysOf x e r n m → SaysOf x e r n' m'
+  says_as L.TheVariants.Differ n m n' m' same says = λ i. says (same.1 i)
+  says_as L.TheVariants.Same n m n' m' same says = same.0 says
+  says_as (L.TheVariants.AsLast a b) n m n' m' same says = ((λ i. same.0 (says.0 i)), (λ i. says.1 (same.1 i)))
 
-  abbrev program_bound : Bool → Mon → Mon
-  program_bound b m = if b then m else program_substituted x e m
+  pub write_iff : (place place' : Place) (a a' : Exp) (m right : Mon) → m ≡ M.Write place a → right ≡ M.Write place' a' →
+      ((place' ≡ place_substituted x e place) × (a' ≡ substituted x e a)) ↔ (right ≡ program_substituted x e m)
+  write_iff place place' a a' m right h k = (
+    (λ s. k ∙ ap₂ (λ p b. M.Write p b) s.0 s.1 ∙ sym (ap (λ q. program_substituted x e q) h)),
+    (λ s.
+        let same : M.Write place' a' ≡ M.Write (place_substituted x e place) (substituted x e a) =
+        sym k ∙ s ∙ ap (λ q. program_substituted x e q) h in
+        let there : place' ≡ place_substituted x e place = cc in
+        let given : a' ≡ substituted x e a = cc in
+        (there, given)),
+  )
 
   pub loop_put : (starts : List Start) (guard test : Exp) (m : Mon) →
-      program_substituted x e (M.Loop starts guard test m)
-      ≡ M.Loop (starts_substituted x e starts) (where_bound (is_among x (start_names starts)) guard)
-      (where_bound (is_among x (start_names starts)) test) (program_bound (is_among x (start_names starts)) m)
+      turn_put x e starts guard test m ≡ program_substituted x e (M.Loop starts guard test m)
   loop_put starts guard test m = by (is_among x (start_names starts))
     where
       by : (b : Bool) →
-          (if b then M.Loop (starts_substituted x e starts) guard test m
+          M.Loop (starts_substituted x e starts) (exp_behind x e b guard) (exp_behind x e b test) (put_behind x e b m)
+          ≡ (if b then M.Loop (starts_substituted x e starts) guard test m
           else M.Loop (starts_substituted x e starts) (substituted x e guard) (substituted x e test) (program_substituted x e m))
-          ≡ M.Loop (starts_substituted x e starts) (where_bound b guard) (where_bound b test) (program_bound b m)
       by true = refl
       by false = refl
 

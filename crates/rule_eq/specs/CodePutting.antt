@@ -1,14 +1,15 @@
 -- What a look at two sides says of the right one: whether it is the left one with an expression in place of a name.
 use Rattle.std.specs.Prelude.{◌≡◌, ◌↔◌, ℕ, ◌<◌, List, if◌then◌else◌, Bool}
-use Rattle.c_values.specs.Name.{Name}
+use Rattle.c_values.specs.Name.{Name, is_among}
 use Rattle.expression_lang.specs.Expression.{Exp}
 use Rattle.expression_lang.specs.CodeExpression.{exp_of}
 use Rattle.ac_expr.specs.Substituted.{substituted}
 use Rattle.ac_expr.specs.CodeApart.{IsAmong}
-use Rattle.monad_lang.specs.Program.{Mon}
+use Rattle.monad_lang.specs.Program.{Mon, Start, Loop}
+use Rattle.monad_lang.specs.Run.{start_names}
 use Rattle.monad_lang.specs.CodeProgram.{mon_of}
 use Rattle.monad_lang.specs.declared.program.Mon.{size-Mon}
-use Rattle.program_facts.specs.Substituted.{each_substituted, program_substituted}
+use Rattle.program_facts.specs.Substituted.{each_substituted, starts_substituted, program_substituted}
 use Rattle.rule_eq.specs.declared.putting.Putting as P
 use Rattle.rule_eq.specs.declared.program_putting.Looked as L
 
@@ -41,3 +42,9 @@ put_behind x e bound m = if bound then m else program_substituted x e m
 -- the same of an expression
 abbrev pub exp_behind : Name → Exp → Bool → Exp → Exp
 exp_behind x e bound a = if bound then a else substituted x e a
+
+-- a loop, by whether its names bind the name
+abbrev pub turn_put : Name → Exp → List Start → Exp → Exp → Mon → Mon
+turn_put x e starts guard test m =
+    Loop (starts_substituted x e starts) (exp_behind x e (is_among x (start_names starts)) guard)
+    (exp_behind x e (is_among x (start_names starts)) test) (put_behind x e (is_among x (start_names starts)) m)

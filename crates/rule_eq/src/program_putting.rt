@@ -10,7 +10,7 @@ ghost use Rattle.monad_lang.specs.CodeProgram.{place_of, start_of, mon_of};
 ghost use Rattle.monad_lang.specs.CodeFront.{IsStep};
 ghost use Rattle.program_facts.specs.Substituted.{starts_substituted, place_substituted, program_substituted};
 ghost use Rattle.ac_expr.specs.Substituted.{substituted};
-ghost use Rattle.rule_eq.specs.CodePutting.{SaysOf, LastIsSmaller, put_behind, exp_behind};
+ghost use Rattle.rule_eq.specs.CodePutting.{SaysOf, LastIsSmaller, put_behind, exp_behind, turn_put};
 
 use crate::exps::{same_place_head, write_exps};
 use crate::putting::{are_put, is_put};
@@ -48,8 +48,8 @@ pub(crate) fn is_program_put(name: &str, value: &Exp, m: &Mon, right: &Mon) -> b
     }
 }
 
+// The same of two programs, but for their last parts.
 #[cycle(programs)]
-#[tactic(auto, using(crate::proofs::ProgramPutting::bind_iff, crate::proofs::ProgramPutting::if_iff))]
 fn look<'a>(name: &str, value: &Exp, m: &'a Mon, right: &'a Mon) -> Looked<'a>
     ensures says { SaysOf name.now (exp_of value.now) result
         (program_substituted name.now (exp_of value.now) (mon_of m.now)) (mon_of right.now) }
@@ -66,7 +66,7 @@ fn look<'a>(name: &str, value: &Exp, m: &'a Mon, right: &'a Mon) -> Looked<'a>
         Mon::Bind(first, names, last) => match right {
             Mon::Bind(other, others, rest)
                 if is_program_put(name, value, first, other) && same_names(others, names) => {
-                put_behind(is_among(name, names), last, rest)
+                look_behind(is_among(name, names), last, rest)
             }
             _ => Looked::Differ,
         },
@@ -74,27 +74,49 @@ fn look<'a>(name: &str, value: &Exp, m: &'a Mon, right: &'a Mon) -> Looked<'a>
             Mon::If(other_test, other, rest)
                 if is_put(name, value, test, other_test)
                     && is_program_put(name, value, first, other) => {
-                put_behind(false, last, rest)
+                Looked::AsLast(&**last, &**rest)
             }
             _ => Looked::Differ,
         },
-        Mon::Loop(starts, guard, test, last) => match right {
-            Mon::Loop(others, other_guard, other_test, rest)
-                if are_starts_put(name, value, starts, others) => {
-                let bound = is_started(name, starts);
-                if are_tests_put(bound, name, value, guard, test, other_guard, other_test) {
-                    put_behind(bound, last, rest)
-                } else {
-                    Looked::Differ
-                }
+        Mon::Loop(starts, guard, test, last) => {
+            look_into(name, value, starts, guard, test, last, right)
+        }
+    }
+}
+
+// The same of a loop.
+#[inline(never)]
+fn look_into<'a>(
+    name: &str,
+    value: &Exp,
+    starts: &[Start],
+    guard: &Exp,
+    test: &Exp,
+    last: &'a Mon,
+    right: &'a Mon,
+) -> Looked<'a>
+    ensures says { SaysOf name.now (exp_of value.now) result
+        (turn_put name.now (exp_of value.now) (map start_of starts.now)
+        (exp_of guard.now) (exp_of test.now) (mon_of last.now)) (mon_of right.now) }
+    ensures smaller { (n : ℕ) → size-Mon last.now < n → LastIsSmaller result n }
+{
+    match right {
+        Mon::Loop(others, other_guard, other_test, rest) => {
+            let bound = is_started(name, starts);
+            if are_starts_put(name, value, starts, others)
+                && are_tests_put(bound, name, value, guard, test, other_guard, other_test)
+            {
+                look_behind(bound, last, rest)
+            } else {
+                Looked::Differ
             }
-            _ => Looked::Differ,
-        },
+        }
+        _ => Looked::Differ,
     }
 }
 
 // What is known of last parts, where the name is bound before them or not.
-fn put_behind<'a>(bound: bool, last: &'a Mon, rest: &'a Mon) -> Looked<'a>
+fn look_behind<'a>(bound: bool, last: &'a Mon, rest: &'a Mon) -> Looked<'a>
     ensures says { (x : Name) (e : plain.Exp) →
         SaysOf x e result (put_behind x e bound (mon_of last.now)) (mon_of rest.now) }
     ensures smaller { (n : ℕ) → size-Mon last.now < n → LastIsSmaller result n }
@@ -121,7 +143,8 @@ fn are_tests_put(
 ) -> bool
     ensures { IsTrue result ↔
         ((exp_of other_guard.now ≡ exp_behind name.now (exp_of value.now) bound (exp_of guard.now))
-        × (exp_of other_test.now ≡ exp_behind name.now (exp_of value.now) bound (exp_of test.now))) }
+        × (exp_of other_test.now ≡ exp_behind name.now (exp_of value.now) bound
+        (exp_of test.now))) }
 {
     if bound {
         other_guard.same(guard) && other_test.same(test)
@@ -228,7 +251,8 @@ fn is_write_put(
     other: &Exp,
 ) -> bool
     ensures { IsTrue result
-        ↔ ((place_of other_place.now ≡ place_substituted name.now (exp_of value.now) (place_of place.now))
+        ↔ ((place_of other_place.now ≡ place_substituted name.now (exp_of value.now)
+        (place_of place.now))
         × (exp_of other.now ≡ substituted name.now (exp_of value.now) (exp_of e.now))) }
 {
     same_place_head(place, other_place)

@@ -1,5 +1,5 @@
 -- What is left of both is as it is to be where both are, and no larger.
-use Rattle.std.proofs.Common.{◌≡◌, ◌↔◌, ◌≤◌}
+use Rattle.std.proofs.Common.{◌≡◌, ◌↔◌, ◌≤◌, ◌+◌, ◌*◌}
 use Rattle.expression_lang.specs.CodeExpression.{exp_of}
 use Rattle.monad_lang.specs.declared.program.Mon.{size-Mon}
 use Rattle.monad_lang.specs.CodeProgram.{mon_of}
@@ -15,3 +15,9 @@ invariant-is_program_put-along l = record {
 
 abbrev pub decreases-is_program_put-along : goal.decreases-is_program_put-along
 decreases-is_program_put-along l = size-Mon l.left
+
+abbrev pub decreases-is_program_put : goal.decreases-is_program_put
+decreases-is_program_put l = 2 * size-Mon l.m.now + 1
+
+abbrev pub decreases-look : goal.decreases-look
+decreases-look l = 2 * size-Mon l.m.now
