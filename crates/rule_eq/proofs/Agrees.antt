@@ -21,7 +21,7 @@ use Rattle.monad_lang.proofs.AgreeingValues.{value_agrees, values_agree}
 use Rattle.ac_expr.specs.Heads.{path_children}
 use Rattle.monad_lang.specs.Program as M
 use Rattle.monad_lang.specs.Program.{Mon, Place, Start}
-use Rattle.monad_lang.specs.Names.{is_free, is_in_some, is_in_start, is_in_place}
+use Rattle.monad_lang.specs.Names.{is_free, is_in_start, is_in_place}
 use Rattle.monad_lang.specs.Run.{Answer, Runs, runs, start_names, start_values}
 use Rattle.monad_lang.specs.Sorted.{Setting, scalars_given, start_scalars, one_for_each, are_scalars}
 use Rattle.program_facts.specs.Places.{place_children}

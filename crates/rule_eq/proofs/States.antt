@@ -1,5 +1,5 @@
 -- Where the kernel's loop along a sequence stands, and how it gets on.
-use Rattle.std.proofs.Common.{◌≡◌, ◌↔◌, ◌<◌, ◌≤◌, ◌+◌, ◌*◌, ℕ, zero, suc, Bool, true, false, List, [], ◌∷◌, length, Option, Result, Ok, Err, refl, sym, subst, ap, ap₂, ◌∙◌, arith, IsTrue}
+use Rattle.std.proofs.Common.{◌≡◌, ◌↔◌, ◌<◌, ◌≤◌, ◌+◌, ◌*◌, ℕ, Bool, true, false, List, [], ◌∷◌, length, Option, Result, Ok, Err, refl, sym, subst, ap, ap₂, ◌∙◌, arith, IsTrue}
 use Rattle.c_values.specs.Name.{Name}
 use Rattle.expression_lang.specs.Sort.{Scalar}
 use Rattle.ac_expr.specs.Fact.{Fact}
@@ -8,16 +8,16 @@ use Rattle.monad_lang.specs.Program.{Mon}
 use Rattle.monad_lang.specs.Sorted.{Setting}
 use Rattle.monad_sorts.specs.declared.settings.Setting as S
 use Rattle.monad_sorts.specs.CodeInside.{setting_in, no_names}
-use Rattle.monad_sorts.specs.CodeTold.{with_names, names_after, part_after}
+use Rattle.monad_sorts.specs.CodeTold.{names_after, part_after}
 use Rattle.program_facts.specs.Flow.{parts}
 use Rattle.rule_trees.specs.declared.tree.Tree as T
 use Rattle.rule_trees.specs.RuleTree.{Checked, next}
 use Rattle.rule_trees.specs.CodeNodes.{nodes}
 use Rattle.rule_eq.specs.declared.rule.Rule as C
-use Rattle.rule_eq.specs.Rule.{Rule, Point, does}
+use Rattle.rule_eq.specs.Rule.{Point, does}
 use Rattle.rule_eq.specs.Table.{point, row, table}
 use Rattle.rule_eq.specs.CodeFits.{IsSorted, Fits}
-use Rattle.rule_eq.specs.CodeRule.{rule_of, rule_at, tree_of}
+use Rattle.rule_eq.specs.CodeRule.{rule_at, tree_of}
 use Rattle.rule_eq.specs.CodeSteps.{is_along, left_first, right_first, left_behind, right_behind, point_behind, passes, rest_of}
 use Rattle.rule_eq.proofs.Along.{here, step_fits, behind_is, part_behind, rest_behind}
 use Rattle.rule_eq.proofs.Walked.{parts_at, refused, along_miscounted, along_bad, along_onward, two_less, below_by, no_larger}

@@ -16,7 +16,7 @@ use Rattle.rule_eq.specs.declared.rule.Rule as C
 use Rattle.rule_eq.specs.Rule as R
 use Rattle.rule_eq.specs.Rule.{Rule, Point, Claim, does}
 use Rattle.rule_eq.specs.Table.{knowing, within, row, table}
-use Rattle.rule_eq.specs.CodeFits.{IsSorted, Fits}
+use Rattle.rule_eq.specs.CodeFits.{Fits}
 use Rattle.rule_eq.specs.CodeRule.{rule_of, rule_at, tree_of}
 use Rattle.rule_eq.specs.CodeSteps.{is_along, is_leaf, left_first, right_first, left_behind, right_behind, point_behind}
 use Rattle.rule_eq.proofs.Along.{step_parts, leaf_parts}

@@ -49,9 +49,9 @@ fn is_free_inside(name: &str, guard: &Exp, test: &Exp, body: &Mon) -> bool
     is_in(name, guard) || is_in(name, test) || is_free(name, body)
 }
 
-/// Whether a binder of a name of the expression stands above a free place of the name. It goes along
-/// the last parts by a loop. Behind a binder of a name of the expression it asks once whether the
-/// name is free: where it isn't, nothing is captured there.
+/// Whether a binder of a name of the expression stands above a free place of the name. It goes
+/// along the last parts by a loop. Behind a binder of a name of the expression it asks once whether
+/// the name is free: where it isn't, nothing is captured there.
 #[tactic(auto, using(crate::proofs::Capturing::bind_captures, crate::proofs::Capturing::turn_captures))]
 pub(crate) fn captures(e: &Exp, name: &str, m: &Mon) -> bool
     ensures { result ≡ captures (exp_of e.now) name.now (mon_of m.now) }

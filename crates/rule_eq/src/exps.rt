@@ -85,10 +85,13 @@ pub(crate) fn is_apart(
     facts: &Facts<'_, Parts<'_>>,
     inside: &Inside<'_>,
 ) -> bool
-    requires left { IsSomeSorted (point_in setting facts.now inside.now).setting.scope (exp_of e.now) }
-    requires right { IsSomeSorted (point_in setting facts.now inside.now).setting.scope (exp_of other.now) }
+    requires left { IsSomeSorted (point_in setting facts.now inside.now).setting.scope
+        (exp_of e.now) }
+    requires right { IsSomeSorted (point_in setting facts.now inside.now).setting.scope
+        (exp_of other.now) }
     ensures { IsTrue result
-        ↔ StepApart (point_in setting.entry facts.now inside.now) (exp_of e.now) (exp_of other.now) }
+        ↔ StepApart (point_in setting.entry facts.now inside.now) (exp_of e.now)
+        (exp_of other.now) }
 {
     one_step(facts, inside, setting.layout, setting.globals, e, other)
 }
@@ -102,10 +105,13 @@ pub(crate) fn are_apart(
     facts: &Facts<'_, Parts<'_>>,
     inside: &Inside<'_>,
 ) -> bool
-    requires left { AreSomewhereSorted (point_in setting facts.now inside.now).setting.scope (exps_in left) }
-    requires right { AreSomewhereSorted (point_in setting facts.now inside.now).setting.scope (exps_in right) }
+    requires left { AreSomewhereSorted (point_in setting facts.now inside.now).setting.scope
+        (exps_in left) }
+    requires right { AreSomewhereSorted (point_in setting facts.now inside.now).setting.scope
+        (exps_in right) }
     ensures { IsTrue result
-        ↔ OneApart (point_in setting.entry facts.now inside.now) (exps_in left.entry) (exps_in right.entry) }
+        ↔ OneApart (point_in setting.entry facts.now inside.now) (exps_in left.entry)
+        (exps_in right.entry) }
 {
     if same_exps(left, right) {
         is_itself_apart(left, setting, facts, inside)
@@ -123,10 +129,13 @@ fn is_one_apart(
     inside: &Inside<'_>,
 ) -> bool
     requires differ { exps_in right ≢ exps_in left }
-    requires left { AreSomewhereSorted (point_in setting facts.now inside.now).setting.scope (exps_in left) }
-    requires right { AreSomewhereSorted (point_in setting facts.now inside.now).setting.scope (exps_in right) }
+    requires left { AreSomewhereSorted (point_in setting facts.now inside.now).setting.scope
+        (exps_in left) }
+    requires right { AreSomewhereSorted (point_in setting facts.now inside.now).setting.scope
+        (exps_in right) }
     ensures { IsTrue result
-        ↔ OneApart (point_in setting.entry facts.now inside.now) (exps_in left.entry) (exps_in right.entry) }
+        ↔ OneApart (point_in setting.entry facts.now inside.now) (exps_in left.entry)
+        (exps_in right.entry) }
 {
     let mut ones = left;
     let mut others = right;
@@ -152,9 +161,11 @@ fn is_itself_apart(
     facts: &Facts<'_, Parts<'_>>,
     inside: &Inside<'_>,
 ) -> bool
-    requires { AreSomewhereSorted (point_in setting facts.now inside.now).setting.scope (exps_in exps) }
+    requires { AreSomewhereSorted (point_in setting facts.now inside.now).setting.scope
+        (exps_in exps) }
     ensures { IsTrue result
-        ↔ OneApart (point_in setting.entry facts.now inside.now) (exps_in exps.entry) (exps_in exps.entry) }
+        ↔ OneApart (point_in setting.entry facts.now inside.now) (exps_in exps.entry)
+        (exps_in exps.entry) }
 {
     let mut rest = exps;
     'along: loop {

@@ -32,7 +32,8 @@ pub(crate) fn is_asked(
     facts: &Facts<'_, Parts<'_>>,
     inside: &Inside<'_>,
 ) -> bool
-    requires { Fits (point_in setting facts.now inside.now).setting (mon_of left.now) (mon_of right.now) }
+    requires { Fits (point_in setting facts.now inside.now).setting (mon_of left.now)
+        (mon_of right.now) }
     ensures { IsTrue result ↔ (row (point_in setting.entry facts.now inside.now)
         (rule_of rule.now) (mon_of left.now) (mon_of right.now)).holds }
 {
@@ -61,7 +62,8 @@ fn is_between(
 ) -> bool
     requires { IsSorted (point_in setting facts.now inside.now).setting (mon_of right.now) }
     ensures { IsTrue result
-        ↔ IsBetween (point_in setting.entry facts.now inside.now) (mon_of between.now) (mon_of right.now) }
+        ↔ IsBetween (point_in setting.entry facts.now inside.now) (mon_of between.now)
+        (mon_of right.now) }
 {
     gives_as(between, right, inside, setting)
 }

@@ -41,9 +41,11 @@ pub fn substitution_is_exact()
         (scoped : Name → Option Scalar) (given : List Scalar) →
         scalars_given (setting_in sort_of_kind u scoped) m ≡ Some given →
         (depth : Option ℕ) (env : Env) (s : State) → IsState u.layout u.globals s →
-        IsEnvironment (setting_in sort_of_kind u scoped).scope (with_name x (value u.layout env s e) env) →
+        IsEnvironment (setting_in sort_of_kind u scoped).scope (with_name x
+        (value u.layout env s e) env) →
         Corresponds Same BothFail
-        (runs u.layout p m (with_name x (value u.layout env s e) env) depth (functions_below u p n) s)
+        (runs u.layout p m (with_name x (value u.layout env s e) env) depth
+        (functions_below u p n) s)
         (runs u.layout p (program_substituted x e m) env depth (functions_below u p n) s) }
 {}
 

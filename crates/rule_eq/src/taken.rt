@@ -112,7 +112,8 @@ fn is_right(
 ) -> bool
     requires { at_position position (map exp_of values.now) ≡ Some (exp_of value.now) }
     ensures { IsTrue result ↔ (mon_of right.now
-        ≡ with_values (without position (map exp_of values.now)) (without position (map string_bytes names.now))
+        ≡ with_values (without position (map exp_of values.now)) (without position
+        (map string_bytes names.now))
         (program_substituted name.now (exp_of value.now) (mon_of m.now))) }
 {
     if values.len() == 1 {

@@ -1,5 +1,5 @@
 -- The heads decide, and then what the children show; behind the first of two rows the others do.
-use Rattle.std.proofs.Common.{rules, ◌≡◌, ◌≤◌, ◌<◌, ◌+◌, ◌*◌, ◌∷◌, [], refl, sym, subst, ◌∙◌, arith}
+use Rattle.std.proofs.Common.{rules, ◌≡◌, ◌<◌, ◌+◌, ◌*◌, ◌∷◌, [], refl, sym, subst, ◌∙◌, arith}
 use Rattle.std.proofs.lemmas.Bool.{false≢true}
 use Rattle.expression_lang.specs.CodeExpression.{exp_of}
 use Rattle.ac_expr.specs.CodeApart.{IsAmong, size}
