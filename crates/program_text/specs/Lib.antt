@@ -1,2 +1,6 @@
 pub mod Kinds
+pub mod MonText
+pub mod MonReading
+pub mod CodeMonRows
+pub mod CodeWriting
 pub mod Answer
