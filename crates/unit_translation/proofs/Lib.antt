@@ -1,0 +1,2 @@
+pub mod ReadyToLift
+pub mod LastUnit

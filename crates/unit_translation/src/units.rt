@@ -1,0 +1,84 @@
+//! The last programs of a unit.
+
+ghost use Rattle.std.specs.Prelude.{◌≡◌, IfOk, map};
+ghost use Rattle.c_values.specs.Name.{Name};
+ghost use Rattle.expression_lang.specs.Sort as sorts;
+ghost use Rattle.expression_lang.specs.CodeSignature.{signature_of};
+ghost use Rattle.ac_expr.specs.SameExp.{same_exp};
+ghost use Rattle.simpl_lang.specs.CodeCommand.{simpl_fn_of, simpl_unit_of};
+ghost use Rattle.monad_lang.specs.CodeProgram.{final_fn_of, final_unit_of};
+ghost use Rattle.c_lang.specs.CodeTyped.{unit_of};
+ghost use Rattle.c_lang.specs.WellTyped.{IsWellTyped};
+ghost use Rattle.generation.specs.Generate.{generated};
+ghost use Rattle.exactness.specs.Exact.{IsExact};
+ghost use Rattle.heap_ready.specs.Ready.{CallsLifted};
+ghost use Rattle.acceptance.specs.Accepted.{IsAccepted};
+ghost use Rattle.acceptance_laws.specs.Made.{certificate_made};
+ghost use Rattle.acceptance_laws.specs.Units.{last_unit};
+ghost use Rattle.c_levels.specs.CodeModes.{AreLevels};
+ghost use Rattle.unit_translation.specs.CodeTranslated.{AllReadyToLift, last_functions};
+
+use crate::functions::translated;
+use c_lang::TypedUnit;
+use c_levels::Modes;
+use monad_lang::{FinalFn, FinalUnit};
+use simpl_gen::generate;
+use simpl_lang::SimplUnit;
+use std::alloc::{AllocError, Global};
+
+/// The programs of a well-typed unit at the levels of its functions: exceptions taken out, locals
+/// lifted, loads made reads where a function is lifted, and words made numbers where its level says
+/// so. They are those of an accepted certificate, whose last steps change nothing; so where a lifted
+/// function calls lifted ones alone, they are exact. There is no answer only where memory is wanting.
+pub fn translate_unit(alloc: Global, u: &TypedUnit, modes: &Modes) -> Result<FinalUnit, AllocError>
+    requires typed { IsWellTyped (unit_of u.now) }
+    requires levels { (levels : Name → sorts.Level) × AreLevels (unit_of u.now) modes.now levels }
+    ensures translated { IfOk result
+        (λ v. (levels : Name → sorts.Level) → AreLevels (unit_of u.now) modes.now levels →
+        final_unit_of v ≡ last_unit (generated (unit_of u.now) levels)
+        (certificate_made same_exp (generated (unit_of u.now) levels))) }
+    ensures accepted { IfOk result
+        (λ v. (levels : Name → sorts.Level) → AreLevels (unit_of u.now) modes.now levels →
+        CallsLifted levels (unit_of u.now).functions →
+        IsAccepted (generated (unit_of u.now) levels)
+        (certificate_made same_exp (generated (unit_of u.now) levels))) }
+    ensures exact { IfOk result
+        (λ v. (levels : Name → sorts.Level) → AreLevels (unit_of u.now) modes.now levels →
+        CallsLifted levels (unit_of u.now).functions →
+        IsExact (unit_of u.now) levels (final_unit_of v)) }
+{
+    let generated = generate(alloc, u, modes)?;
+    let functions = functions(alloc, &generated)?;
+    let SimplUnit {
+        layout,
+        globals,
+        functions: _commands,
+        signatures: _signatures,
+    } = generated;
+    Ok(FinalUnit {
+        layout,
+        globals,
+        functions,
+    })
+}
+
+// Each function with its last program.
+fn functions(alloc: Global, u: &SimplUnit) -> Result<Vec<FinalFn>, AllocError>
+    requires ready { AllReadyToLift (map simpl_fn_of u.now.functions.items)
+        (map signature_of u.now.signatures.items) }
+    ensures { IfOk result (λ fs. map final_fn_of fs.items ≡ last_functions (simpl_unit_of u.now)
+        (map simpl_fn_of u.now.functions.items) (map signature_of u.now.signatures.items)) }
+{
+    let mut made = Vec::new(alloc);
+    let mut functions = u.functions.as_slice();
+    let mut signatures = u.signatures.as_slice();
+    'functions: while let Some((f, others)) = functions.split_first() {
+        let Some((s, behind)) = signatures.split_first() else {
+            break;
+        };
+        made.push(translated(alloc, u, f, s)?)?;
+        functions = others;
+        signatures = behind;
+    }
+    Ok(made)
+}
