@@ -57,9 +57,9 @@ module _ (words : List Name) (contents : Name → Option (List ℕ)) (before aft
   written Memory lines h e = absurd ((nothing_to _ Memory lines h).1 refl)
   written NotYet lines h e = record { lines = lines; answer = h; whole = e }
 
-  module _ (file text : List ℕ) (ts : List Lexeme) (tree : List External) (unit : TypedUnit) (functions : List SumFunction) (shows : plain_show (command_of words) ≡ Some file)
+  module _ (file text : List ℕ) (ts : List Lexeme) (tree : List External) (unit : TypedUnit) (shows : plain_show (command_of words) ≡ Some file)
       (is_text : contents file ≡ Some text) (within : length text ≤ source_limit) (are_tokens : Tokens text ts) (is_tree : IsTree ts tree)
-      (typed : IsTyped Ilp32 tree unit) (of_class : class_of unit ≡ Some functions) (readable : Rose (before file) (after file) → ⊥) where
+      (typed : IsTyped Ilp32 tree unit) (readable : Rose (before file) (after file) → ⊥) where
     of_file : (status : Status) (lines : List ℕ) → IsAnswer words contents before after status lines → IsFileAnswer file (Some text) (before file) (after file) status lines
     of_file status lines h =
         subst (λ c. IsFileAnswer file c (before file) (after file) status lines) is_text
@@ -100,14 +100,6 @@ module _ (words : List Name) (contents : Name → Option (List ℕ)) (before aft
         let first = subst (λ t. first_limit t ≡ Some (past.limit, past.at)) e past.passes.first in
         absurd cc
 
-    not_unshown : (lines : List ℕ) → OfTokens text NotYet lines → ⊥
-    not_unshown lines h =
-        let other = of_tokens NotYet lines h in
-        let e = this_tree other.tree other.is_tree in
-        let same = same_unit (checked Ilp32 tree) other.answer.unit (subst (λ t. checked Ilp32 t ≡ Good other.answer.unit) e other.answer.typed) typed in
-        let none = subst (λ u. class_of u ≡ None) same other.answer.answer.of_no_class in
-        absurd cc
-
     read : (status : Status) (lines : List ℕ) → (h : Reads (Some text) status lines) → IsTextAnswer text status lines
     read status lines h = subst (λ t. IsTextAnswer t status lines) h.is_text h.answer
 
@@ -122,7 +114,7 @@ module _ (words : List Name) (contents : Name → Option (List ℕ)) (before aft
     is_done Limit lines (inl h) = absurd (omega (arith, h.0, within))
     is_done Limit lines (inr h) = absurd (not_past lines (read Limit lines h))
     is_done Memory lines h = absurd h.answer.answer.answer.answer
-    is_done NotYet lines h = absurd (not_unshown lines (read NotYet lines h))
+    is_done NotYet lines h = absurd h.answer.answer.answer.answer
 
     -- where the sink doesn't fail either, the text is shown, or memory was short
     pub shown : (Rose sink_before sink_after → ⊥) → (status : Status) → EndsWith words contents before after taken taken' sink_before sink_after status → (status ≡ Done) ⊎ (status ≡ Memory)

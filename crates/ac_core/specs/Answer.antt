@@ -11,6 +11,7 @@ use Rattle.c_grammar.specs.Place.{IsPlace}
 use Rattle.c_limits.specs.Limits.{first_limit}
 use Rattle.c_parse.specs.Answer.{HasNoTree, Passes}
 use Rattle.c_limits.specs.declared.limits.Limit as limits
+use Rattle.expression_lang.specs.Sort.{Level}
 use Rattle.monad_lang.specs.Program.{FinalUnit, FinalFn}
 use Rattle.monad_lang.specs.Form.{is_numbers}
 use Rattle.monad_lang.specs.Sorted.{IsWellFormed}
@@ -22,6 +23,8 @@ use Rattle.c_values.specs.Types.{Ilp32}
 use Rattle.c_lang.specs.Typed.{TypedUnit}
 use Rattle.typing_rules.specs.Unit.{IsTyped, IsFirstBad}
 use Rattle.typing_rules.specs.declared.fault.TypeKind.{TypeKind}
+use Rattle.c_meaning.specs.Levels.{AreDefaultLevels}
+use Rattle.unit_translation.specs.Forms.{AreOfTheirForms}
 use Rattle.ac_core.specs.Sum.{SumFunction, levels}
 use Rattle.ac_core.specs.Class.{class_of}
 use Rattle.ac_core.specs.Refusal.{cause_text, kind_text, source_line, limit_line}
@@ -58,15 +61,22 @@ pub record ShowsExact (unit : TypedUnit) (lines : List ℕ) : Type 0 where
   pub numbers : AreInNumbers programs.functions
   pub written : lines ≡ unit_text programs
 
--- the unit is of no class that is shown so far
-pub record ShowsNothing (unit : TypedUnit) (lines : List ℕ) : Type 0 where
+-- What is written is the text of the programs that the C functions are translated to, at the levels that they have by default: well-formed,
+-- each of its level's form, and exact. They aren't made tidy, so units of the class are shown as above.
+pub record ShowsTranslated (unit : TypedUnit) (lines : List ℕ) : Type 0 where
+  pub levels : Name → Level
+  pub programs : FinalUnit
   pub of_no_class : class_of unit ≡ None
-  pub written : lines ≡ codes "not yet\n"
+  pub default : AreDefaultLevels unit [] [] levels
+  pub of_unit : AreProgramsOf unit levels programs
+  pub exact : IsExact unit levels programs
+  pub well_formed : IsWellFormed programs
+  pub formed : AreOfTheirForms programs.functions
+  pub written : lines ≡ unit_text programs
 
 -- the answer to a typed text
 abbrev pub IsUnitAnswer : TypedUnit → Status → List ℕ → Type 0
-IsUnitAnswer unit Done lines = ShowsExact unit lines
-IsUnitAnswer unit NotYet lines = ShowsNothing unit lines
+IsUnitAnswer unit Done lines = ShowsExact unit lines ⊎ ShowsTranslated unit lines
 IsUnitAnswer unit _ lines = ⊥
 
 -- the text is typed as a unit, and this is the answer to that

@@ -11,6 +11,7 @@ ghost use Rattle.c_values.specs.Types.{Ilp32};
 ghost use Rattle.typing_rules.specs.Unit.{IsTyped};
 ghost use Rattle.typing_laws.specs.Written.{AreWritten};
 ghost use Rattle.c_lang.specs.CodeTyped.{unit_of};
+ghost use Rattle.ac_core.specs.Class.{class_of};
 ghost use Rattle.ac_core.specs.Answer.{IsAnswer, IsUnshown, IsFileAnswer, IsTextAnswer, IsTokensAnswer, IsTreeAnswer, IsUnitAnswer};
 ghost use Rattle.ac_core.specs.declared.status.Status.{Status};
 
@@ -22,11 +23,13 @@ use crate::sum::translate;
 use crate::words::{is_form, shown_file};
 use ac_base::{ReadTrouble, Shelf, read_whole};
 use c_grammar::tree::Unit;
+use c_levels::default_modes;
 use c_lex::{Token, tokens};
 use c_parse::{ParseFault, parse};
 use c_types::{TypeFault, TypedUnit, check_unit};
 use c_values::Target;
 use std::alloc::{AllocError, Global};
+use unit_translation::translate_unit;
 
 /// A status with the lines of the answer.
 #[derive(Drop)]
@@ -127,7 +130,7 @@ fn show_unit(alloc: Global, unit: TypedUnit) -> Result<Answer, AllocError>
     ensures { IfOk result (λ a. IsUnitAnswer (unit_of unit) a.status a.lines.items) }
 {
     match class_of(alloc, &unit)? {
-        None => line(alloc, Status::NotYet, "not yet\n"),
+        None => show_translated(alloc, &unit),
         Some(functions) => {
             let programs = translate(alloc, unit.layout, &functions)?;
             Ok(Answer {
@@ -136,6 +139,20 @@ fn show_unit(alloc: Global, unit: TypedUnit) -> Result<Answer, AllocError>
             })
         }
     }
+}
+
+// What is shown of a typed text of no class that is shown shorter.
+fn show_translated(alloc: Global, unit: &TypedUnit) -> Result<Answer, AllocError>
+    requires typed { (tree : List External) × AreWritten tree × IsTyped Ilp32 tree (unit_of unit.now) }
+    requires of_no_class { class_of (unit_of unit.now) ≡ None }
+    ensures { IfOk result (λ a. IsUnitAnswer (unit_of unit.now) a.status a.lines.items) }
+{
+    let modes = default_modes(alloc, unit, &[], &[])?;
+    let programs = translate_unit(alloc, unit, &modes)?;
+    Ok(Answer {
+        status: Status::Done,
+        lines: write_program(alloc, &programs)?,
+    })
 }
 
 fn read_fault(alloc: Global, file: &str) -> Result<Answer, AllocError>

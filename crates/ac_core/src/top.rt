@@ -9,8 +9,6 @@ ghost use Rattle.ac_core.specs.Words.{command_of, plain_show};
 ghost use Rattle.c_values.specs.Types.{Ilp32};
 ghost use Rattle.c_lang.specs.Typed.{TypedUnit};
 ghost use Rattle.typing_rules.specs.Unit.{IsTyped};
-ghost use Rattle.ac_core.specs.Sum.{SumFunction};
-ghost use Rattle.ac_core.specs.Class.{class_of};
 ghost use Rattle.ac_core.specs.Answer.{EndsWith, IsTree, source_limit};
 
 use crate::Status;
@@ -21,8 +19,9 @@ use std::alloc::Global;
 /// Does what the words ask for: reads the files that they name from the shelf, and writes the
 /// answer, or the line of a fault, to the sink.
 ///
-/// So far `show FILE` is built, for a text without globals that has at most one function, of
-/// unsigned parameters, which returns a sum of them and of constants.
+/// So far `show FILE` is built. A text without globals that has at most one function, of unsigned
+/// parameters, which returns a sum of them and of constants, is shown as tidy programs; of any other
+/// text the programs aren't made tidy yet.
 pub fn autocorres<H: Shelf, K: Sink>(
     alloc: Global,
     words: &[String],
@@ -35,13 +34,13 @@ pub fn autocorres<H: Shelf, K: Sink>(
         (H.faults shelf.new)
         (K.taken sink.old) (K.taken sink.new) (K.faults sink.old) (K.faults sink.new) result }
 
-    // A text that can be shown is shown, where neither its file nor the sink fails, unless memory
+    // A typed text within the limits is shown, where neither its file nor the sink fails, unless memory
     // runs out.
     ensures complete { (file text : List ℕ) (ts : List Lexeme) (tree : List External)
-        (unit : TypedUnit) (functions : List SumFunction) →
+        (unit : TypedUnit) →
         plain_show (command_of (map string_bytes words.now)) ≡ Some file →
         H.contents shelf.old file ≡ Some text → length text ≤ source_limit →
-        Tokens text ts → IsTree ts tree → IsTyped Ilp32 tree unit → class_of unit ≡ Some functions →
+        Tokens text ts → IsTree ts tree → IsTyped Ilp32 tree unit →
         ¬ Rose (H.faults shelf.old file) (H.faults shelf.new file) →
         ¬ Rose (K.faults sink.old) (K.faults sink.new) →
         (result ≡ Status.Done) ⊎ (result ≡ Status.Memory) }

@@ -1,6 +1,6 @@
 //! Texts, one a line, each with the line that shows it or refuses it.
 
-/// A sentence of the typing rules each, and of the class of texts that are shown.
+/// A sentence of the typing rules each. `shown` stands for any programs.
 pub(crate) const ROWS: &str = "\
 int f(void){return x;} => source: unknown at 19
 enum e x; => source: unknown at 0
@@ -142,55 +142,55 @@ int f(char a[4097]); => source: too large at 11
 int f(int[0]); => source: too large at 9
 typedef int t[4096][5]; => source: too large at 12
 struct s{int a[4097];}; => source: too large at 13
-int f(void){return 0;} => not yet
-int f(int a){return a;}int g(int a){int r;r=f(a);return r;} => not yet
-int g(int);int f(int a){int r;r=g(a);return r;}int g(int a){int r;r=f(a);return r;} => not yet
-extern int x;int x;extern int x; => not yet
-int x=1;int*p=0;int*q=(void*)0;void*r=0; => not yet
-enum{A,B=5,C};int a[C];int f(void){return A+B+C;} => not yet
-enum e{A};enum e f(enum e x){return x;} => not yet
-struct{int a;}x;struct{int b;}y;int f(void){return x.a+y.b;} => not yet
-struct s{int a;struct s*next;};int f(struct s*p){return p->next->a;} => not yet
-struct s{int a[2][3];};int f(struct s*p,int i){return p->a[i][2];} => not yet
-struct s{int a;};void f(struct s*p,struct s*q){*p=*q;} => not yet
-struct s{int a;};struct s g;void f(struct s*p){g=*p;*p=g;} => not yet
+int f(void){return 0;} => shown
+int f(int a){return a;}int g(int a){int r;r=f(a);return r;} => shown
+int g(int);int f(int a){int r;r=g(a);return r;}int g(int a){int r;r=f(a);return r;} => shown
+extern int x;int x;extern int x; => shown
+int x=1;int*p=0;int*q=(void*)0;void*r=0; => shown
+enum{A,B=5,C};int a[C];int f(void){return A+B+C;} => shown
+enum e{A};enum e f(enum e x){return x;} => shown
+struct{int a;}x;struct{int b;}y;int f(void){return x.a+y.b;} => shown
+struct s{int a;struct s*next;};int f(struct s*p){return p->next->a;} => shown
+struct s{int a[2][3];};int f(struct s*p,int i){return p->a[i][2];} => shown
+struct s{int a;};void f(struct s*p,struct s*q){*p=*q;} => shown
+struct s{int a;};struct s g;void f(struct s*p){g=*p;*p=g;} => shown
 struct s{char a[4096][16];}; => (program)
-int a[4096];char b[4096][16]; => not yet
-int f(int a){{int a;a=1;}return a;} => not yet
-int f(int a){for(int a=0;a<3;a++);return a;} => not yet
-void f(int a){switch(a){case 1:;int y;y=1;break;case 2:;{int y;y=2;}}} => not yet
-int f(int a){switch(a){case 1:case 2:return 1;case 3:while(1)break;return 2;default:break;}return 0;} => not yet
-int f(void*p,int*q){q=p;p=q;return p==q&&q==0&&p==(void*)0;} => not yet
-int f(int a,int*p,void*q){p=a?p:0;q=a?p:q;return 0;} => not yet
-int f(int*p){return p[1]+*(p+1)+*(1+p)+*(p-1);} => not yet
-int*f(int*p){return &p[3];} => not yet
-int*f(int*p){return &*p;} => not yet
-struct s{int a[3];};int*f(struct s*p){return p->a;} => not yet
-struct s{int a[3];};int f(struct s*p){return sizeof p->a+sizeof(1?0:0);} => not yet
-unsigned f(int*p){return sizeof*p+sizeof p+sizeof(int*);} => not yet
-int f(char*p){p++;++p;return 0;} => not yet
-int f(int a){a+=1;a<<=2;a++;--a;return a;} => not yet
-void f(void);void f(void){return;} => not yet
-static inline const int f(const int a){return a;} => not yet
-int f(int a[]){return a[0];} => not yet
-int f(int a[3]){return *a;} => not yet
+int a[4096];char b[4096][16]; => shown
+int f(int a){{int a;a=1;}return a;} => shown
+int f(int a){for(int a=0;a<3;a++);return a;} => shown
+void f(int a){switch(a){case 1:;int y;y=1;break;case 2:;{int y;y=2;}}} => shown
+int f(int a){switch(a){case 1:case 2:return 1;case 3:while(1)break;return 2;default:break;}return 0;} => shown
+int f(void*p,int*q){q=p;p=q;return p==q&&q==0&&p==(void*)0;} => shown
+int f(int a,int*p,void*q){p=a?p:0;q=a?p:q;return 0;} => shown
+int f(int*p){return p[1]+*(p+1)+*(1+p)+*(p-1);} => shown
+int*f(int*p){return &p[3];} => shown
+int*f(int*p){return &*p;} => shown
+struct s{int a[3];};int*f(struct s*p){return p->a;} => shown
+struct s{int a[3];};int f(struct s*p){return sizeof p->a+sizeof(1?0:0);} => shown
+unsigned f(int*p){return sizeof*p+sizeof p+sizeof(int*);} => shown
+int f(char*p){p++;++p;return 0;} => shown
+int f(int a){a+=1;a<<=2;a++;--a;return a;} => shown
+void f(void);void f(void){return;} => shown
+static inline const int f(const int a){return a;} => shown
+int f(int a[]){return a[0];} => shown
+int f(int a[3]){return *a;} => shown
 typedef struct node node_t;struct node{node_t*next;}; => (program)
-long long x=9223372036854775807;unsigned long long y=18446744073709551615u; => not yet
-int f(unsigned a,long b){return a<b;} => not yet
-long const int x; => not yet
+long long x=9223372036854775807;unsigned long long y=18446744073709551615u; => shown
+int f(unsigned a,long b){return a<b;} => shown
+long const int x; => shown
 int; => (program)
 unsigned inc(unsigned a){return a+1;} => (program (inc numbers ((a (nat 32))) ((nat 32)) (do () (guard (between 0 (add a 1) 4294967295)) (ret (add a 1)))))
 unsigned f(void){return 7;} => (program (f numbers () ((nat 32)) (ret 7)))
-unsigned f(void){return -1;} => not yet
+unsigned f(void){return -1;} => shown
 enum{A=-1};unsigned f(void){return A;} => (program (f numbers () ((nat 32)) (ret 4294967295)))
 typedef unsigned u;struct s{u a;};u f(u a){return (a)+sizeof(struct s);} => (program (f numbers ((a (nat 32))) ((nat 32)) (do () (guard (between 0 (add a 4) 4294967295)) (ret (add a 4)))))
 unsigned f(unsigned a){return 'a'+a;} => (program (f numbers ((a (nat 32))) ((nat 32)) (do () (guard (between 0 (add 97 a) 4294967295)) (ret (add 97 a)))))
-unsigned f(char*a){return sizeof(int*)+sizeof*(int*)a;} => not yet
-unsigned f(unsigned a){unsigned b;return a;} => not yet
-unsigned f(unsigned a){return a+sizeof*(int*)a;} => not yet
-unsigned f(unsigned a){return a;}unsigned g(unsigned a){return a;} => not yet
-unsigned f(unsigned a){return a+1l;} => not yet
-unsigned f(unsigned a){return a-a;} => not yet
-unsigned f(int a){return a;} => not yet
-int f(unsigned a){return 1;} => not yet
+unsigned f(char*a){return sizeof(int*)+sizeof*(int*)a;} => shown
+unsigned f(unsigned a){unsigned b;return a;} => shown
+unsigned f(unsigned a){return a+sizeof*(int*)a;} => shown
+unsigned f(unsigned a){return a;}unsigned g(unsigned a){return a;} => shown
+unsigned f(unsigned a){return a+1l;} => shown
+unsigned f(unsigned a){return a-a;} => shown
+unsigned f(int a){return a;} => shown
+int f(unsigned a){return 1;} => shown
 ";

@@ -18,14 +18,14 @@ use Rattle.acceptance_laws.specs.Made.{all_steps_made, certificate_made}
 use Rattle.acceptance_laws.specs.Units.{on_numbers, functions_with, last_unit}
 use Rattle.acceptance_laws.proofs.AcceptedExact.{accepted_is_exact}
 use Rattle.acceptance_laws.proofs.MadeAccepted.{certificates_are_there}
-use Rattle.unit_translation.specs.CodeTranslated.{last_functions}
+use Rattle.unit_translation.specs.CodeTranslated.{last_program, last_functions}
 
 functions_are : (u : SimplUnit) (fs : List SimplFn) (ss : List Signature) →
     functions_with on_numbers (λ c. c.equal.program) ss (all_steps_made same_exp u fs ss) ≡ last_functions u fs ss
 functions_are u [] [] = refl
 functions_are u [] (s ∷ ss) = refl
 functions_are u (f ∷ fs) [] = refl
-functions_are u (f ∷ fs) (s ∷ ss) = ap (λ gs. _ ∷ gs) (functions_are u fs ss)
+functions_are u (f ∷ fs) (s ∷ ss) = ap (λ gs. on_numbers s (last_program u f s) ∷ gs) (functions_are u fs ss)
 
 abbrev pub unit_made : SimplUnit → FinalUnit
 unit_made u = record { layout = u.layout; globals = u.globals; functions = last_functions u u.functions u.signatures }

@@ -1,2 +1,4 @@
 pub mod ReadyToLift
 pub mod LastUnit
+pub mod LevelsThere
+pub mod Formed

@@ -1,6 +1,7 @@
 -- The programs of a function after each step, and those of a unit, as the code makes them.
 use Rattle.std.specs.Prelude.{List, [], ◌∷◌, if◌then◌else◌}
-use Rattle.expression_lang.specs.Sort.{is_lifted}
+use Rattle.c_values.specs.Name.{Name, same_name}
+use Rattle.expression_lang.specs.Sort.{Level, Bytes, is_lifted}
 use Rattle.expression_lang.specs.Signature.{Signature}
 use Rattle.ac_expr.specs.SameExp.{same_exp}
 use Rattle.simpl_lang.specs.Command.{SimplFn, SimplUnit}
@@ -9,7 +10,8 @@ use Rattle.rule_exn.specs.Eliminated.{exceptions_eliminated}
 use Rattle.rule_local.specs.Units.{context_of, outputs_of}
 use Rattle.local_lift.specs.Ready.{IsReady}
 use Rattle.rule_heap.specs.HeapLifted.{on_heaps}
-use Rattle.acceptance_laws.specs.Made.{local_made, word_made}
+use Rattle.c_lang.specs.Typed.{TypedFn}
+use Rattle.acceptance_laws.specs.Made.{local_made, steps_made}
 use Rattle.acceptance_laws.specs.Units.{on_numbers}
 
 abbrev pub lifted_program : SimplFn → Signature → Mon
@@ -19,7 +21,7 @@ abbrev pub heap_program : SimplFn → Signature → Mon
 heap_program f s = if is_lifted f.level then on_heaps (lifted_program f s) else lifted_program f s
 
 abbrev pub last_program : SimplUnit → SimplFn → Signature → Mon
-last_program u f s = (word_made same_exp u f s (heap_program f s)).program
+last_program u f s = (steps_made same_exp u f s).equal.program
 
 abbrev pub last_functions : SimplUnit → List SimplFn → List Signature → List FinalFn
 last_functions u (f ∷ fs) (s ∷ ss) = on_numbers s (last_program u f s) ∷ last_functions u fs ss
@@ -33,3 +35,8 @@ IsReadyToLift f s = IsReady (context_of f s) (exceptions_eliminated f.body).righ
 abbrev pub AllReadyToLift : List SimplFn → List Signature → Type 0
 AllReadyToLift (f ∷ fs) (s ∷ ss) = IsReadyToLift f s × AllReadyToLift fs ss
 AllReadyToLift _ _ = Unit {0}
+
+-- The level at the position of the first function of a name.
+abbrev pub level_at : List TypedFn → List Level → Name → Level
+level_at (f ∷ fs) (k ∷ ks) x = if same_name f.name x then k else level_at fs ks x
+level_at _ _ x = Bytes

@@ -1,1 +1,2 @@
 pub mod CodeTranslated
+pub mod Forms

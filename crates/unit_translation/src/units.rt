@@ -1,25 +1,27 @@
 //! The last programs of a unit.
 
-ghost use Rattle.std.specs.Prelude.{◌≡◌, IfOk, map};
+ghost use Rattle.std.specs.Prelude.{◌≡◌, IfOk, length, map};
 ghost use Rattle.c_values.specs.Name.{Name};
 ghost use Rattle.expression_lang.specs.Sort as sorts;
 ghost use Rattle.expression_lang.specs.CodeSignature.{signature_of};
 ghost use Rattle.ac_expr.specs.SameExp.{same_exp};
 ghost use Rattle.simpl_lang.specs.CodeCommand.{simpl_fn_of, simpl_unit_of};
 ghost use Rattle.monad_lang.specs.CodeProgram.{final_fn_of, final_unit_of};
+ghost use Rattle.monad_lang.specs.Sorted.{IsWellFormed};
 ghost use Rattle.c_lang.specs.CodeTyped.{unit_of};
 ghost use Rattle.c_lang.specs.WellTyped.{IsWellTyped};
 ghost use Rattle.generation.specs.Generate.{generated};
-ghost use Rattle.exactness.specs.Exact.{IsExact};
+ghost use Rattle.exactness.specs.Exact.{AreProgramsOf, IsExact};
 ghost use Rattle.heap_ready.specs.Ready.{CallsLifted};
 ghost use Rattle.acceptance.specs.Accepted.{IsAccepted};
 ghost use Rattle.acceptance_laws.specs.Made.{certificate_made};
 ghost use Rattle.acceptance_laws.specs.Units.{last_unit};
 ghost use Rattle.c_levels.specs.CodeModes.{AreLevels};
 ghost use Rattle.unit_translation.specs.CodeTranslated.{AllReadyToLift, last_functions};
+ghost use Rattle.unit_translation.specs.Forms.{AreOfTheirForms};
 
 use crate::functions::translated;
-use c_lang::TypedUnit;
+use c_lang::tree::TypedUnit;
 use c_levels::Modes;
 use monad_lang::{FinalFn, FinalUnit};
 use simpl_gen::generate;
@@ -32,7 +34,7 @@ use std::alloc::{AllocError, Global};
 /// function calls lifted ones alone, they are exact. There is no answer only where memory is wanting.
 pub fn translate_unit(alloc: Global, u: &TypedUnit, modes: &Modes) -> Result<FinalUnit, AllocError>
     requires typed { IsWellTyped (unit_of u.now) }
-    requires levels { (levels : Name → sorts.Level) × AreLevels (unit_of u.now) modes.now levels }
+    requires one_each { length modes.now.levels.items ≡ length u.now.functions.items }
     ensures translated { IfOk result
         (λ v. (levels : Name → sorts.Level) → AreLevels (unit_of u.now) modes.now levels →
         final_unit_of v ≡ last_unit (generated (unit_of u.now) levels)
@@ -42,6 +44,14 @@ pub fn translate_unit(alloc: Global, u: &TypedUnit, modes: &Modes) -> Result<Fin
         CallsLifted levels (unit_of u.now).functions →
         IsAccepted (generated (unit_of u.now) levels)
         (certificate_made same_exp (generated (unit_of u.now) levels))) }
+    ensures of_unit { IfOk result
+        (λ v. (levels : Name → sorts.Level) → AreLevels (unit_of u.now) modes.now levels →
+        CallsLifted levels (unit_of u.now).functions →
+        AreProgramsOf (unit_of u.now) levels (final_unit_of v)) }
+    ensures formed { IfOk result
+        (λ v. (levels : Name → sorts.Level) → AreLevels (unit_of u.now) modes.now levels →
+        CallsLifted levels (unit_of u.now).functions →
+        IsWellFormed (final_unit_of v) × AreOfTheirForms (final_unit_of v).functions) }
     ensures exact { IfOk result
         (λ v. (levels : Name → sorts.Level) → AreLevels (unit_of u.now) modes.now levels →
         CallsLifted levels (unit_of u.now).functions →

@@ -1,4 +1,4 @@
-use Rattle.std.proofs.Common.{◌≡◌, ◌∙◌, Some, map, ap, sym, subst}
+use Rattle.std.proofs.Common.{◌≡◌, ◌∙◌, Some, inl, map, ap, sym, subst}
 use Rattle.c_lang.specs.Typed.{TypedUnit}
 use Rattle.c_lang.specs.CodeTyped.{unit_of}
 use Rattle.monad_lang.specs.CodeProgram.{final_unit_of}
@@ -23,7 +23,7 @@ returns-in_ok-write_program-in-Some c =
     let of_class : class_of unit ≡ Some functions =
     sym (rw c.in-Some.is at c.in_ok-class_of.ensures) ∙ ap (λ xs. Some (map function_of xs)) (sym c.deref.ensures.value) in
     let found = found_is_sum unit functions of_class in
-    record {
+    inl (record {
       functions = functions;
       programs = final_unit_of c.in_ok-programs-in-Some.programs;
       of_class = of_class;
@@ -35,4 +35,4 @@ returns-in_ok-write_program-in-Some c =
       spelled = subst IsSpelled (sym c.in_ok-programs-in-Some.ensures) (text_spelled c.requires.0 unit functions c.requires.1 c.requires.2 of_class);
       numbers = subst (λ (programs : FinalUnit). AreInNumbers programs.functions) (sym c.in_ok-programs-in-Some.ensures) (all_numbers functions);
       written = c.in_ok-write_program-in-Some.ensures;
-    }
+    })
