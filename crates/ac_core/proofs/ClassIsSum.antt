@@ -4,7 +4,7 @@ use Rattle.std.proofs.lemmas.Bool.{false≢true}
 use Rattle.c_values.specs.Name.{Name, is_among}
 use Rattle.c_values.specs.Types.{Target, Ilp32, Lp64, Int, UInt, CType, Integer}
 use Rattle.c_lang.specs.Typed as C
-use Rattle.ac_core.specs.Sum.{Sum, Named, Constant, SumFunction, IsSum, unsigned_type, c_sum, c_parameter, typed_fn_of, typed_unit_of}
+use Rattle.ac_core.specs.Sum.{Sum, Named, SumFunction, IsSum, unsigned_type, c_sum, c_parameter, typed_fn_of, typed_unit_of}
 use Rattle.ac_core.specs.Class.{is_ilp32, is_unsigned, one_more, unsigned_names, plus, converted, sum_of, returned, function_with, function_of, gives_unsigned, is_empty, is_bare, sum_function, one_function, sum_functions, class_of}
 
 and_first : (a b : Bool) → (a && b) ≡ true → a ≡ true

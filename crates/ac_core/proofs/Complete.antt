@@ -8,8 +8,6 @@ use Rattle.c_values.specs.Types.{Ilp32}
 use Rattle.c_lang.specs.Typed.{TypedUnit}
 use Rattle.typing_rules.specs.Checked.{Checked, Good, Bad}
 use Rattle.typing_rules.specs.Unit.{checked, IsTyped}
-use Rattle.ac_core.specs.Sum.{SumFunction}
-use Rattle.ac_core.specs.Class.{class_of}
 use Rattle.c_lex.proofs.Leads.{one_list, tokens_or_fault}
 use Rattle.c_grammar.proofs.Texts.{one_tree}
 use Rattle.c_limits.specs.Limits.{first_limit}

@@ -1,5 +1,5 @@
 -- What an accepted certificate makes: well-formed programs of the C functions, each of its level's form.
-use Rattle.std.proofs.Common.{◌≡◌, true, ◌&&◌, List, [], ◌∷◌, sym, subst, ◌∙◌}
+use Rattle.std.proofs.Common.{◌≡◌, true, ◌&&◌, List, [], ◌∷◌, refl, subst, ◌∙◌}
 use Rattle.std.proofs.lemmas.Bool.{and_parts}
 use Rattle.c_values.specs.Name.{Name, same_name}
 use Rattle.expression_lang.specs.Sort.{Level, Bytes, Words, Numbers}

@@ -1,5 +1,5 @@
 -- What is made of the functions is the last unit of a certificate whose last steps change nothing.
-use Rattle.std.proofs.Common.{◌≡◌, true, List, [], ◌∷◌, refl, ap, ◌∙◌, subst, sym}
+use Rattle.std.proofs.Common.{◌≡◌, List, [], ◌∷◌, refl, ap, sym}
 use Rattle.c_values.specs.Name.{Name}
 use Rattle.expression_lang.specs.Sort.{Level}
 use Rattle.expression_lang.specs.Signature.{Signature}

@@ -1,5 +1,5 @@
 -- Levels by position are levels by name, since functions have different names.
-use Rattle.std.proofs.Common.{◌≡◌, ◌+◌, ℕ, suc, true, false, not, ◌&&◌, ◌||◌, List, [], ◌∷◌, map, length, refl, sym, ap, ap₂, ◌∙◌, arith, cond}
+use Rattle.std.proofs.Common.{◌≡◌, true, false, not, List, [], ◌∷◌, map, length, refl, sym, ap₂, ◌∙◌, arith}
 use Rattle.std.proofs.lemmas.Bool.{and_parts, or_parts, not-true, cond-true, cond-false}
 use Rattle.std.proofs.lemmas.List.{length-map}
 use Rattle.c_values.specs.Name.{Name, same_name, is_among, are_distinct}

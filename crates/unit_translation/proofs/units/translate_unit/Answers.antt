@@ -1,12 +1,9 @@
 -- The generated functions are ready, and what is made of them is the last unit of an accepted certificate.
-use Rattle.std.proofs.Common.{rules, ◌≡◌, map, sym, subst, ◌∙◌, ap}
-use Rattle.c_values.specs.CodeValue.{global_of}
-use Rattle.expression_lang.specs.CodeSignature.{signature_of}
+use Rattle.std.proofs.Common.{◌≡◌, sym, subst, ◌∙◌, ap}
 use Rattle.ac_expr.specs.SameExp.{same_exp}
 use Rattle.simpl_lang.specs.Command.{SimplUnit}
-use Rattle.simpl_lang.specs.CodeCommand.{simpl_fn_of, simpl_unit_of}
+use Rattle.simpl_lang.specs.CodeCommand.{simpl_unit_of}
 use Rattle.monad_lang.specs.Program.{FinalUnit}
-use Rattle.monad_lang.specs.CodeProgram.{final_unit_of}
 use Rattle.monad_lang.specs.Sorted.{IsWellFormed}
 use Rattle.c_lang.specs.CodeTyped.{unit_of}
 use Rattle.generation.specs.Generate.{generated}
@@ -16,7 +13,7 @@ use Rattle.acceptance_laws.specs.Units.{last_unit}
 use Rattle.unit_translation.specs.CodeTranslated.{AllReadyToLift}
 use Rattle.unit_translation.specs.Forms.{AreOfTheirForms}
 use Rattle.unit_translation.proofs.ReadyToLift.{generated_are_ready}
-use Rattle.unit_translation.proofs.LastUnit.{unit_made, made_is_last, certificate_is_accepted, made_is_exact}
+use Rattle.unit_translation.proofs.LastUnit.{made_is_last, certificate_is_accepted, made_is_exact}
 use Rattle.unit_translation.proofs.LevelsThere.{levels_of, are_levels}
 use Rattle.unit_translation.proofs.Formed.{last_formed, last_programs, last_forms}
 use Rattle.unit_translation.proofs.units.translate_unit.Goals as goal
@@ -26,4 +23,34 @@ functions-requires c =
     let levels = levels_of c.args.u.now c.args.modes.now in
     let is : simpl_unit_of c.in_ok-generated.generated ≡ generated (unit_of c.args.u.now) levels =
     c.in_ok-generated.ensures.generated levels (are_levels c.args.u.now c.args.modes.now c.requires.typed c.requires.one_each) in
-    subst (λ (g : SimplUnit). AllReadyToLift g.functions g.signatures) (sym is) (generated_are_ready (unit_of c.args.u.now) c.requires.typed levels)
+    record { ready = subst (λ (g : SimplUnit). AllReadyToLift g.functions g.signatures) (sym is) (generated_are_ready (unit_of c.args.u.now) c.requires.typed levels) }
+
+pub returns-clause-translated : goal.returns-clause-translated
+returns-clause-translated c = λ levels are.
+    let g = simpl_unit_of c.in_ok-generated.generated in
+    let is : g ≡ generated (unit_of c.args.u.now) levels = c.in_ok-generated.ensures.generated levels are in
+    ap (λ fs. let v : FinalUnit = record { layout = g.layout; globals = g.globals; functions = fs } in v) c.in_ok-functions.ensures
+    ∙ made_is_last g ∙ ap (λ h. last_unit h (certificate_made same_exp h)) is
+
+pub returns-clause-accepted : goal.returns-clause-accepted
+returns-clause-accepted c = λ levels are calls. certificate_is_accepted (unit_of c.args.u.now) c.requires.typed levels calls
+
+pub returns-clause-of_unit : goal.returns-clause-of_unit
+returns-clause-of_unit c = λ levels are calls.
+    let u = unit_of c.args.u.now in
+    let cs = certificate_made same_exp (generated u levels) in
+    subst (λ (v : FinalUnit). AreProgramsOf u levels v) (sym (returns-clause-translated c levels are))
+    (last_programs u levels cs c.requires.typed (certificate_is_accepted u c.requires.typed levels calls))
+
+pub returns-clause-formed : goal.returns-clause-formed
+returns-clause-formed c = λ levels are calls.
+    let u = unit_of c.args.u.now in
+    let cs = certificate_made same_exp (generated u levels) in
+    let accepted = certificate_is_accepted u c.requires.typed levels calls in
+    subst (λ (v : FinalUnit). IsWellFormed v × AreOfTheirForms v.functions) (sym (returns-clause-translated c levels are))
+    (last_formed u levels cs c.requires.typed accepted, last_forms u levels cs c.requires.typed accepted)
+
+pub returns-clause-exact : goal.returns-clause-exact
+returns-clause-exact c = λ levels are calls.
+    let u = unit_of c.args.u.now in
+    subst (λ (v : FinalUnit). IsExact u levels v) (sym (returns-clause-translated c levels are)) (made_is_exact u c.requires.typed levels calls)
