@@ -1,2 +1,4 @@
 pub mod OnWords
+pub mod OnNumbers
 pub mod Verdicts
+pub mod Formed

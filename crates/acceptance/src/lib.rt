@@ -3,11 +3,17 @@
 #![tactic(auto)]
 
 mod calls;
+mod certificate;
 mod forms;
+mod functions;
 mod laws;
+mod places;
 mod steps;
 
 pub use calls::calls_lifted;
+pub use certificate::{Step, Steps};
 pub use forms::{are_results, gives_on_words, has_result};
+pub use functions::check_function;
 pub use laws::verdicts_decide;
-pub use steps::{check_exceptions, check_heaps, check_locals, check_words};
+pub use places::{Phase, Place};
+pub use steps::{check_equal, check_exceptions, check_heaps, check_locals, check_words};

@@ -1,0 +1,20 @@
+//! Where a function's steps aren't accepted.
+
+/// What is asked of a function, in this order: the calls of its level, and its steps.
+#[derive(Clone, Copy, Debug, PartialEq, Eq)]
+pub enum Phase {
+    Level,
+    Exception,
+    Local,
+    Heap,
+    Word,
+    Equal,
+}
+
+/// The first node that isn't accepted, in preorder from 0, of the first step that has one. Node 0
+/// also stands for a program that isn't of the step's form, or is ill-sorted, and for a call.
+#[derive(Clone, Copy, Debug, PartialEq, Eq)]
+pub struct Place {
+    pub phase: Phase,
+    pub node: u32,
+}
