@@ -1,5 +1,5 @@
 -- A program that gives a function's result from what stands for words is well-sorted in the setting that the kernel of equality has.
-use Rattle.std.proofs.Common.{◌≡◌, true, List, map, Some, ap, ◌∙◌}
+use Rattle.std.proofs.Common.{◌≡◌, true, List, Some, ap, ◌∙◌}
 use Rattle.c_values.specs.Layout.{GlobalVar}
 use Rattle.expression_lang.specs.Sort.{Scalar, sort_of_kind}
 use Rattle.expression_lang.specs.Sorted.{result_scalars}

@@ -2,9 +2,7 @@
 use Rattle.std.specs.Prelude.{string_bytes}
 use Rattle.std.specs.Option.{option_map}
 use Rattle.expression_lang.specs.CodeExpression.{level_of}
-use Rattle.simpl_lang.specs.declared.command.Simpl as C
 use Rattle.simpl_lang.specs.CodeCommand.{simpl_of}
-use Rattle.monad_lang.specs.declared.program.Mon as M
 use Rattle.monad_lang.specs.CodeProgram.{mon_of}
 use Rattle.rule_trees.specs.CodeTree as trees
 use Rattle.rule_exn.specs.CodeRule as exceptions

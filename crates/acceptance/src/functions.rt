@@ -14,6 +14,7 @@ ghost use Rattle.acceptance.specs.Accepted.{is_on_words, is_on_numbers};
 ghost use Rattle.acceptance.specs.CodeOutputs.{has_result};
 ghost use Rattle.acceptance.specs.CodeCertificate.{steps_of};
 ghost use Rattle.acceptance.specs.CodePlace.{verdict_of};
+ghost use Rattle.acceptance.specs.Decided.{Decides};
 ghost use Rattle.acceptance.specs.Verdict as verdict;
 ghost use Rattle.acceptance.specs.Verdict.{Before, IsDone, IsTest, IsFunctionVerdict, IsExceptionVerdict, IsLocalVerdict, IsHeapVerdict, IsWordVerdict, IsEqualVerdict};
 
@@ -29,6 +30,19 @@ use simpl_lang::{SimplFn, SimplUnit};
 /// taken. The function is one of a well-formed unit, whose body was generated at the level of its
 /// steps.
 pub fn check_function(u: &SimplUnit, f: &SimplFn, s: &Signature, steps: &Steps) -> Result<(), Place>
+    requires result { has_result (simpl_fn_of f.now).locals (signature_of s.now).result ≡ true }
+    requires kinds { are_kinds (kinds_of (signature_of s.now).params) ≡ true }
+    requires results { are_results (simpl_unit_of u.now).signatures ≡ true }
+    ensures verdict { IsFunctionVerdict (simpl_unit_of u.now) (simpl_fn_of f.now) (signature_of s.now)
+        (steps_of steps.now) (verdict_of result) }
+    ensures decided { Decides (simpl_unit_of u.now) (simpl_fn_of f.now) (signature_of s.now)
+        (steps_of steps.now) (verdict_of result) }
+{
+    from_calls(u, f, s, steps)
+}
+
+// From the calls on, which come before the steps.
+fn from_calls(u: &SimplUnit, f: &SimplFn, s: &Signature, steps: &Steps) -> Result<(), Place>
     requires result { has_result (simpl_fn_of f.now).locals (signature_of s.now).result ≡ true }
     requires kinds { are_kinds (kinds_of (signature_of s.now).params) ≡ true }
     requires results { are_results (simpl_unit_of u.now).signatures ≡ true }

@@ -18,3 +18,11 @@ pub struct Place {
     pub phase: Phase,
     pub node: u32,
 }
+
+/// The first of a unit that isn't accepted: the position where the list of its functions' names and
+/// levels isn't the certificate's, or the position of a function, and the place in it.
+#[derive(Clone, Copy, Debug, PartialEq, Eq)]
+pub enum Refusal {
+    List(usize),
+    Function(usize, Place),
+}

@@ -216,7 +216,15 @@ pub fn check_equal(
         (equality_verdict.verdict_of result) }
 {
     if is_on_numbers(u, s, right) && is_form_of(level, right) {
-        equal_taken(&u.layout, &u.globals, &u.signatures, &s.params, left, right, tree)
+        equal_taken(
+            &u.layout,
+            &u.globals,
+            &u.signatures,
+            &s.params,
+            left,
+            right,
+            tree,
+        )
     } else {
         Err(At(0))
     }
