@@ -33,10 +33,10 @@ pub fn check_function(u: &SimplUnit, f: &SimplFn, s: &Signature, steps: &Steps) 
     requires result { has_result (simpl_fn_of f.now).locals (signature_of s.now).result ≡ true }
     requires kinds { are_kinds (kinds_of (signature_of s.now).params) ≡ true }
     requires results { are_results (simpl_unit_of u.now).signatures ≡ true }
-    ensures verdict { IsFunctionVerdict (simpl_unit_of u.now) (simpl_fn_of f.now) (signature_of s.now)
-        (steps_of steps.now) (verdict_of result) }
-    ensures decided { Decides (simpl_unit_of u.now) (simpl_fn_of f.now) (signature_of s.now)
-        (steps_of steps.now) (verdict_of result) }
+    ensures verdict { IsFunctionVerdict (simpl_unit_of u.now) (simpl_fn_of f.now)
+        (signature_of s.now) (steps_of steps.now) (verdict_of result) }
+    ensures decided { Decides (simpl_unit_of u.now) (simpl_fn_of f.now)
+        (signature_of s.now) (steps_of steps.now) (verdict_of result) }
 {
     from_calls(u, f, s, steps)
 }

@@ -76,8 +76,8 @@ pub fn check_exceptions(
     }
 }
 
-/// Whether locals are lifted: the program gives the function's result from words and is on bytes, and
-/// the rules take the command to it. Else the first bad node.
+/// Whether locals are lifted: the program gives the function's result from words and is on bytes,
+/// and the rules take the command to it. Else the first bad node.
 pub fn check_locals(
     u: &SimplUnit,
     f: &SimplFn,
@@ -115,7 +115,8 @@ pub fn check_heaps(
 ) -> Result<(), At>
     ensures { let m = mon_of right.now in
         verdict.IsFormed (is_on_words (simpl_unit_of u.now) (signature_of s.now) m && is_heaps m)
-        (IsVerdict (Heaps.table u.now.layout) (heaps.tree_of tree.now) (OfProgram [] (mon_of left.now) m))
+        (IsVerdict (Heaps.table u.now.layout) (heaps.tree_of tree.now)
+        (OfProgram [] (mon_of left.now) m))
         (heaps_verdict.verdict_of result) }
 {
     if gives_on_words(u, s, right) && right.is_heaps() {
@@ -143,13 +144,18 @@ pub fn check_words(
     right: &Mon,
     tree: &Tree<rule_word::Rule>,
 ) -> Result<(), At>
-    requires sorted { is_on_words (simpl_unit_of u.now) (signature_of s.now) (mon_of left.now) ≡ true }
+    requires sorted { is_on_words (simpl_unit_of u.now) (signature_of s.now)
+        (mon_of left.now) ≡ true }
     requires kinds { are_kinds (kinds_of (signature_of s.now).params) ≡ true }
     requires results { are_results (simpl_unit_of u.now).signatures ≡ true }
-    ensures { let m = mon_of right.now in let unit = simpl_unit_of u.now in let g = signature_of s.now in
+    ensures { let m = mon_of right.now in let unit = simpl_unit_of u.now in
+        let g = signature_of s.now in
         verdict.IsFormed (is_on_numbers unit g m && is_form_of (level_of level) m)
         (IsVerdict (Words.table (word_context unit)) (words.tree_of tree.now)
-        (program (record { facts = []; names = with_kinds (names_of g.params) (kinds_of g.params) [] })
+        (program (record {
+          facts = [];
+          names = with_kinds (names_of g.params) (kinds_of g.params) [];
+        })
         (mon_of left.now) m (result_as_list g.result)))
         (words_verdict.verdict_of result) }
 {
@@ -168,12 +174,17 @@ fn words_taken(
     right: &Mon,
     tree: &Tree<rule_word::Rule>,
 ) -> Result<(), At>
-    requires sorted { is_on_words (simpl_unit_of u.now) (signature_of s.now) (mon_of left.now) ≡ true }
+    requires sorted { is_on_words (simpl_unit_of u.now) (signature_of s.now)
+        (mon_of left.now) ≡ true }
     requires kinds { are_kinds (kinds_of (signature_of s.now).params) ≡ true }
     requires results { are_results (simpl_unit_of u.now).signatures ≡ true }
-    ensures { let m = mon_of right.now in let unit = simpl_unit_of u.now in let g = signature_of s.now in
+    ensures { let m = mon_of right.now in let unit = simpl_unit_of u.now in
+        let g = signature_of s.now in
         IsVerdict (Words.table (word_context unit)) (words.tree_of tree.now)
-        (program (record { facts = []; names = with_kinds (names_of g.params) (kinds_of g.params) [] })
+        (program (record {
+          facts = [];
+          names = with_kinds (names_of g.params) (kinds_of g.params) [];
+        })
         (mon_of left.now) m (result_as_list g.result))
         (words_verdict.verdict_of result) }
 {
@@ -208,7 +219,8 @@ pub fn check_equal(
     tree: &Tree<rule_eq::Rule>,
 ) -> Result<(), At>
     requires { is_on_numbers (simpl_unit_of u.now) (signature_of s.now) (mon_of left.now) ≡ true }
-    ensures { let m = mon_of right.now in let unit = simpl_unit_of u.now in let g = signature_of s.now in
+    ensures { let m = mon_of right.now in let unit = simpl_unit_of u.now in
+        let g = signature_of s.now in
         verdict.IsFormed (is_on_numbers unit g m && is_form_of (level_of level) m)
         (IsVerdict Equality.table (equality.tree_of tree.now)
         (does (point [] (setting_signed sort_of_kind unit.layout unit.globals unit.signatures g))

@@ -31,7 +31,6 @@ pub fn check_functions(u: &SimplUnit, certificate: &[Steps]) -> Result<(), Refus
 }
 
 // The same, by what is a verdict alone.
-#[tactic(auto, using(crate::proofs::WellFormed::ready_there, crate::proofs::WellFormed::results_there))]
 fn verdict_on(u: &SimplUnit, certificate: &[Steps]) -> Result<(), Refusal>
     requires { IsWellFormed (simpl_unit_of u.now) }
     ensures { IsUnitVerdict (simpl_unit_of u.now) (map steps_of certificate.now)
