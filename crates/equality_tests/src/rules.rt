@@ -125,10 +125,11 @@ pub(crate) fn is_so(alloc: Global, line: &str) -> Result<bool, Fail> {
     let globals = globals(alloc)?;
     let functions = functions(alloc)?;
     let parameters = parameters(alloc)?;
+    let callable = Functions::Signatures(&functions);
     let setting = Setting {
         layout: &layout,
         globals: &globals,
-        functions: Functions::Signatures(&functions),
+        functions: callable,
         phase: Phase::OnNumbers,
     };
     let inside = Inside::Parameters(&parameters, Phase::OnNumbers);
@@ -191,7 +192,7 @@ exp | 1ret not not t | 1ret t | ok
 exp | 1ret t | 1ret not not t | ok
 exp | 2ret a and t true | 2ret a t | ok
 exp | 1ret n1 | 1ret n1 | ok
-exp | guard or t false | guard t | ok
+exp | guard or false t | guard t | ok
 exp | if imp true t 1ret a 1ret b | if t 1ret a 1ret b | ok
 exp | write word nat p q | write p q | ok
 exp | write p word nat q | write p q | ok
@@ -226,6 +227,7 @@ refl | 1ret a | 1ret b | 0
 2bind refl refl | bind guard t 1ret a | 1ret a | 0
 2bind refl refl | 1ret a | bind guard t 1ret a | 0
 1bind refl | bind guard t 1ret a | bind guard t 1ret a | 0
+3bind refl refl refl | bind guard t 1ret a | bind guard t 1ret a | 0
 2bind refl refl | bind guard not not t 1ret a | bind guard t 1ret a | 1
 2bind refl refl | bind guard t 1ret a | bind guard t 1ret b | 2
 2bind 2bind refl refl refl | bind bind guard t guard t ret | bind bind guard t guard not t ret | 3
@@ -240,6 +242,7 @@ refl | 1ret a | 1ret b | 0
 1loop refl | 1loop x a t t 1ret x | 1loop x a true t 1ret x | 0
 1loop refl | 1loop x a t t 1ret x | 1loop x a t true 1ret x | 0
 1loop refl | 1loop x a t t 1ret x | 1ret a | 0
+1loop refl | 1ret a | 1loop x a t t 1ret x | 0
 loop | 1loop x a t t 1ret x | 1loop x a t t 1ret x | 0
 2loop refl refl | 1loop x a t t 1ret x | 1loop x a t t 1ret x | 0
 1loop refl | 1loop x a t t 1ret x | 1loop x a t t 1ret a | 1
@@ -298,11 +301,14 @@ assoc | 1bind 1bind 1call f a x 1ret x y 1ret y | 1bind 1call f a x 1ret x | 0
 if_const | if true 1ret a 1ret b | 1ret b | 0
 if_const | if false 1ret a 1ret b | 1ret a | 0
 if_const | if t 1ret a 1ret a | 1ret a | 0
+if_const | 1ret a | 1ret a | 0
+1if_const refl | if true 1ret a 1ret b | 1ret a | 0
 # what is guarded isn't known: at first, of the other branch, where its name is bound again, where it reads and something is
 # written, and in a loop
 guard_known | bind guard t 1ret a | 1ret a | 0
 guard_known | bind guard true 1ret a | 1ret b | 0
 guard_known | guard true | ret | 0
+guard_known | bind ret 1ret a | 1ret a | 0
 2if refl guard_known | if t 1ret a bind guard t 1ret b | if t 1ret a 1ret b | 2
 2bind refl 2bind refl guard_known | bind guard lt a b 1bind 1ret b a bind guard lt a b ret | \
     bind guard lt a b 1bind 1ret b a ret | 4
@@ -322,6 +328,7 @@ exp | write word nat p word nat q | write p q | 0
 exp | write word nat p q | store p q | 0
 exp | 1call f add a n0 | 1ret a | 0
 exp | pick_truth | pick_truth | 0
+exp | guard or t false | guard t | 0
 exp | 1loop x add a n0 t t 1ret x | 1loop y a t t 1ret y | 0
 exp | 1loop x add a n0 not not t t 1ret x | 1loop x a t t 1ret x | 0
 exp | 1loop x a not not t not not t 1ret x | 1loop x a t t 1ret x | 0
