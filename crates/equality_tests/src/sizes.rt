@@ -1,7 +1,6 @@
 //! Deep and long programs through the kernel: nested 4,096 deep, and along a million parts. A row
-//! is one of `rules`; in a cell `A*B*C*D` stands for so many A, one B, so many C and one D. Along so
-//! many parts the sides have no names, since whether they are well-sorted is asked first, and a name
-//! is looked for in all that was passed.
+//! is one of `rules`; in a cell `A*B*C*D*E` stands for so many A, one B, so many C, one D and so
+//! many E. A long program has few names, since a name is looked for in all that was passed.
 
 use crate::rules::is_so;
 use std::alloc::{AllocError, Global};
@@ -41,10 +40,12 @@ const DEEP: &str = "\
 2bind *exp* refl | bind *guard not not t* ret | bind *guard t* ret | ok
 2if *exp* refl | if t *guard not not t* ret | if t *guard t* ret | ok
 1loop *exp | loop true t *guard not not t | loop true t *guard t | ok
-2through_x if_const 2through_x refl *refl* refl | if true 1bind 1ret a x 1ret x 1ret b | \
-    1bind 1ret a x 1ret x | ok
-exp | guard not not *t | guard not not *t | 0
-ret_first | 1bind 1ret a x bind *1ret x* 1ret x | bind *1ret a* 1ret a | 0
+2through_x *if_const* refl | if true 1bind 1ret a x 1ret x 1ret b | 1bind 1ret a x 1ret x | ok
+exp | *guard not not *not *t | *guard *not *t | ok
+exp | *guard *not *t | *guard *not *t | 0
+ret_first | *1bind 1ret t x *bind *guard x* ret | bind *guard t* ret | ok
+ret_first | *1bind 1ret t x *bind *1bind 1ret true t guard x* ret | \
+    bind *1bind 1ret true t guard t* ret | 0
 2bind *refl* refl | bind *guard t* ret | bind *guard true* ret | 4096";
 
 #[test]
@@ -58,7 +59,7 @@ fn deep_programs(rt: HostRuntime) -> Result<(), Fail> {
 
 const LONG: &str = "\
 2bind refl *exp | bind guard true *guard not not true | bind guard true *guard true | ok
-ret_first | 1bind 1ret true x bind guard true *guard x | bind guard true *guard true | ok
+ret_first | *1bind 1ret true x *bind guard true *guard x | bind guard true *guard true | ok
 2bind refl *refl | bind guard true *guard true | bind guard true *guard false | 2000000";
 
 #[test]
