@@ -1,2 +1,7 @@
 pub mod OnWords
+pub mod OnNumbers
 pub mod Verdicts
+pub mod Formed
+pub mod UnitVerdicts
+pub mod WellFormed
+pub mod Along

@@ -18,7 +18,7 @@ names_by f [] ks bs = refl
 names_by f (x ∷ xs) [] bs = refl
 names_by f (x ∷ xs) (k ∷ ks) bs = names_by f xs ks (binder x k ∷ bs)
 
-given_by : (ss : List Scalar) (o : Option (List Scalar)) → are_scalars ss o ≡ true → (given : List Scalar) × (o ≡ Some given)
+pub given_by : (ss : List Scalar) (o : Option (List Scalar)) → are_scalars ss o ≡ true → (given : List Scalar) × (o ≡ Some given)
 given_by ss (Some given) h = (given, refl)
 given_by ss None h = absurd (false≢true h)
 

@@ -2,4 +2,9 @@ pub mod Certificate
 pub mod Accepted
 pub mod Verdict
 pub mod Decided
+pub mod UnitVerdict
 pub mod CodeOutputs
+pub mod CodeCertificate
+pub mod CodePlace
+pub mod CodeSetting
+pub mod CodeReady

@@ -1,8 +1,9 @@
 //! The steps of one function, each decided by its kernel.
 
-ghost use Rattle.std.specs.Prelude.{◌≡◌, ◌&&◌, true, [], map, string_bytes};
+ghost use Rattle.std.specs.Prelude.{◌≡◌, ◌&&◌, true, [], map, string_bytes, List, Some};
 ghost use Rattle.std.specs.Option.{option_map};
-ghost use Rattle.expression_lang.specs.Sort.{are_kinds};
+ghost use Rattle.c_values.specs.CodeValue.{global_of};
+ghost use Rattle.expression_lang.specs.Sort.{Scalar, are_kinds, sort_of_kind};
 ghost use Rattle.expression_lang.specs.Signature.{names_of, kinds_of};
 ghost use Rattle.expression_lang.specs.CodeExpression.{level_of, kind_of};
 ghost use Rattle.expression_lang.specs.CodeSignature.{signature_of, binder_of};
@@ -10,6 +11,7 @@ ghost use Rattle.simpl_lang.specs.CodeCommand.{simpl_of, simpl_fn_of, simpl_unit
 ghost use Rattle.simpl_lang.specs.Form.{is_flat};
 ghost use Rattle.monad_lang.specs.CodeProgram.{mon_of};
 ghost use Rattle.monad_lang.specs.Form.{is_bytes, is_heaps};
+ghost use Rattle.monad_lang.specs.Sorted.{scalars_given, setting_signed};
 ghost use Rattle.rule_trees.specs.RuleTree.{IsVerdict};
 ghost use Rattle.rule_exn.specs.Rule.{◌to◌};
 ghost use Rattle.rule_exn.specs.Table as Exceptions;
@@ -31,15 +33,24 @@ ghost use Rattle.rule_word.specs.Ready.{is_form_of};
 ghost use Rattle.rule_word.specs.CodeRule as words;
 ghost use Rattle.rule_word.specs.CodeNames.{are_results};
 ghost use Rattle.rule_word.specs.CodeVerdict as words_verdict;
+ghost use Rattle.rule_eq.specs.Rule.{does};
+ghost use Rattle.rule_eq.specs.Table as Equality;
+ghost use Rattle.rule_eq.specs.Table.{point};
+ghost use Rattle.rule_eq.specs.CodeRule as equality;
+ghost use Rattle.rule_eq.specs.CodeVerdict as equality_verdict;
 ghost use Rattle.acceptance.specs.Accepted.{is_command, is_on_words, is_on_numbers, word_context};
 ghost use Rattle.acceptance.specs.CodeOutputs.{has_result};
+ghost use Rattle.acceptance.specs.CodeSetting.{setting_there};
 ghost use Rattle.acceptance.specs.Verdict as verdict;
 
 use crate::forms::{gives_on_words, is_flat_command, is_form_of, is_on_numbers};
 use ac_expr::Facts;
+use c_values::{GlobalVar, Layout};
 use expression_lang::{Binder, Kind, Level, Names, Signature};
 use monad_lang::Mon;
+use monad_sorts::{Functions, Inside, Setting};
 use program_facts::Parts;
+use program_sorts::Phase;
 use rule_trees::{At, Tree};
 use rule_word::{Kinds, Passed, Point};
 use simpl_lang::{Simpl, SimplFn, SimplUnit};
@@ -65,8 +76,8 @@ pub fn check_exceptions(
     }
 }
 
-/// Whether locals are lifted: the program gives the function's result from words and is on bytes, and
-/// the rules take the command to it. Else the first bad node.
+/// Whether locals are lifted: the program gives the function's result from words and is on bytes,
+/// and the rules take the command to it. Else the first bad node.
 pub fn check_locals(
     u: &SimplUnit,
     f: &SimplFn,
@@ -104,7 +115,8 @@ pub fn check_heaps(
 ) -> Result<(), At>
     ensures { let m = mon_of right.now in
         verdict.IsFormed (is_on_words (simpl_unit_of u.now) (signature_of s.now) m && is_heaps m)
-        (IsVerdict (Heaps.table u.now.layout) (heaps.tree_of tree.now) (OfProgram [] (mon_of left.now) m))
+        (IsVerdict (Heaps.table u.now.layout) (heaps.tree_of tree.now)
+        (OfProgram [] (mon_of left.now) m))
         (heaps_verdict.verdict_of result) }
 {
     if gives_on_words(u, s, right) && right.is_heaps() {
@@ -132,13 +144,18 @@ pub fn check_words(
     right: &Mon,
     tree: &Tree<rule_word::Rule>,
 ) -> Result<(), At>
-    requires sorted { is_on_words (simpl_unit_of u.now) (signature_of s.now) (mon_of left.now) ≡ true }
+    requires sorted { is_on_words (simpl_unit_of u.now) (signature_of s.now)
+        (mon_of left.now) ≡ true }
     requires kinds { are_kinds (kinds_of (signature_of s.now).params) ≡ true }
     requires results { are_results (simpl_unit_of u.now).signatures ≡ true }
-    ensures { let m = mon_of right.now in let unit = simpl_unit_of u.now in let g = signature_of s.now in
+    ensures { let m = mon_of right.now in let unit = simpl_unit_of u.now in
+        let g = signature_of s.now in
         verdict.IsFormed (is_on_numbers unit g m && is_form_of (level_of level) m)
         (IsVerdict (Words.table (word_context unit)) (words.tree_of tree.now)
-        (program (record { facts = []; names = with_kinds (names_of g.params) (kinds_of g.params) [] })
+        (program (record {
+          facts = [];
+          names = with_kinds (names_of g.params) (kinds_of g.params) [];
+        })
         (mon_of left.now) m (result_as_list g.result)))
         (words_verdict.verdict_of result) }
 {
@@ -157,12 +174,17 @@ fn words_taken(
     right: &Mon,
     tree: &Tree<rule_word::Rule>,
 ) -> Result<(), At>
-    requires sorted { is_on_words (simpl_unit_of u.now) (signature_of s.now) (mon_of left.now) ≡ true }
+    requires sorted { is_on_words (simpl_unit_of u.now) (signature_of s.now)
+        (mon_of left.now) ≡ true }
     requires kinds { are_kinds (kinds_of (signature_of s.now).params) ≡ true }
     requires results { are_results (simpl_unit_of u.now).signatures ≡ true }
-    ensures { let m = mon_of right.now in let unit = simpl_unit_of u.now in let g = signature_of s.now in
+    ensures { let m = mon_of right.now in let unit = simpl_unit_of u.now in
+        let g = signature_of s.now in
         IsVerdict (Words.table (word_context unit)) (words.tree_of tree.now)
-        (program (record { facts = []; names = with_kinds (names_of g.params) (kinds_of g.params) [] })
+        (program (record {
+          facts = [];
+          names = with_kinds (names_of g.params) (kinds_of g.params) [];
+        })
         (mon_of left.now) m (result_as_list g.result))
         (words_verdict.verdict_of result) }
 {
@@ -183,6 +205,75 @@ fn words_taken(
         None => rule_word::check(tree, left, right, &[], context, point),
         Some(kind) => rule_word::check(tree, left, right, from_ref(kind), context, point),
     }
+}
+
+/// Whether a program becomes the last one: that gives the function's result from what stands for
+/// words and is of its level's last form, and the rules take the one before to it. Else the first
+/// bad node.
+pub fn check_equal(
+    u: &SimplUnit,
+    s: &Signature,
+    level: Level,
+    left: &Mon,
+    right: &Mon,
+    tree: &Tree<rule_eq::Rule>,
+) -> Result<(), At>
+    requires { is_on_numbers (simpl_unit_of u.now) (signature_of s.now) (mon_of left.now) ≡ true }
+    ensures { let m = mon_of right.now in let unit = simpl_unit_of u.now in
+        let g = signature_of s.now in
+        verdict.IsFormed (is_on_numbers unit g m && is_form_of (level_of level) m)
+        (IsVerdict Equality.table (equality.tree_of tree.now)
+        (does (point [] (setting_signed sort_of_kind unit.layout unit.globals unit.signatures g))
+        (mon_of left.now) m))
+        (equality_verdict.verdict_of result) }
+{
+    if is_on_numbers(u, s, right) && is_form_of(level, right) {
+        equal_taken(
+            &u.layout,
+            &u.globals,
+            &u.signatures,
+            &s.params,
+            left,
+            right,
+            tree,
+        )
+    } else {
+        Err(At(0))
+    }
+}
+
+// The same of a program that is formed, over these structs, globals and functions.
+fn equal_taken(
+    layout: &Layout,
+    globals: &[GlobalVar],
+    functions: &[Signature],
+    params: &[Binder],
+    left: &Mon,
+    right: &Mon,
+    tree: &Tree<rule_eq::Rule>,
+) -> Result<(), At>
+    requires left { (given : List Scalar) × (scalars_given (setting_there layout.now
+        (map global_of globals.now) (map signature_of functions.now) (map binder_of params.now))
+        (mon_of left.now) ≡ Some given) }
+    requires right { (given : List Scalar) × (scalars_given (setting_there layout.now
+        (map global_of globals.now) (map signature_of functions.now) (map binder_of params.now))
+        (mon_of right.now) ≡ Some given) }
+    ensures { IsVerdict Equality.table (equality.tree_of tree.now)
+        (does (point [] (setting_there layout.now
+        (map global_of globals.now) (map signature_of functions.now) (map binder_of params.now)))
+        (mon_of left.now) (mon_of right.now))
+        (equality_verdict.verdict_of result) }
+{
+    let names = Names::new();
+    let facts: Facts<'_, Parts<'_>> = Facts::new(layout, globals, &names);
+    let inside = Inside::Parameters(params, Phase::OnNumbers);
+    let setting = Setting {
+        layout,
+        globals,
+        functions: Functions::Signatures(functions),
+        phase: Phase::OnNumbers,
+    };
+    rule_eq::check(tree, left, right, setting, &facts, &inside)
 }
 
 // The local that holds the result, where there is one, as it is named among the locals.
