@@ -4,10 +4,12 @@ use Rattle.std.specs.Prelude.{codes}
 use Rattle.std.specs.List.{list_any, list_all}
 use Rattle.std.proofs.lemmas.List.{drop-map, length-map}
 use Rattle.std.proofs.Math.Bool.{and-true}
-use Rattle.std.proofs.lemmas.Bool.{le-leb, ne_eqb}
+use Rattle.std.proofs.Math.ListN.{get_or}
+use Rattle.std.proofs.lemmas.Bool.{le-leb, ne_eqb, true≢false, false_from_ne_true}
 use Rattle.std.proofs.lemmas.Bool.Decides.{nat_tests}
 use Rattle.std.proofs.lemmas.Grind.{common_steps}
 use Rattle.c_values.specs.Name.{Name, same_name}
+use Rattle.c_values.proofs.Laid.{name_is}
 use Rattle.ac_core.specs.Words.{Command, Show, Print, Translate, Check, Run, Prove, Sample, Trial, are_options, is_last_target, is_count, is_digit, has_files, has_count, where_holds, with_options, check_of, of_three, sample_of, trial_of, command_of, plain_file}
 
 pub list_any-map : {X : Type 0} (p : X → Bool) → {Y : Type 0} (h : Y → X) (ys : List Y) → list_any p (map h ys) ≡ list_any (λ y. p (h y)) ys
@@ -106,6 +108,31 @@ shows_none-words (w ∷ x ∷ y ∷ ws) h =
 
 pub shows_none : {X : Type 0} (f : X → Name) (xs : List X) → (length xs ≡ 2 → ⊥) → plain_file (command_of (map f xs)) ≡ None
 shows_none f xs h = shows_none-words (map f xs) (λ e. h (sym (length-map xs f) ∙ e))
+
+-- words that begin with neither
+
+where_false : (b : Bool) (c d : Option Command) → b ≡ false → plain_file d ≡ None → plain_file (cond b c d) ≡ None
+where_false true c d e h = absurd (true≢false e)
+where_false false c d e h = h
+
+apart : (w v : Name) → (w ≡ v → ⊥) → same_name w v ≡ false
+apart w v h = false_from_ne_true (same_name w v) (λ e. h (name_is w v e))
+
+not_first : (w : Name) (ws : List Name) → (w ≡ codes "show" → ⊥) → (w ≡ codes "print" → ⊥) → plain_file (command_of (w ∷ ws)) ≡ None
+not_first w ws h k =
+    where_false (same_name w (codes "show")) _ _ (apart w (codes "show") h)
+    (where_false (same_name w (codes "print")) _ _ (apart w (codes "print") k)
+    (not_either (same_name w (codes "translate")) _ _ (not_with_options Translate (λ _ _. refl) ws)
+    (not_either (same_name w (codes "check")) _ _ (not_check_of ws)
+    (not_either (same_name w (codes "run")) _ _ (not_of_three Run (λ _ _ _ _. refl) ws)
+    (not_either (same_name w (codes "prove")) _ _ (not_of_three Prove (λ _ _ _ _. refl) ws)
+    (not_either (same_name w (codes "sample")) _ _ (not_sample_of ws)
+    (not_either (same_name w (codes "trial")) _ _ (not_trial_of ws) refl)))))))
+
+pub asks_nothing : {X : Type 0} (f : X → Name) (xs : List X) (x : X) → x ≡ get_or xs 0 x → (f x ≡ codes "show" → ⊥) →
+    (f x ≡ codes "print" → ⊥) → plain_file (command_of (map f xs)) ≡ None
+asks_nothing f [] x e h k = refl
+asks_nothing f (y ∷ ys) x e h k = not_first (f y) (map f ys) (λ i. h (ap f e ∙ i)) (λ i. k (ap f e ∙ i))
 
 -- a form is told by the first word
 pub is_form_of : {X : Type 0} (f : X → Name) (xs : List X) (x : X) (rest : List X) (w : Name) (form : List Name → Bool) (answer : Bool) →

@@ -1,6 +1,6 @@
 -- What the program answers: the status that it ends with, and the lines that it writes where the sink doesn't fail, each
 -- with its cause. The order of work decides: the words, the file read whole, and then its text.
-use Rattle.std.specs.Prelude.{◌≡◌, ℕ, ◌≤◌, List, [], ◌∷◌, ◌++◌, length, Option, Some, None, is_some, true, codes, ◌⊎◌}
+use Rattle.std.specs.Prelude.{◌≡◌, ℕ, ◌≤◌, Bool, true, false, List, [], ◌∷◌, ◌++◌, length, Option, Some, None, is_some, true, codes, ◌⊎◌}
 use Rattle.c_values.specs.Name.{Name}
 use Rattle.c_lex.specs.Lexeme.{Lexeme}
 use Rattle.c_lex.specs.Front.{Cause}

@@ -19,8 +19,8 @@ ghost use Rattle.ac_core.specs.declared.status.Status.{Status};
 
 use crate::Status;
 use crate::class::class_of;
-use crate::program_text::write_program;
 use crate::refusal::{lex_refusal, past, syntax, untyped};
+use crate::shown_programs::write_program;
 use crate::sum::translate;
 use crate::words::{Writing, asked_file, is_form};
 use abs_print::print;

@@ -1,4 +1,7 @@
-use Rattle.std.proofs.Common.{subst}
+use Rattle.std.proofs.Common.{◌≡◌, subst}
+use Rattle.std.specs.Prelude.{IfOk, codes}
+use Rattle.ac_core.specs.Refusal.{source_line}
+use Rattle.ac_core.specs.declared.status.Status.TheVariants.{Source}
 use Rattle.c_lex.specs.Lexeme.{lexemes_of}
 use Rattle.c_grammar.specs.CodeTree.{unit_of}
 use Rattle.c_parse.specs.Answer.{IsFaultOf}
@@ -20,5 +23,7 @@ returns-in-Ok c =
 pub returns-in-Err-Syntax : goal.returns-in-Err-Syntax
 returns-in-Err-Syntax c =
     of_result c.syntax.result _ _
-    (λ a. no_tree_answer (text_of (is_notation c.args.writing)) (lexemes_of c.args.tokens.now) c.in-Err-Syntax.at a.status a.lines.items (subst (λ fault. IsFaultOf (lexemes_of c.args.tokens.now) fault) c.in-Err-Syntax.field-0-is c.in-Err-Syntax.ensures.fault))
+    (λ a p.
+    no_tree_answer (text_of (is_notation c.args.writing)) (lexemes_of c.args.tokens.now) _ a.status a.lines.items
+    (subst (λ fault. IsFaultOf (lexemes_of c.args.tokens.now) fault) c.in-Err-Syntax.field-0-is c.in-Err-Syntax.ensures.fault) p)
     c.syntax.ensures
