@@ -1,9 +1,9 @@
 -- Conditions, and where results go, are read as those that their trees are of.
-use Rattle.std.proofs.Common.{◌≡◌, ℕ, Bool, true, false, cond, List, [], ◌∷◌, Option, Some, None, Result, Ok, Err, refl, ap, ap₂, sym, ◌∙◌, if◌then◌else◌}
+use Rattle.std.proofs.Common.{◌≡◌, ◌≢◌, ℕ, Bool, true, false, cond, List, [], ◌∷◌, Option, Some, None, Result, Ok, Err, refl, ap, ap₂, sym, ◌∙◌, if◌then◌else◌}
 use Rattle.std.proofs.lemmas.Bool.{cond-true, false≢true}
 use Rattle.c_values.specs.Name.{Name, same_name}
 use Rattle.ac_sx.specs.Tree.{Tree, Trees, Atom, Node, no_trees, more}
-use Rattle.ac_sx.specs.CodeSx.{two_of}
+use Rattle.ac_sx.specs.CodeSx.{word_in, two_of}
 use Rattle.expression_lang.specs.Expression.{Exp}
 use Rattle.expression_lang.specs.GuardKind.{GuardKind, Div, Signed, Shift, Pointer, Bounds, Unreached, Tag, Wrap}
 use Rattle.expression_text.specs.Reading.{Read, next, ◌>>=◌}
@@ -12,7 +12,7 @@ use Rattle.expression_text.specs.Words.{looked_up}
 use Rattle.expression_text.specs.ExpText.{exp_tree, is_exp}
 use Rattle.expression_text.specs.ExpReading.{exp_at}
 use Rattle.expression_text.specs.Lists.{each, trees_for}
-use Rattle.expression_text.proofs.LookedUp.{looked_up_is, name_is, AreFound}
+use Rattle.expression_text.proofs.LookedUp.{looked_up_is, looked_up_from, name_is, AreFound}
 use Rattle.expression_text.proofs.Behind.{behind, IsReadAs, bind_ok, value_ok}
 use Rattle.expression_text.proofs.ExpsText.{exp_reads, exp_spells}
 use Rattle.expression_text.proofs.ListLaws.{list_reads, list_spells}
@@ -42,6 +42,15 @@ guard_kind_spells (Atom word) at k n read = from (looked_up guard_word guard_kin
     from : (o : Option GuardKind) → looked_up guard_word guard_kinds word ≡ o → guard_kind_from at o ≡ Ok (k, n) → Atom word ≡ Atom (guard_word k)
     from None is e = absurd cc
     from (Some j) is e = ap Atom (sym (looked_up_is guard_word guard_kinds word j is) ∙ ap guard_word (value_ok j (next at) k n e))
+
+kind_in : (t : Tree) (word : Name) (at : ℕ) → Some word ≡ word_in t → guard_kind_at at t ≡ guard_kind_from at (looked_up guard_word guard_kinds word)
+kind_in (Node ts) word at e = absurd cc
+kind_in (Atom v) word at e = let same : word ≡ v = cc in ap (λ w. guard_kind_from at (looked_up guard_word guard_kinds w)) (sym same)
+
+pub guard_kind_refused : (t : Tree) (word : Name) (at : ℕ) → Some word ≡ word_in t → ((k : GuardKind) → word ≢ guard_word k) → guard_kind_at at t ≡ Err at
+guard_kind_refused t word at e unknown =
+    kind_in t word at e
+    ∙ ap (λ (o : Option GuardKind). guard_kind_from at o) (sym (looked_up_from {X = GuardKind} guard_word guard_kinds (λ k. k) word None guard_kinds_found tt unknown))
 
 abbrev conditioned : GuardKind → Exp → Condition
 conditioned k e = record { kind = k; exp = e }

@@ -136,11 +136,8 @@ fn front_of(parts: &[Sx]) -> Option<(&Sx, &[Sx])>
     ensures shorter { IfSome result (λ x. length x.1.now < length parts.now) }
 {
     let (first, others) = parts.split_first()?;
-    if others.is_empty() {
-        None
-    } else {
-        Some((first, others))
-    }
+    let (_second, _behind) = others.split_first()?;
+    Some((first, others))
 }
 
 // The commands in sequence that these are. A text may have long sequences, so this takes no stack for each of its commands.

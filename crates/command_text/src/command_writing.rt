@@ -54,6 +54,7 @@ enum Peel<'a> {
 }
 
 #[cycle(written)]
+#[tactic(auto, using(crate::proofs::CommandLaws::seq_text))]
 fn peeled(alloc: Global, c: &Simpl) -> Result<Peel<'_>, AllocError>
     ensures same { IfOk result (λ peel. peeled_in peel ≡ command_tree (simpl_of c.now)) }
     ensures smaller { IfOk result (λ peel. LastIsSmaller peel (size-Simpl c.now)) }
