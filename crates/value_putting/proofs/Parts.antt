@@ -1,14 +1,14 @@
 -- Programs and places from their parts, with a value put in.
-use Rattle.std.proofs.Common.{◌≡◌, Bool, true, false, cond, List, refl, sym, ap, ◌∙◌}
+use Rattle.std.proofs.Common.{◌≡◌, Bool, true, false, cond, List, refl, ap, ◌∙◌}
 use Rattle.c_values.specs.Name.{Name, is_among}
 use Rattle.c_values.specs.Types.{CType}
 use Rattle.expression_lang.specs.Expression.{Exp, Path}
 use Rattle.ac_expr.specs.Substituted.{substituted, path_substituted}
 use Rattle.monad_lang.specs.Program as M
-use Rattle.monad_lang.specs.Program.{Mon, Start}
+use Rattle.monad_lang.specs.Program.{Mon, Start, Place}
 use Rattle.monad_lang.specs.Run.{start_names}
 use Rattle.program_facts.specs.Substituted.{starts_substituted, place_substituted, program_substituted}
-use Rattle.value_putting.specs.Parts.{exp_behind, program_behind, header_behind}
+use Rattle.value_putting.specs.Parts.{program_behind, header_behind}
 
 pub bind_put : (x : Name) (e : Exp) (m first : Mon) (xs own : List Name) (n : Mon) (bound : Bool) → first ≡ program_substituted x e m → own ≡ xs →
     bound ≡ is_among x xs → M.Bind first own (program_behind x e bound n) ≡ program_substituted x e (M.Bind m xs n)
@@ -39,3 +39,7 @@ pub written_put : (x : Name) (e : Exp) (t u : CType) (p q : Exp) (path r : Path)
     M.Written u q r ≡ place_substituted x e (M.Written t p path)
 written_put x e t u p q path r h i j =
     ap (λ a. M.Written a q r) h ∙ ap (λ a. M.Written t a r) i ∙ ap (λ a. M.Written t (substituted x e p) a) j
+
+pub write_put : (x : Name) (e : Exp) (place q : Place) (a b : Exp) → q ≡ place_substituted x e place → b ≡ substituted x e a →
+    M.Write q b ≡ program_substituted x e (M.Write place a)
+write_put x e place q a b h i = ap (λ r. M.Write r b) h ∙ ap (λ c. M.Write (place_substituted x e place) c) i

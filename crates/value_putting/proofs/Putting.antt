@@ -26,7 +26,7 @@ unnamed_variable y [] = refl
 unnamed_variable y (x ∷ xs) =
     by (same_name x y) (is_unnamed xs (Var y)) ∙ ap₂ (λ a b. a || b) (same_turned x y) (unnamed_variable y xs)
   where
-    by : (a b : Bool) → not (not (a || false) && b) ≡ (a || not b)
+    by : (a b : Bool) → not (not a && b) ≡ (a || not b)
     by true b = refl
     by false b = refl
 

@@ -6,10 +6,10 @@ ghost use Rattle.expression_lang.specs.Expression as plain;
 ghost use Rattle.expression_lang.specs.CodeExpression.{exp_of};
 ghost use Rattle.monad_lang.specs.Program as programs;
 ghost use Rattle.monad_lang.specs.declared.program.Mon.{size-Mon};
-ghost use Rattle.monad_lang.specs.CodeProgram.{start_of, mon_of};
+ghost use Rattle.monad_lang.specs.CodeProgram.{place_of, start_of, mon_of};
 ghost use Rattle.monad_lang.specs.CodeFront.{IsStep, with_front, with_fronts};
 ghost use Rattle.program_facts.specs.Substituted.{program_substituted};
-ghost use Rattle.value_putting.specs.Parts.{program_behind, header_behind};
+ghost use Rattle.value_putting.specs.Parts.{exp_behind, program_behind, header_behind};
 ghost use Rattle.value_putting.specs.CodeOpening.{becomes, LastIsSmaller};
 
 use crate::captured_names::is_started;
@@ -32,6 +32,10 @@ pub fn put(alloc: Global, name: &str, value: &Exp, m: &Mon) -> Result<Box<Mon>, 
     'along: loop {
         match opened(alloc, name, value, rest)? {
             Opening::Whole(new) => return closed(alloc, fronts, new),
+            Opening::Bound(front, last) => {
+                fronts.push(front)?;
+                return closed(alloc, fronts, last.copy(alloc)?);
+            }
             Opening::Last(front, last) => {
                 fronts.push(front)?;
                 rest = last;
@@ -45,6 +49,8 @@ pub fn put(alloc: Global, name: &str, value: &Exp, m: &Mon) -> Result<Box<Mon>, 
 enum Opening<'a> {
     // There is no other part.
     Whole(Box<Mon>),
+    // The name is bound before the last part.
+    Bound(Front, &'a Mon),
     Last(Front, &'a Mon),
 }
 
@@ -63,7 +69,7 @@ fn opened<'a>(alloc: Global, name: &str, value: &Exp, m: &'a Mon) -> Result<Open
         Mon::Bind(first, names, last) => {
             let first = put(alloc, name, value, first)?;
             let front = Front::Bind(first, copy_names(alloc, names)?);
-            behind(alloc, is_among(name, names), front, last)
+            Ok(behind(is_among(name, names), front, last))
         }
         Mon::If(test, first, last) => {
             let test = in_exp(alloc, name, value, test)?;
@@ -73,28 +79,23 @@ fn opened<'a>(alloc: Global, name: &str, value: &Exp, m: &'a Mon) -> Result<Open
         Mon::Loop(starts, guard, test, last) => {
             let bound = is_started(name, starts);
             let front = header(alloc, name, value, bound, starts, guard, test)?;
-            behind(alloc, bound, front, last)
+            Ok(behind(bound, front, last))
         }
     }
 }
 
 // A program whose last part is left as it is where the name is bound before it.
-fn behind<'a>(
-    alloc: Global,
-    bound: bool,
-    front: Front,
-    last: &'a Mon,
-) -> Result<Opening<'a>, AllocError>
-    ensures same { (x : Name) (e : plain.Exp) → IfOk result (λ new.
-        becomes (program_substituted x e) new
-        ≡ with_front front (program_behind x e bound (mon_of last.now))) }
-    ensures smaller { (n : ℕ) → size-Mon last.now < n → IfOk result (λ new. LastIsSmaller new n) }
+fn behind<'a>(bound: bool, front: Front, last: &'a Mon) -> Opening<'a>
+    ensures same { (x : Name) (e : plain.Exp) →
+        becomes (program_substituted x e) result
+        ≡ with_front front (program_behind x e bound (mon_of last.now)) }
+    ensures smaller { (n : ℕ) → size-Mon last.now < n → LastIsSmaller result n }
 {
-    if !bound {
-        return Ok(Opening::Last(front, last));
+    if bound {
+        Opening::Bound(front, last)
+    } else {
+        Opening::Last(front, last)
     }
-    let last = last.copy(alloc)?;
-    Ok(Opening::Whole(boxed(alloc, whole(front, last))?))
 }
 
 // A loop but for its body: its guard and its test are left as they are where it binds the name.
@@ -107,7 +108,7 @@ fn header(
     guard: &Exp,
     test: &Exp,
 ) -> Result<Front, AllocError>
-    ensures { (m : programs.Mon) → IfOk result (λ front. with_front front m
+    ensures { IfOk result (λ front. (m : programs.Mon) → with_front front m
         ≡ header_behind name.now (exp_of value.now) bound (map start_of starts.now)
         (exp_of guard.now) (exp_of test.now) m) }
 {

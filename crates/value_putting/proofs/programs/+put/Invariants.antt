@@ -1,5 +1,5 @@
 -- The fronts put aside, around what becomes of what is left, are the whole.
-use Rattle.std.proofs.Common.{◌≡◌, ◌≤◌}
+use Rattle.std.proofs.Common.{◌≡◌, ◌≤◌, ◌+◌, ◌*◌}
 use Rattle.expression_lang.specs.CodeExpression.{exp_of}
 use Rattle.monad_lang.specs.declared.program.Mon.{size-Mon}
 use Rattle.monad_lang.specs.CodeProgram.{mon_of}
@@ -17,3 +17,9 @@ invariant-put-along l = record {
 
 abbrev pub decreases-put-along : goal.decreases-put-along
 decreases-put-along l = size-Mon l.rest
+
+abbrev pub decreases-opened : goal.decreases-opened
+decreases-opened l = 2 * size-Mon l.m.now
+
+abbrev pub decreases-put : goal.decreases-put
+decreases-put l = 2 * size-Mon l.m.now + 1
