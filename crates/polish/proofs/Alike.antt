@@ -4,7 +4,8 @@ use Rattle.expression_lang.specs.Sort.{Scope}
 use Rattle.rule_eq.specs.Rule.{Point}
 use Rattle.monad_lang.specs.Program as M
 use Rattle.monad_lang.specs.Program.{Mon}
-use Rattle.polish.specs.Rewritten.{Choice, direct_step, more, direct_steps}
+use Rattle.expression_steps.specs.Rewritten.{Choice}
+use Rattle.polish.specs.Direct.{direct_step, more, direct_steps}
 use Rattle.polish.specs.Polished.{last_of}
 use Rattle.polish.proofs.Cases.{one_case, two_case, three_case}
 

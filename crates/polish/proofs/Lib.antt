@@ -1,4 +1,3 @@
-pub mod KnownIs
 pub mod Cases
 pub mod Shorter
 pub mod Closed

@@ -1,6 +1,4 @@
-pub mod Rewritten
-pub mod Known
-pub mod Shortened
+pub mod Direct
 pub mod Polished
 pub mod Balanced
 pub mod Translation
