@@ -5,3 +5,4 @@ pub mod Exact
 pub mod Units
 pub mod Tidy
 pub mod Captures
+pub mod CodeRule

@@ -3,8 +3,10 @@
 #![tactic(auto)]
 
 mod laws;
+mod rule;
 
 pub use laws::{
     simplifying_keeps_sorts, substitution_is_exact, taken_is_exact, taken_units_keep_equal,
     tidy_is_exact,
 };
+pub use rule::Rule;
