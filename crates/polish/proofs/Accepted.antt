@@ -34,7 +34,8 @@ use Rattle.polish.proofs.Folds.{whole_constant}
 use Rattle.polish.proofs.Shortened.{shortened_steps, shortened_sorts, shortened_free}
 use Rattle.expression_steps.proofs.KnownIs.{known_exactly}
 use Rattle.polish.proofs.DirectSorts.{direct_gives}
-use Rattle.polish.proofs.Alike.{IsIf, IsLoop, steps_alike}
+use Rattle.polish.specs.Parts.{IsIf, IsLoop}
+use Rattle.polish.proofs.Alike.{steps_alike}
 
 -- the tree takes a program there, and it gives the same scalars
 pub record Reaches (at : Point) (t : Tree Rule) (m n : Mon) (cs : List Scalar) : Type 0 where

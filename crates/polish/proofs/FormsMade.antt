@@ -27,7 +27,8 @@ use Rattle.polish.specs.Polished.{Polished, Way, leaf, unchanged, at_once, and_t
 use Rattle.polish.proofs.Cases.{one_case, two_case, three_case}
 use Rattle.polish.proofs.TestsKept.{KeepsFree, step_has, path_has_step, two_free}
 use Rattle.polish.proofs.Closed.{one_weaker, two_weaker, three_weaker}
-use Rattle.polish.proofs.Alike.{IsIf, IsLoop, steps_alike}
+use Rattle.polish.specs.Parts.{IsIf, IsLoop}
+use Rattle.polish.proofs.Alike.{steps_alike}
 use Rattle.polish.proofs.Accepted.{Put, constant_put, first_is_put, bound_holds}
 use Rattle.polish.proofs.Folds.{IsConstant}
 use Rattle.polish.proofs.Shortened.{shortened_free}

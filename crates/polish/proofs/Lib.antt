@@ -22,3 +22,10 @@ pub mod StaysAccepted
 pub mod Shallow
 pub mod Translated
 pub mod Worked
+pub mod Walks
+pub mod Lists
+pub mod FirstPut
+pub mod Takings
+pub mod Nexts
+pub mod Descending
+pub mod Weighed

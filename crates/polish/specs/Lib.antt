@@ -2,3 +2,16 @@ pub mod Direct
 pub mod Polished
 pub mod Translation
 pub mod Climbed
+pub mod CodePoint
+pub mod Seen
+pub mod CodeRewriting
+pub mod CodePutting
+pub mod CodePuttingView
+pub mod CodeNext
+pub mod CodeNextView
+pub mod Descent
+pub mod CodeDescent
+pub mod CodeParted
+pub mod Followed
+pub mod Weight
+pub mod Parts
