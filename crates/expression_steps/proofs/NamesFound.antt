@@ -50,6 +50,23 @@ pub part_passed : (p : P.PassedPart) (ps : List P.PassedPart) (o : Option Scalar
 part_passed p ps o y =
     parts_only_there ps (names_with (map string_bytes p.names.items) (map scalar_of p.scalars.items) (λ _. o)) y
 
+-- behind one part more
+pub part_after : (p : P.PassedPart) (ps : List P.PassedPart) (o new : Option Scalar) (y : Name) →
+    new ≡ names_with (map string_bytes p.names.items) (map scalar_of p.scalars.items) (λ _. o) y →
+    names_behind ps (λ _. new) y ≡ names_behind (p ∷ ps) (λ _. o) y
+part_after p ps o new y h = ap (λ (q : Option Scalar). names_behind ps (λ _. q) y) h ∙ sym (part_passed p ps o y)
+
+-- what is found outside is found first
+pub found_within : (xs : List Name) (ss : List Scalar) (f : Name → Option Scalar) (y : Name) (o new : Option Scalar) → o ≡ f y →
+    new ≡ names_with xs ss (λ _. o) y → new ≡ names_with xs ss (λ x. f x) y
+found_within xs ss f y o new h i =
+    i ∙ ap (λ (q : Option Scalar). names_with xs ss (λ _. q) y) h ∙ sym (only_there xs ss f y)
+
+pub found_behind : (ps : List P.PassedPart) (f : Name → Option Scalar) (y : Name) (o new : Option Scalar) → o ≡ f y →
+    new ≡ names_behind ps (λ _. o) y → new ≡ names_behind ps (λ x. f x) y
+found_behind ps f y o new h i =
+    i ∙ ap (λ (q : Option Scalar). names_behind ps (λ _. q) y) h ∙ sym (parts_only_there ps f y)
+
 -- where no scalars are told, nothing is bound
 pub names_untold : (xs : List Name) (f : Name → Option Scalar) → names_with xs [] f ≡ f
 names_untold [] f = refl

@@ -39,6 +39,7 @@ pub enum Scoped<'a> {
 
 impl Scoped<'_> {
     // The scalar of a name. It calls itself once for each list of names around.
+    #[tactic(auto, using(crate::proofs::NamesFound::found_within, crate::proofs::NamesFound::found_behind))]
     fn named(&self, name: &str) -> Option<Scalar>
         ensures { option_map scalar_of result ≡ names_in self.now name.now }
     {
@@ -67,7 +68,6 @@ impl Scope for Scoped<'_> {
 }
 
 // The scalar of the last of the names that is this one, or else what was found before.
-#[tactic(auto, using(crate::proofs::NamesFound::name_there, crate::proofs::NamesFound::name_elsewhere))]
 fn among(bindings: &[Binding], name: &str, before: Option<Scalar>) -> Option<Scalar>
     ensures { option_map scalar_of result ≡ names_with (names_of bindings.now)
         (scalars_of bindings.now) (λ _. option_map scalar_of before) name.now }
@@ -75,9 +75,7 @@ fn among(bindings: &[Binding], name: &str, before: Option<Scalar>) -> Option<Sca
     let mut found = before;
     let mut rest = bindings;
     'along: while let Some((first, others)) = rest.split_first() {
-        if first.name.as_str() == name {
-            found = Some(first.scalar);
-        }
+        found = after_name(first.name.as_str(), first.scalar, name, found);
         rest = others;
     }
     found
@@ -119,7 +117,7 @@ fn among_names(
 }
 
 // The same of the names of parts that were passed.
-#[tactic(auto, using(crate::proofs::NamesFound::part_passed))]
+#[tactic(auto, using(crate::proofs::NamesFound::part_after))]
 fn among_parts(parts: &[PassedPart], name: &str, before: Option<Scalar>) -> Option<Scalar>
     ensures { option_map scalar_of result
         ≡ names_behind parts.now (λ _. option_map scalar_of before) name.now }

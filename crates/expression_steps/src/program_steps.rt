@@ -237,6 +237,7 @@ fn target_step<'x>(
     Ok(Some(Target { pointer, path }))
 }
 
+#[tactic(auto, using(crate::proofs::PlaceSteps::stored_step, crate::proofs::PlaceSteps::written_step))]
 fn place_step<'x>(
     alloc: Global,
     context: &Context<'_>,
@@ -357,6 +358,7 @@ fn turn_step<'x>(
 }
 
 // The same of a loop that begins with these.
+#[tactic(auto, using(crate::proofs::Headers::none_turned, crate::proofs::Headers::some_turned))]
 fn started_step<'x>(
     alloc: Global,
     context: &Context<'_>,
@@ -433,6 +435,7 @@ fn header_step<'x>(
 
 /// A program after the first step in an expression that stands in it directly, or none where there
 /// is no step.
+#[tactic(auto, using(crate::proofs::Headers::loop_step))]
 pub fn direct_step<'x>(
     alloc: Global,
     context: &Context<'_>,
