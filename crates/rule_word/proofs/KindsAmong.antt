@@ -1,9 +1,12 @@
 -- Which kind a name has among more names.
-use Rattle.std.proofs.Common.{◌≡◌, ℕ, zero, suc, Bool, true, false, cond, List, [], ◌∷◌, Option, Some, None, refl, ap, ◌∙◌}
+use Rattle.std.proofs.Common.{◌≡◌, ℕ, zero, suc, Bool, true, false, cond, List, [], ◌∷◌, ◌++◌, map, string_bytes, Option, Some, None, refl, ap, ◌∙◌}
 use Rattle.std.specs.Option.{option_map}
 use Rattle.c_values.specs.Name.{Name, same_name}
 use Rattle.expression_lang.specs.Sort.{Kind}
-use Rattle.expression_lang.specs.Signature.{Binder, binder}
+use Rattle.expression_lang.specs.CodeExpression.{kind_of}
+use Rattle.expression_lang.specs.CodeSignature.{binder_of}
+use Rattle.expression_lang.specs.Signature.{Binder, binder, names_of, kinds_of}
+use Rattle.expression_lang.specs.declared.signatures.Binder as B
 use Rattle.monad_lang.specs.Program as M
 use Rattle.monad_lang.specs.Program.{Mon}
 use Rattle.rule_trees.specs.RuleTree.{Tree, node, Trees, tree, no_trees, count}
@@ -43,6 +46,25 @@ name_found xs ks bs y k h = among xs ks bs y ∙ kind_found xs ks y k (kind_in b
 
 pub name_missed : (xs : List Name) (ks : List Kind) (bs : List Binder) (y : Name) → kind_among xs ks y None ≡ None → kind_in (with_kinds xs ks bs) y ≡ kind_in bs y
 name_missed xs ks bs y h = among xs ks bs y ∙ kind_missed xs ks y (kind_in bs y) h
+
+pub ruleset one_name = (name_found, name_missed)
+
+-- the last of binders comes first
+last_among : (xs : List B.Binder) (x : B.Binder) (y : Name) (found : Option Kind) →
+    kind_among (names_of (map binder_of (xs ++ x ∷ []))) (kinds_of (map binder_of (xs ++ x ∷ []))) y found
+    ≡ cond (same_name (string_bytes x.name) y) (Some (kind_of x.kind)) (kind_among (names_of (map binder_of xs)) (kinds_of (map binder_of xs)) y found)
+last_among [] x y found = refl
+last_among (a ∷ xs) x y found = last_among xs x y (cond (same_name (string_bytes a.name) y) (Some (kind_of a.kind)) found)
+
+pub last_found : (xs : List B.Binder) (x : B.Binder) (y : Name) → same_name (string_bytes x.name) y ≡ true →
+    kind_among (names_of (map binder_of (xs ++ x ∷ []))) (kinds_of (map binder_of (xs ++ x ∷ []))) y None ≡ Some (kind_of x.kind)
+last_found xs x y h = last_among xs x y None ∙ ap (λ b. cond b (Some (kind_of x.kind)) (kind_among (names_of (map binder_of xs)) (kinds_of (map binder_of xs)) y None)) h
+
+pub last_missed : (xs : List B.Binder) (x : B.Binder) (y : Name) → same_name (string_bytes x.name) y ≡ false →
+    kind_among (names_of (map binder_of (xs ++ x ∷ []))) (kinds_of (map binder_of (xs ++ x ∷ []))) y None ≡ kind_among (names_of (map binder_of xs)) (kinds_of (map binder_of xs)) y None
+last_missed xs x y h = last_among xs x y None ∙ ap (λ b. cond b (Some (kind_of x.kind)) (kind_among (names_of (map binder_of xs)) (kinds_of (map binder_of xs)) y None)) h
+
+pub ruleset last_name = (last_found, last_missed)
 
 -- the same of a sequence
 passed_kind : (n : ℕ) (t : Tree Rule) (m : Mon) (bs : List Binder) (y : Name) → kind_in (with_passed n t m bs) y ≡ kind_passed n t m y (kind_in bs y)

@@ -17,7 +17,7 @@ use Rattle.rule_word.specs.Rule.{Rule}
 use Rattle.rule_word.specs.Scopes.{with_kinds}
 use Rattle.rule_word.specs.CodeRule.{tree_of}
 use Rattle.rule_word.specs.CodeNames.{with_passed, kind_passed, kind_in}
-use Rattle.rule_word.specs.CodeStretch.{later_tree, later_parts, mark, is_one, is_marked, marked, are_marked, are_names_marked, first_bound, later_bound, found_behind, behind, IsKept, IsNext}
+use Rattle.rule_word.specs.CodeStretch.{mark, is_one, is_marked, marked, are_marked, are_names_marked, count_in, tree_in, parts_in, tree_at, parts_at, behind_place, first_bound, between_bound, late_bound, found_behind, behind, LeadsOn, IsKept, IsNext}
 use Rattle.rule_word.proofs.KindsAmong.{passed_found, passed_missed}
 
 abbrev pub set : ℕ → ℕ → ℕ
@@ -85,37 +85,70 @@ still_marked marks (a ∷ own) bs cs y h k = by (still_marked marks own bs cs y 
       ap (λ s. kind_in (cond s (a ∷ marked marks own) (marked marks own) ++ bs) y) e ∙ rest
       ∙ sym (ap (λ d. cond d (Some a.kind) (kind_in (own ++ cs) y)) f)
 
+-- the names in scope at the second place
+abbrev before_late : S.Stretch → List Binder → List Binder
+before_late s bs = behind_place s s.middle s.between (with_passed s.before (tree_in s) (parts_in s) bs)
+
+-- what one part of a sequence binds, where another goes on where it ends
+both_bound : (n k : ℕ) (t u : Tree Rule) (m l : Mon) → LeadsOn u l n t m → (bs : List Binder) → with_passed (n + k) t m bs ≡ with_passed k u l [] ++ with_passed n t m bs
+both_bound n k t u m l h bs = sym (h k bs) ∙ passed_alone k u l (with_passed n t m bs)
+
 module _ (s : S.Stretch) (y : Name) where
   pub not_marked : is_marked s.marks y ≡ false → (bs : List Binder) → kind_in (found_behind s bs) y ≡ kind_in bs y
-  not_marked h bs = unmarked s.marks (later_bound s) (marked s.marks (first_bound s) ++ bs) y h ∙ unmarked s.marks (first_bound s) bs y h
+  not_marked h bs =
+      unmarked s.marks (late_bound s) (marked s.marks (between_bound s) ++ (marked s.marks (first_bound s) ++ bs)) y h
+      ∙ unmarked s.marks (between_bound s) (marked s.marks (first_bound s) ++ bs) y h ∙ unmarked s.marks (first_bound s) bs y h
 
   module _ (h : is_marked s.marks y ≡ true) where
-    looked : (bs : List Binder) → kind_in (found_behind s bs) y ≡ kind_in (with_passed s.since (later_tree s) (later_parts s) (with_passed s.before (tree_of s.tree.now) (mon_of s.parts.now) bs)) y
+    first_looked : (bs : List Binder) → kind_in (marked s.marks (first_bound s) ++ bs) y ≡ kind_in (with_passed s.before (tree_in s) (parts_in s) bs) y
+    first_looked bs =
+        still_marked s.marks (first_bound s) bs bs y h refl ∙ ap (λ cs. kind_in cs y) (sym (passed_alone s.before (tree_in s) (parts_in s) bs))
+
+    between_looked : (bs : List Binder) → kind_in (marked s.marks (between_bound s) ++ (marked s.marks (first_bound s) ++ bs)) y ≡ kind_in (before_late s bs) y
+    between_looked bs =
+        let first : List Binder = with_passed s.before (tree_in s) (parts_in s) bs in
+        still_marked s.marks (between_bound s) (marked s.marks (first_bound s) ++ bs) first y h (first_looked bs)
+        ∙ ap (λ cs. kind_in cs y) (sym (passed_alone s.between (tree_at (tree_in s) s.middle) (parts_at (parts_in s) s.middle) first))
+
+    looked : (bs : List Binder) → kind_in (found_behind s bs) y ≡ kind_in (behind_place s s.late s.since (before_late s bs)) y
     looked bs =
-        still_marked s.marks (later_bound s) (marked s.marks (first_bound s) ++ bs) (with_passed s.before (tree_of s.tree.now) (mon_of s.parts.now) bs) y h
-        (still_marked s.marks (first_bound s) bs bs y h refl ∙ ap (λ cs. kind_in cs y) (sym (passed_alone s.before (tree_of s.tree.now) (mon_of s.parts.now) bs)))
-        ∙ ap (λ cs. kind_in cs y) (sym (passed_alone s.since (later_tree s) (later_parts s) (with_passed s.before (tree_of s.tree.now) (mon_of s.parts.now) bs)))
+        still_marked s.marks (late_bound s) (marked s.marks (between_bound s) ++ (marked s.marks (first_bound s) ++ bs)) (before_late s bs) y h (between_looked bs)
+        ∙ ap (λ cs. kind_in cs y) (sym (passed_alone s.since (tree_at (tree_in s) s.late) (parts_at (parts_in s) s.late) (before_late s bs)))
 
-    pub found_later : (k : Kind) → kind_passed s.since (later_tree s) (later_parts s) y None ≡ Some k → (bs : List Binder) → kind_in (found_behind s bs) y ≡ Some k
-    found_later k e bs = looked bs ∙ passed_found s.since (later_tree s) (later_parts s) (with_passed s.before (tree_of s.tree.now) (mon_of s.parts.now) bs) y k e
+    pub found_late : (k : Kind) → kind_passed s.since (tree_at (tree_in s) s.late) (parts_at (parts_in s) s.late) y None ≡ Some k → (bs : List Binder) → kind_in (found_behind s bs) y ≡ Some k
+    found_late k e bs = looked bs ∙ passed_found s.since (tree_at (tree_in s) s.late) (parts_at (parts_in s) s.late) (before_late s bs) y k e
 
-    module _ (e : kind_passed s.since (later_tree s) (later_parts s) y None ≡ None) where
-      before : (bs : List Binder) → kind_in (found_behind s bs) y ≡ kind_in (with_passed s.before (tree_of s.tree.now) (mon_of s.parts.now) bs) y
-      before bs = looked bs ∙ passed_missed s.since (later_tree s) (later_parts s) (with_passed s.before (tree_of s.tree.now) (mon_of s.parts.now) bs) y e
+    module _ (e : kind_passed s.since (tree_at (tree_in s) s.late) (parts_at (parts_in s) s.late) y None ≡ None) where
+      not_late : (bs : List Binder) → kind_in (found_behind s bs) y ≡ kind_in (before_late s bs) y
+      not_late bs = looked bs ∙ passed_missed s.since (tree_at (tree_in s) s.late) (parts_at (parts_in s) s.late) (before_late s bs) y e
 
-      pub found_first : (k : Kind) → kind_passed s.before (tree_of s.tree.now) (mon_of s.parts.now) y None ≡ Some k → (bs : List Binder) → kind_in (found_behind s bs) y ≡ Some k
-      found_first k f bs = before bs ∙ passed_found s.before (tree_of s.tree.now) (mon_of s.parts.now) bs y k f
+      pub found_between : (k : Kind) → kind_passed s.between (tree_at (tree_in s) s.middle) (parts_at (parts_in s) s.middle) y None ≡ Some k → (bs : List Binder) → kind_in (found_behind s bs) y ≡ Some k
+      found_between k f bs =
+          not_late bs ∙ passed_found s.between (tree_at (tree_in s) s.middle) (parts_at (parts_in s) s.middle) (with_passed s.before (tree_in s) (parts_in s) bs) y k f
 
-      pub found_nowhere : kind_passed s.before (tree_of s.tree.now) (mon_of s.parts.now) y None ≡ None → (bs : List Binder) → kind_in (found_behind s bs) y ≡ kind_in bs y
-      found_nowhere f bs = before bs ∙ passed_missed s.before (tree_of s.tree.now) (mon_of s.parts.now) bs y f
+      module _ (f : kind_passed s.between (tree_at (tree_in s) s.middle) (parts_at (parts_in s) s.middle) y None ≡ None) where
+        not_between : (bs : List Binder) → kind_in (found_behind s bs) y ≡ kind_in (with_passed s.before (tree_in s) (parts_in s) bs) y
+        not_between bs =
+            not_late bs ∙ passed_missed s.between (tree_at (tree_in s) s.middle) (parts_at (parts_in s) s.middle) (with_passed s.before (tree_in s) (parts_in s) bs) y f
+
+        pub found_first : (k : Kind) → kind_passed s.before (tree_in s) (parts_in s) y None ≡ Some k → (bs : List Binder) → kind_in (found_behind s bs) y ≡ Some k
+        found_first k g bs = not_between bs ∙ passed_found s.before (tree_in s) (parts_in s) bs y k g
+
+        pub found_nowhere : kind_passed s.before (tree_in s) (parts_in s) y None ≡ None → (bs : List Binder) → kind_in (found_behind s bs) y ≡ kind_in bs y
+        found_nowhere g bs = not_between bs ∙ passed_missed s.before (tree_in s) (parts_in s) bs y g
+
+-- where a name is found, and where it isn't
+pub ruleset looked_up = (found_late, found_between, found_first, found_nowhere, not_marked)
 
 -- what the code finds is what is there
 pub all_found : (s : S.Stretch) → IsKept s → (bs : List Binder) → found_behind s bs ≡ behind s bs
 all_found s kept bs =
-    ap₂ (λ own cs. own ++ (cs ++ bs)) (all_marked s.marks (later_bound s) kept.later) (all_marked s.marks (first_bound s) kept.first)
-    ∙ ap (λ cs. later_bound s ++ cs) (sym (passed_alone s.before (tree_of s.tree.now) (mon_of s.parts.now) bs))
-    ∙ sym (passed_alone s.since (later_tree s) (later_parts s) (with_passed s.before (tree_of s.tree.now) (mon_of s.parts.now) bs))
-    ∙ kept.onward s.since bs
+    let first = all_marked s.marks (first_bound s) kept.first in
+    let between = all_marked s.marks (between_bound s) kept.between in
+    let late = all_marked s.marks (late_bound s) kept.late in
+    ap₂ (λ cs ds. cs ++ ds) late (ap₂ (λ cs ds. cs ++ (ds ++ bs)) between first ∙ ap (λ cs. between_bound s ++ cs) (sym (passed_alone s.before (tree_in s) (parts_in s) bs)))
+    ∙ ap (λ cs. late_bound s ++ cs) (sym (both_bound s.before s.between (tree_in s) (tree_at (tree_in s) s.middle) (parts_in s) (parts_at (parts_in s) s.middle) kept.to_middle bs))
+    ∙ sym (both_bound (s.before + s.between) s.since (tree_in s) (tree_at (tree_in s) s.late) (parts_in s) (parts_at (parts_in s) s.late) kept.to_late bs)
 
 -- one name more is marked
 pub more_marked : (n : ℕ) (x : Name) (xs : List Name) → mark x < 64 → (m : ℕ) → ((y : Name) → is_marked (set n (mark x)) y ≡ true → is_marked m y ≡ true) → are_names_marked m xs ≡ true → are_names_marked m (x ∷ xs) ≡ true
@@ -153,43 +186,43 @@ of_both marks (a ∷ own) bs h = by (λ i. of_both marks own bs i) (is_marked ma
   by rest false e = let clash : false ≡ true = sym (ap (λ c. c && are_marked marks (own ++ bs)) e) ∙ h in absurd cc
 
 -- nothing is passed yet
-pub none_passed : (t : Tree Rule) (m : Mon) (k : ℕ) (bs : List Binder) → with_passed k t m bs ≡ with_passed (0 + k) t m bs
+pub none_passed : (t : Tree Rule) (m : Mon) → LeadsOn t m 0 t m
 none_passed t m k bs = let e : k ≡ 0 + k = omega arith in ap (λ j. with_passed j t m bs) e
 
 -- one part more
-module _ (s : S.Stretch) (kept : IsKept s) (xs : List Name) (js : List Kind) (u : Tree Rule) (rest : Mon) (next : IsNext xs js u rest (s.before + s.since) (tree_of s.tree.now) (mon_of s.parts.now)) (more : ℕ)
+module _ (s : S.Stretch) (kept : IsKept s) (xs : List Name) (js : List Kind) (u : Tree Rule) (rest : Mon) (next : IsNext xs js u rest (count_in s) (tree_in s) (parts_in s)) (more : ℕ)
     (stays : (y : Name) → is_marked s.marks y ≡ true → is_marked more y ≡ true) (own : are_names_marked more xs ≡ true) where
-  abbrev whole : Tree Rule
-  whole = tree_of s.tree.now
-
-  abbrev program : Mon
-  program = mon_of s.parts.now
-
-  parted : (bs : List Binder) → behind s bs ≡ later_bound s ++ (first_bound s ++ bs)
-  parted bs =
-      sym (kept.onward s.since bs) ∙ passed_alone s.since (later_tree s) (later_parts s) (with_passed s.before whole program bs)
-      ∙ ap (λ cs. later_bound s ++ cs) (passed_alone s.before whole program bs)
-
   pub first_stays : are_marked more (first_bound s) ≡ true
   first_stays = more_are_marked s.marks more (first_bound s) stays kept.first
 
+  pub between_stays : are_marked more (between_bound s) ≡ true
+  between_stays = more_are_marked s.marks more (between_bound s) stays kept.between
+
+  late_stays : are_marked more (late_bound s) ≡ true
+  late_stays = more_are_marked s.marks more (late_bound s) stays kept.late
+
+  -- where the places move up
+  pub first_longer : are_marked more (with_passed (s.before + s.between) (tree_in s) (parts_in s) []) ≡ true
+  first_longer =
+      ap (λ bs. are_marked more bs) (both_bound s.before s.between (tree_in s) (tree_at (tree_in s) s.middle) (parts_in s) (parts_at (parts_in s) s.middle) kept.to_middle [])
+      ∙ both_marked more (between_bound s) (first_bound s) between_stays first_stays
+
   all_marked_so_far : are_marked more (behind s []) ≡ true
   all_marked_so_far =
-      ap (λ cs. are_marked more cs) (parted [])
-      ∙ both_marked more (later_bound s) (first_bound s ++ []) (more_are_marked s.marks more (later_bound s) stays kept.later) (both_marked more (first_bound s) [] first_stays refl)
+      let before : List Binder = with_passed (s.before + s.between) (tree_in s) (parts_in s) [] in
+      ap (λ bs. are_marked more bs) (both_bound (s.before + s.between) s.since (tree_in s) (tree_at (tree_in s) s.late) (parts_in s) (parts_at (parts_in s) s.late) kept.to_late [])
+      ∙ both_marked more (late_bound s) before late_stays first_longer
 
-  -- where the later place stays
-  pub later_longer : (n : ℕ) → n ≡ s.since + 1 → are_marked more (with_passed n (later_tree s) (later_parts s) []) ≡ true
-  later_longer n e =
-      let bound : with_passed n (later_tree s) (later_parts s) (first_bound s) ≡ with_kinds xs js (behind s []) =
-      ap (λ k. with_passed k (later_tree s) (later_parts s) (first_bound s)) e ∙ kept.onward (s.since + 1) []
-      ∙ (let f : s.before + (s.since + 1) ≡ s.before + s.since + 1 = omega arith in ap (λ k. with_passed k whole program []) f) ∙ next.bound [] in
-      of_both more (with_passed n (later_tree s) (later_parts s) []) (first_bound s)
-      (ap (λ cs. are_marked more cs) (sym (passed_alone n (later_tree s) (later_parts s) (first_bound s)) ∙ bound) ∙ kinds_marked more xs js (behind s []) own all_marked_so_far)
+  pub late_longer : are_marked more (behind_place s s.late (s.since + 1) []) ≡ true
+  late_longer =
+      let before : List Binder = with_passed (s.before + s.between) (tree_in s) (parts_in s) [] in
+      let count : s.before + s.between + (s.since + 1) ≡ count_in s + 1 = omega arith in
+      let bound : behind_place s s.late (s.since + 1) [] ++ before ≡ with_kinds xs js (behind s []) =
+      sym (both_bound (s.before + s.between) (s.since + 1) (tree_in s) (tree_at (tree_in s) s.late) (parts_in s) (parts_at (parts_in s) s.late) kept.to_late [])
+      ∙ ap (λ n. with_passed n (tree_in s) (parts_in s) []) count ∙ next.bound [] in
+      of_both more (behind_place s s.late (s.since + 1) []) before (ap (λ bs. are_marked more bs) bound ∙ kinds_marked more xs js (behind s []) own all_marked_so_far)
 
-  -- where it moves up
-  pub first_longer : (n : ℕ) → n ≡ s.before + s.since + 1 → are_marked more (with_passed n whole program []) ≡ true
-  first_longer n e = ap (λ k. are_marked more (with_passed k whole program [])) e ∙ ap (λ cs. are_marked more cs) (next.bound []) ∙ kinds_marked more xs js (behind s []) own all_marked_so_far
-
-  pub onward_from : (n : ℕ) → n ≡ s.before + s.since + 1 → (k : ℕ) (bs : List Binder) → with_passed k u rest (with_passed n whole program bs) ≡ with_passed (n + k) whole program bs
-  onward_from n e k bs = ap (λ j. with_passed k u rest (with_passed j whole program bs)) e ∙ next.onward k bs ∙ ap (λ j. with_passed (j + k) whole program bs) (sym e)
+  pub onward_there : LeadsOn u rest (s.before + s.between + (s.since + 1)) (tree_in s) (parts_in s)
+  onward_there k bs =
+      let count : count_in s + 1 ≡ s.before + s.between + (s.since + 1) = omega arith in
+      ap (λ n. with_passed k u rest (with_passed n (tree_in s) (parts_in s) bs)) (sym count) ∙ next.onward k bs ∙ ap (λ n. with_passed (n + k) (tree_in s) (parts_in s) bs) count

@@ -1,8 +1,8 @@
 -- Parts of a sequence that were passed, and a summary of the names that they bind: a set of 64 marks, of which each name has one.
 use Rattle.std.specs.Prelude.{◌≡◌, ◌+◌, ◌*◌, ◌%◌, ℕ, zero, suc, Bool, true, false, ◌&&◌, ◌++◌, List, [], ◌∷◌, if◌then◌else◌}
 use Rattle.std.specs.Int.{bit_at}
+use Rattle.rule_word.specs.declared.stretch.Place as P
 use Rattle.rule_word.specs.declared.stretch.Stretch as S
-use Rattle.rule_word.specs.declared.stretch.Later as L
 use Rattle.rule_trees.specs.RuleTree.{Tree}
 use Rattle.c_values.specs.Name.{Name}
 use Rattle.expression_lang.specs.Sort.{Kind}
@@ -43,43 +43,60 @@ abbrev pub are_names_marked : ℕ → List Name → Bool
 are_names_marked marks [] = true
 are_names_marked marks (x ∷ xs) = is_marked marks x && are_names_marked marks xs
 
--- the later place: the tree and the program there
-abbrev tree_at : S.Stretch → L.Later → Tree Rule
-tree_at s L.TheVariants.Start = tree_of s.tree.now
-tree_at s (L.TheVariants.Behind t m) = tree_of t.now
+-- how many parts there are of which tree and program
+abbrev pub count_in : S.Stretch → ℕ
+count_in s = s.before + s.between + s.since
 
-abbrev parts_at : S.Stretch → L.Later → Mon
-parts_at s L.TheVariants.Start = mon_of s.parts.now
-parts_at s (L.TheVariants.Behind t m) = mon_of m.now.value
+abbrev pub tree_in : S.Stretch → Tree Rule
+tree_in s = tree_of s.tree.now
 
-abbrev pub later_tree : S.Stretch → Tree Rule
-later_tree s = tree_at s s.later
+abbrev pub parts_in : S.Stretch → Mon
+parts_in s = mon_of s.parts.now
 
-abbrev pub later_parts : S.Stretch → Mon
-later_parts s = parts_at s s.later
+-- the tree and the program at a place
+abbrev pub tree_at : Tree Rule → P.Place → Tree Rule
+tree_at whole P.TheVariants.Start = whole
+tree_at whole (P.TheVariants.Behind t m) = tree_of t.now
 
--- what the parts before the later place bind, and what those behind it do, the last first
+abbrev pub parts_at : Mon → P.Place → Mon
+parts_at program P.TheVariants.Start = program
+parts_at program (P.TheVariants.Behind t m) = mon_of m.now.value
+
+-- the names in scope behind so many parts at a place
+abbrev pub behind_place : S.Stretch → P.Place → ℕ → List Binder → List Binder
+behind_place s place n bs = with_passed n (tree_at (tree_in s) place) (parts_at (parts_in s) place) bs
+
+-- what the parts bind before the later places, between them and behind them, the last first
 abbrev pub first_bound : S.Stretch → List Binder
-first_bound s = with_passed s.before (tree_of s.tree.now) (mon_of s.parts.now) []
+first_bound s = with_passed s.before (tree_in s) (parts_in s) []
 
-abbrev pub later_bound : S.Stretch → List Binder
-later_bound s = with_passed s.since (later_tree s) (later_parts s) []
+abbrev pub between_bound : S.Stretch → List Binder
+between_bound s = behind_place s s.middle s.between []
+
+abbrev pub late_bound : S.Stretch → List Binder
+late_bound s = behind_place s s.late s.since []
 
 -- the names in scope behind the parts, as the code finds them
 abbrev pub found_behind : S.Stretch → List Binder → List Binder
-found_behind s bs = marked s.marks (later_bound s) ++ (marked s.marks (first_bound s) ++ bs)
+found_behind s bs = marked s.marks (late_bound s) ++ (marked s.marks (between_bound s) ++ (marked s.marks (first_bound s) ++ bs))
 
 -- the names in scope behind the parts
 abbrev pub behind : S.Stretch → List Binder → List Binder
-behind s bs = with_passed (s.before + s.since) (tree_of s.tree.now) (mon_of s.parts.now) bs
+behind s bs = with_passed (count_in s) (tree_in s) (parts_in s) bs
 
--- all names are marked, and the later place is one of the sequence
+-- behind so many parts of a sequence stand this tree and this program
+abbrev pub LeadsOn : Tree Rule → Mon → ℕ → Tree Rule → Mon → Type 0
+LeadsOn t m n whole program = (k : ℕ) (bs : List Binder) → with_passed k t m (with_passed n whole program bs) ≡ with_passed (n + k) whole program bs
+
+-- all names are marked, and the later places are places of the sequence
 pub record IsKept (s : S.Stretch) : Type 0 where
   pub first : are_marked s.marks (first_bound s) ≡ true
-  pub later : are_marked s.marks (later_bound s) ≡ true
-  pub onward : (k : ℕ) (bs : List Binder) → with_passed k (later_tree s) (later_parts s) (with_passed s.before (tree_of s.tree.now) (mon_of s.parts.now) bs) ≡ with_passed (s.before + k) (tree_of s.tree.now) (mon_of s.parts.now) bs
+  pub between : are_marked s.marks (between_bound s) ≡ true
+  pub late : are_marked s.marks (late_bound s) ≡ true
+  pub to_middle : LeadsOn (tree_at (tree_in s) s.middle) (parts_at (parts_in s) s.middle) s.before (tree_in s) (parts_in s)
+  pub to_late : LeadsOn (tree_at (tree_in s) s.late) (parts_at (parts_in s) s.late) (s.before + s.between) (tree_in s) (parts_in s)
 
 -- behind so many parts of a sequence stands one that binds these names, and behind that the tree and the program
 pub record IsNext (xs : List Name) (js : List Kind) (tree : Tree Rule) (parts : Mon) (n : ℕ) (whole : Tree Rule) (program : Mon) : Type 0 where
   pub bound : (bs : List Binder) → with_passed (n + 1) whole program bs ≡ with_kinds xs js (with_passed n whole program bs)
-  pub onward : (k : ℕ) (bs : List Binder) → with_passed k tree parts (with_passed (n + 1) whole program bs) ≡ with_passed (n + 1 + k) whole program bs
+  pub onward : LeadsOn tree parts (n + 1) whole program

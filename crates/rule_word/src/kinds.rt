@@ -1,6 +1,7 @@
 //! Names in scope with their kinds.
 
-ghost use Rattle.std.specs.Prelude.{◌≡◌, ◌+◌, ℕ, false, List, [], map, string_bytes, IfSome, IfNone, Option, None};
+ghost use Rattle.std.specs.Prelude.{◌≡◌, ◌+◌, ℕ, false, List, [], map, string_bytes};
+ghost use Rattle.std.specs.Prelude.{IfSome, IfNone, Option, None};
 ghost use Rattle.c_values.specs.Name.{Name};
 ghost use Rattle.std.specs.Option.{option_map};
 ghost use Rattle.expression_lang.specs.Sort as plain;
@@ -49,8 +50,8 @@ impl<'a> Kinds<'a> {
     /// The same names, and those of binders in their order.
     pub fn push_all(&'a self, binders: &'a [Binder]) -> Kinds<'a>
         ensures { binders_in result
-            ≡ with_kinds (names_of (map binder_of binders.now)) (kinds_of (map binder_of binders.now))
-            (binders_in self.now) }
+            ≡ with_kinds (names_of (map binder_of binders.now))
+            (kinds_of (map binder_of binders.now)) (binders_in self.now) }
     {
         Kinds::AllOf(self, binders)
     }
@@ -58,7 +59,8 @@ impl<'a> Kinds<'a> {
     /// The same names, and more with a kind for each.
     pub fn push(&'a self, names: &'a [String], kinds: &'a [Kind]) -> Kinds<'a>
         ensures { binders_in result
-            ≡ with_kinds (map string_bytes names.now) (map kind_of kinds.now) (binders_in self.now) }
+            ≡ with_kinds (map string_bytes names.now) (map kind_of kinds.now)
+            (binders_in self.now) }
     {
         Kinds::Named(self, names, kinds)
     }
@@ -66,7 +68,8 @@ impl<'a> Kinds<'a> {
     /// The same names, and those that a loop starts.
     pub fn start(&'a self, starts: &'a [Start], kinds: &'a [Kind]) -> Kinds<'a>
         ensures { binders_in result
-            ≡ with_kinds (start_names (map start_of starts.now)) (map kind_of kinds.now) (binders_in self.now) }
+            ≡ with_kinds (start_names (map start_of starts.now)) (map kind_of kinds.now)
+            (binders_in self.now) }
     {
         Kinds::Started(self, starts, kinds)
     }
@@ -82,7 +85,7 @@ impl<'a> Kinds<'a> {
     }
 
     /// The kind of a name.
-    #[tactic(auto, using(crate::proofs::KindsAmong::name_found, crate::proofs::KindsAmong::name_missed))]
+    #[tactic(auto, using(crate::proofs::KindsAmong::one_name))]
     pub fn get(&self, name: &str) -> Option<Kind>
         ensures { option_map kind_of result ≡ kind_in (binders_in self.now) name.now }
     {
@@ -135,26 +138,28 @@ impl Scope for Kinds<'_> {
     }
 }
 
-// The kind of the last binder of a name, where there is one.
+// The kind of the last binder of a name, where there is one. The last are looked at first: of many
+// binders most that are looked for were bound not long ago.
+#[tactic(auto, using(crate::proofs::KindsAmong::last_name))]
 fn among_binders(binders: &[Binder], name: &str) -> Option<Kind>
     ensures { option_map kind_of result ≡ kind_among (names_of (map binder_of binders.now))
         (kinds_of (map binder_of binders.now)) name.now None }
 {
-    let mut found = None;
     let mut rest = binders;
-    'binders: while let Some((first, others)) = rest.split_first() {
-        if first.name.as_str() == name {
-            found = Some(first.kind);
+    'binders: while let Some((last, others)) = rest.split_last() {
+        if last.name.as_str() == name {
+            return Some(last.kind);
         }
         rest = others;
     }
-    found
+    None
 }
 
 // The same of names with a kind for each; or else this one.
 fn among_names(names: &[String], kinds: &[Kind], name: &str, found: Option<Kind>) -> Option<Kind>
     ensures { option_map kind_of result
-        ≡ kind_among (map string_bytes names.now) (map kind_of kinds.now) name.now (option_map kind_of found) }
+        ≡ kind_among (map string_bytes names.now) (map kind_of kinds.now) name.now
+        (option_map kind_of found) }
 {
     let mut found = found;
     let mut rest = names;
