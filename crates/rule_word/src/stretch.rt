@@ -120,8 +120,8 @@ impl<'a> Stretch<'a> {
 
     // The tree and the program at a place.
     fn at(&self, place: Place<'a>) -> (&'a Tree<Rule>, &'a Mon)
-        ensures tree { tree_of result.0.now ≡ tree_at (tree_in self.now) place }
-        ensures parts { mon_of result.1.now ≡ parts_at (parts_in self.now) place }
+        ensures tree { tree_of result.0.now ≡ tree_at (tree_in self.now) place.entry }
+        ensures parts { mon_of result.1.now ≡ parts_at (parts_in self.now) place.entry }
     {
         match place {
             Place::Start => (self.tree, self.parts),
