@@ -31,7 +31,7 @@ use crate::claims::{
 use crate::exp_instances::is_exp_asked;
 use crate::instances::is_asked;
 use crate::kinds::bound;
-use crate::parts::{behind, first_of};
+use crate::parts::{behind, first_of, named};
 use crate::passed::Passed;
 use crate::ranges::laid_out;
 use crate::rule::{Context, Point, Rule, View};
@@ -684,8 +684,7 @@ fn checked(
         )?;
         if count == u32::MAX {
             let known = facts.pass(Passed::Program(Parts::of(right)), 1);
-            let one = Stretch::first(tree, left, last);
-            let more = names.pass(&one);
+            let more = names.push(named(left), js);
             let there = Point {
                 facts: &known,
                 names: &more,

@@ -129,19 +129,6 @@ impl<'a> Stretch<'a> {
         }
     }
 
-    /// The first part of a sequence, behind which this tree goes along the rest.
-    pub(crate) fn first(tree: &'a Tree<Rule>, program: &'a Mon, last: &'a Tree<Rule>) -> Stretch<'a>
-        requires { (js : List plain.Kind) × IsNext (names_bound (mon_of program.now)) js
-            (tree_of last.now) (behind (mon_of program.now))
-            0 (tree_of tree.now) (mon_of program.now) }
-        ensures kept { IsKept result }
-        ensures count { count_in result ≡ 1 }
-        ensures tree { tree_in result ≡ tree_of tree.now }
-        ensures parts { parts_in result ≡ mon_of program.now }
-    {
-        Stretch::new(tree, program).step(program, last)
-    }
-
     /// The kind of a name that the parts bind, if its mark is kept.
     #[tactic(auto, using(crate::proofs::Stretches::looked_up))]
     pub(crate) fn get(&self, name: &str) -> Option<Kind>

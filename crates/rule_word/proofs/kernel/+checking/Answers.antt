@@ -13,7 +13,7 @@ use Rattle.rule_word.specs.declared.rule.View as V
 use Rattle.rule_word.specs.declared.kernel.Front as F
 use Rattle.rule_word.specs.declared.passed.Passed as Q
 use Rattle.rule_word.specs.Rule.{Point, expression, program}
-use Rattle.rule_word.specs.Scopes.{own}
+use Rattle.rule_word.specs.Scopes.{own, with_kinds}
 use Rattle.rule_word.specs.Table.{program_row}
 use Rattle.rule_word.specs.CodeFits.{Fits, AllFit, ClaimFits, FitInTurn}
 use Rattle.rule_word.specs.CodeNames.{with_passed, are_binders}
@@ -30,7 +30,7 @@ use Rattle.rule_word.proofs.Paired as paired
 use Rattle.rule_word.proofs.Along as along
 use Rattle.rule_word.proofs.Steps as steps
 use Rattle.rule_word.proofs.KindsStay.{inside_stay}
-use Rattle.rule_word.proofs.Sequences.{FactsLeft, NamesLeft, no_facts_passed, no_names_passed, one_fact_passed, more_facts_passed}
+use Rattle.rule_word.proofs.Sequences.{FactsLeft, NamesLeft, one_fact_passed, more_facts_passed}
 use Rattle.rule_word.proofs.SteppedOn.{names_there, on_from, next_from, next_is}
 use Rattle.rule_word.proofs.kernel.+checking.Goals as goal
 
@@ -270,8 +270,8 @@ checked-checked-requires-then-count t c =
     let items : walked.parts_at c.along.tree.now ≡ c.in-Some-both.first.now ∷ c.in-Some-both.last.now ∷ [] = search rules in (
       subst (λ n. 8 * nodes (tree_of c.in-Some-both.last.now) + 2 < n) c.decreases (along.below_by _ _ _ 2 2 (along.two_less c.along.tree.now c.in-Some-both.first.now c.in-Some-both.last.now items).1 c.along.invariant.smaller (omega arith)),
       (
-        subst (λ p. ClaimFits (context_in c.args.context.now) (program p (mon_of c.behind.result.now) (behind (mon_of c.along.right.now)) (map kind_of c.args.kinds.now))) (sym (ap₂ (λ fs bs. record { facts = fs; names = bs }) (c.pass-known.ensures.facts ∙ ap₂ (λ ps gs. passed 1 ps gs) c.of-then-count.ensures c.pass-facts.ensures.facts ∙ c.along.invariant.facts.left 1 (point_in c.args.point).facts) ((c.pass-more.ensures ∙ names_there c.first-one.result 1 (tree_of c.along.tree.now) (mon_of c.along.left.now) (record { count = c.first-one.ensures.count; tree = c.first-one.ensures.tree; parts = c.first-one.ensures.parts }) (binders_in c.pass-names.result)) ∙ ap (λ bs. with_passed 1 (tree_of c.along.tree.now) (mon_of c.along.left.now) bs) (c.pass-names.ensures ∙ names_there c.along.stretch c.along.count (tree_of c.args.tree.now) (mon_of c.args.left.now) c.along.invariant.stands (binders_in c.args.point.names.now)) ∙ c.along.invariant.names.left 1 (point_in c.args.point).names))) (subst (λ m. ClaimFits (context_in c.args.context.now) (program (record { facts = passed (c.along.count + 1) (sequence (Q.TheVariants.Program c.of.result)) (point_in c.args.point).facts; names = with_passed (c.along.count + 1) (tree_of c.args.tree.now) (mon_of c.args.left.now) (point_in c.args.point).names }) m (behind (mon_of c.along.right.now)) (map kind_of c.args.kinds.now))) (sym c.behind.ensures) (along.behind_fits (context_in c.args.context.now) c.along.tree.now c.in-Some-both.first.now c.in-Some-both.last.now items (point_in c.args.point) c.along.count (sequence (Q.TheVariants.Program c.of.result)) (tree_of c.args.tree.now) (mon_of c.args.left.now) (map kind_of c.in-Some.js.now) (map kind_of c.args.kinds.now) (mon_of c.along.left.now) (mon_of c.along.right.now) c.in-Some.ensures.some c.along.invariant.facts c.along.invariant.names c.along.invariant.fits (subst (λ p. (program_row (context_in c.args.context.now) p (rule_at c.along.tree.now) (mon_of c.along.left.now) (mon_of c.along.right.now) (map kind_of c.args.kinds.now)).holds) (ap₂ (λ fs bs. record { facts = fs; names = bs }) c.pass-facts.ensures.facts (c.pass-names.ensures ∙ names_there c.along.stretch c.along.count (tree_of c.args.tree.now) (mon_of c.args.left.now) c.along.invariant.stands (binders_in c.args.point.names.now))) (c.is_asked.ensures.0 c.if-not-is_asked.false)) c.next.result c.in_ok-at.at (subst (λ p. Checked (table_at c.args.context.now) (tree_of c.in-Some-both.first.now) (program p (first_of (mon_of c.along.left.now)) (first_of (mon_of c.along.right.now)) (map kind_of c.in-Some.js.now)) c.next.result (Ok c.in_ok-at.at)) (ap₂ (λ fs bs. record { facts = fs; names = bs }) c.pass-facts.ensures.facts (c.pass-names.ensures ∙ names_there c.along.stretch c.along.count (tree_of c.args.tree.now) (mon_of c.args.left.now) c.along.invariant.stands (binders_in c.args.point.names.now))) (subst (λ m. Checked (table_at c.args.context.now) (tree_of c.in-Some-both.first.now) (program (record { facts = known_in c.pass-facts.result; names = binders_in c.pass-names.result }) m (first_of (mon_of c.along.right.now)) (map kind_of c.in-Some.js.now)) c.next.result (Ok c.in_ok-at.at)) c.first_of.ensures (subst (λ m. Checked (table_at c.args.context.now) (tree_of c.in-Some-both.first.now) (program (record { facts = known_in c.pass-facts.result; names = binders_in c.pass-names.result }) (mon_of c.first_of.result.now) m (map kind_of c.in-Some.js.now)) c.next.result (Ok c.in_ok-at.at)) c.first_of-in-along.ensures (subst (λ r. Checked (table_at c.args.context.now) (tree_of c.in-Some-both.first.now) (program (record { facts = known_in c.pass-facts.result; names = binders_in c.pass-names.result }) (mon_of c.first_of.result.now) (mon_of c.first_of-in-along.result.now) (map kind_of c.in-Some.js.now)) c.next.result r) c.in_ok-at.was c.checked.ensures)))))),
-        (subst (λ (p : Point). are_binders p.names ≡ true) (sym (ap₂ (λ fs bs. record { facts = fs; names = bs }) (c.pass-known.ensures.facts ∙ ap₂ (λ ps gs. passed 1 ps gs) c.of-then-count.ensures c.pass-facts.ensures.facts ∙ c.along.invariant.facts.left 1 (point_in c.args.point).facts) ((c.pass-more.ensures ∙ names_there c.first-one.result 1 (tree_of c.along.tree.now) (mon_of c.along.left.now) (record { count = c.first-one.ensures.count; tree = c.first-one.ensures.tree; parts = c.first-one.ensures.parts }) (binders_in c.pass-names.result)) ∙ ap (λ bs. with_passed 1 (tree_of c.along.tree.now) (mon_of c.along.left.now) bs) (c.pass-names.ensures ∙ names_there c.along.stretch c.along.count (tree_of c.args.tree.now) (mon_of c.args.left.now) c.along.invariant.stands (binders_in c.args.point.names.now)) ∙ c.along.invariant.names.left 1 (point_in c.args.point).names))) (along.behind_kinds (context_in c.args.context.now) c.along.tree.now c.in-Some-both.first.now c.in-Some-both.last.now items (point_in c.args.point) c.along.count (sequence (Q.TheVariants.Program c.of.result)) (tree_of c.args.tree.now) (mon_of c.args.left.now) (map kind_of c.in-Some.js.now) (map kind_of c.args.kinds.now) (mon_of c.along.left.now) (mon_of c.along.right.now) c.in-Some.ensures.some c.along.invariant.facts c.along.invariant.names c.along.invariant.fits (subst (λ p. (program_row (context_in c.args.context.now) p (rule_at c.along.tree.now) (mon_of c.along.left.now) (mon_of c.along.right.now) (map kind_of c.args.kinds.now)).holds) (ap₂ (λ fs bs. record { facts = fs; names = bs }) c.pass-facts.ensures.facts (c.pass-names.ensures ∙ names_there c.along.stretch c.along.count (tree_of c.args.tree.now) (mon_of c.args.left.now) c.along.invariant.stands (binders_in c.args.point.names.now))) (c.is_asked.ensures.0 c.if-not-is_asked.false)) c.laid_out.ensures c.requires.results c.along.invariant.kinds c.next.result c.in_ok-at.at (subst (λ p. Checked (table_at c.args.context.now) (tree_of c.in-Some-both.first.now) (program p (first_of (mon_of c.along.left.now)) (first_of (mon_of c.along.right.now)) (map kind_of c.in-Some.js.now)) c.next.result (Ok c.in_ok-at.at)) (ap₂ (λ fs bs. record { facts = fs; names = bs }) c.pass-facts.ensures.facts (c.pass-names.ensures ∙ names_there c.along.stretch c.along.count (tree_of c.args.tree.now) (mon_of c.args.left.now) c.along.invariant.stands (binders_in c.args.point.names.now))) (subst (λ m. Checked (table_at c.args.context.now) (tree_of c.in-Some-both.first.now) (program (record { facts = known_in c.pass-facts.result; names = binders_in c.pass-names.result }) m (first_of (mon_of c.along.right.now)) (map kind_of c.in-Some.js.now)) c.next.result (Ok c.in_ok-at.at)) c.first_of.ensures (subst (λ m. Checked (table_at c.args.context.now) (tree_of c.in-Some-both.first.now) (program (record { facts = known_in c.pass-facts.result; names = binders_in c.pass-names.result }) (mon_of c.first_of.result.now) m (map kind_of c.in-Some.js.now)) c.next.result (Ok c.in_ok-at.at)) c.first_of-in-along.ensures (subst (λ r. Checked (table_at c.args.context.now) (tree_of c.in-Some-both.first.now) (program (record { facts = known_in c.pass-facts.result; names = binders_in c.pass-names.result }) (mon_of c.first_of.result.now) (mon_of c.first_of-in-along.result.now) (map kind_of c.in-Some.js.now)) c.next.result r) c.in_ok-at.was c.checked.ensures))))), c.requires.results),
+        subst (λ p. ClaimFits (context_in c.args.context.now) (program p (mon_of c.behind.result.now) (behind (mon_of c.along.right.now)) (map kind_of c.args.kinds.now))) (sym (ap₂ (λ fs bs. record { facts = fs; names = bs }) (c.pass-known.ensures.facts ∙ ap₂ (λ ps gs. passed 1 ps gs) c.of-then-count.ensures c.pass-facts.ensures.facts ∙ c.along.invariant.facts.left 1 (point_in c.args.point).facts) (c.push-more.ensures ∙ ap (λ xs. with_kinds xs (map kind_of c.in-Some.js.now) (binders_in c.pass-names.result)) c.named.ensures ∙ ap (λ bs. with_kinds (names_bound (mon_of c.along.left.now)) (map kind_of c.in-Some.js.now) bs) (c.pass-names.ensures ∙ names_there c.along.stretch c.along.count (tree_of c.args.tree.now) (mon_of c.args.left.now) c.along.invariant.stands (binders_in c.args.point.names.now)) ∙ along.step_binds (context_in c.args.context.now) c.along.tree.now c.in-Some-both.first.now c.in-Some-both.last.now items (point_in c.args.point) c.along.count (sequence (Q.TheVariants.Program c.of.result)) (tree_of c.args.tree.now) (mon_of c.args.left.now) (map kind_of c.in-Some.js.now) (map kind_of c.args.kinds.now) (mon_of c.along.left.now) (mon_of c.along.right.now) c.in-Some.ensures.some c.along.invariant.facts c.along.invariant.names c.along.invariant.fits (subst (λ p. (program_row (context_in c.args.context.now) p (rule_at c.along.tree.now) (mon_of c.along.left.now) (mon_of c.along.right.now) (map kind_of c.args.kinds.now)).holds) (ap₂ (λ fs bs. record { facts = fs; names = bs }) c.pass-facts.ensures.facts (c.pass-names.ensures ∙ names_there c.along.stretch c.along.count (tree_of c.args.tree.now) (mon_of c.args.left.now) c.along.invariant.stands (binders_in c.args.point.names.now))) (c.is_asked.ensures.0 c.if-not-is_asked.false)) (point_in c.args.point).names))) (subst (λ m. ClaimFits (context_in c.args.context.now) (program (record { facts = passed (c.along.count + 1) (sequence (Q.TheVariants.Program c.of.result)) (point_in c.args.point).facts; names = with_passed (c.along.count + 1) (tree_of c.args.tree.now) (mon_of c.args.left.now) (point_in c.args.point).names }) m (behind (mon_of c.along.right.now)) (map kind_of c.args.kinds.now))) (sym c.behind.ensures) (along.behind_fits (context_in c.args.context.now) c.along.tree.now c.in-Some-both.first.now c.in-Some-both.last.now items (point_in c.args.point) c.along.count (sequence (Q.TheVariants.Program c.of.result)) (tree_of c.args.tree.now) (mon_of c.args.left.now) (map kind_of c.in-Some.js.now) (map kind_of c.args.kinds.now) (mon_of c.along.left.now) (mon_of c.along.right.now) c.in-Some.ensures.some c.along.invariant.facts c.along.invariant.names c.along.invariant.fits (subst (λ p. (program_row (context_in c.args.context.now) p (rule_at c.along.tree.now) (mon_of c.along.left.now) (mon_of c.along.right.now) (map kind_of c.args.kinds.now)).holds) (ap₂ (λ fs bs. record { facts = fs; names = bs }) c.pass-facts.ensures.facts (c.pass-names.ensures ∙ names_there c.along.stretch c.along.count (tree_of c.args.tree.now) (mon_of c.args.left.now) c.along.invariant.stands (binders_in c.args.point.names.now))) (c.is_asked.ensures.0 c.if-not-is_asked.false)) c.next.result c.in_ok-at.at (subst (λ p. Checked (table_at c.args.context.now) (tree_of c.in-Some-both.first.now) (program p (first_of (mon_of c.along.left.now)) (first_of (mon_of c.along.right.now)) (map kind_of c.in-Some.js.now)) c.next.result (Ok c.in_ok-at.at)) (ap₂ (λ fs bs. record { facts = fs; names = bs }) c.pass-facts.ensures.facts (c.pass-names.ensures ∙ names_there c.along.stretch c.along.count (tree_of c.args.tree.now) (mon_of c.args.left.now) c.along.invariant.stands (binders_in c.args.point.names.now))) (subst (λ m. Checked (table_at c.args.context.now) (tree_of c.in-Some-both.first.now) (program (record { facts = known_in c.pass-facts.result; names = binders_in c.pass-names.result }) m (first_of (mon_of c.along.right.now)) (map kind_of c.in-Some.js.now)) c.next.result (Ok c.in_ok-at.at)) c.first_of.ensures (subst (λ m. Checked (table_at c.args.context.now) (tree_of c.in-Some-both.first.now) (program (record { facts = known_in c.pass-facts.result; names = binders_in c.pass-names.result }) (mon_of c.first_of.result.now) m (map kind_of c.in-Some.js.now)) c.next.result (Ok c.in_ok-at.at)) c.first_of-in-along.ensures (subst (λ r. Checked (table_at c.args.context.now) (tree_of c.in-Some-both.first.now) (program (record { facts = known_in c.pass-facts.result; names = binders_in c.pass-names.result }) (mon_of c.first_of.result.now) (mon_of c.first_of-in-along.result.now) (map kind_of c.in-Some.js.now)) c.next.result r) c.in_ok-at.was c.checked.ensures)))))),
+        (subst (λ (p : Point). are_binders p.names ≡ true) (sym (ap₂ (λ fs bs. record { facts = fs; names = bs }) (c.pass-known.ensures.facts ∙ ap₂ (λ ps gs. passed 1 ps gs) c.of-then-count.ensures c.pass-facts.ensures.facts ∙ c.along.invariant.facts.left 1 (point_in c.args.point).facts) (c.push-more.ensures ∙ ap (λ xs. with_kinds xs (map kind_of c.in-Some.js.now) (binders_in c.pass-names.result)) c.named.ensures ∙ ap (λ bs. with_kinds (names_bound (mon_of c.along.left.now)) (map kind_of c.in-Some.js.now) bs) (c.pass-names.ensures ∙ names_there c.along.stretch c.along.count (tree_of c.args.tree.now) (mon_of c.args.left.now) c.along.invariant.stands (binders_in c.args.point.names.now)) ∙ along.step_binds (context_in c.args.context.now) c.along.tree.now c.in-Some-both.first.now c.in-Some-both.last.now items (point_in c.args.point) c.along.count (sequence (Q.TheVariants.Program c.of.result)) (tree_of c.args.tree.now) (mon_of c.args.left.now) (map kind_of c.in-Some.js.now) (map kind_of c.args.kinds.now) (mon_of c.along.left.now) (mon_of c.along.right.now) c.in-Some.ensures.some c.along.invariant.facts c.along.invariant.names c.along.invariant.fits (subst (λ p. (program_row (context_in c.args.context.now) p (rule_at c.along.tree.now) (mon_of c.along.left.now) (mon_of c.along.right.now) (map kind_of c.args.kinds.now)).holds) (ap₂ (λ fs bs. record { facts = fs; names = bs }) c.pass-facts.ensures.facts (c.pass-names.ensures ∙ names_there c.along.stretch c.along.count (tree_of c.args.tree.now) (mon_of c.args.left.now) c.along.invariant.stands (binders_in c.args.point.names.now))) (c.is_asked.ensures.0 c.if-not-is_asked.false)) (point_in c.args.point).names))) (along.behind_kinds (context_in c.args.context.now) c.along.tree.now c.in-Some-both.first.now c.in-Some-both.last.now items (point_in c.args.point) c.along.count (sequence (Q.TheVariants.Program c.of.result)) (tree_of c.args.tree.now) (mon_of c.args.left.now) (map kind_of c.in-Some.js.now) (map kind_of c.args.kinds.now) (mon_of c.along.left.now) (mon_of c.along.right.now) c.in-Some.ensures.some c.along.invariant.facts c.along.invariant.names c.along.invariant.fits (subst (λ p. (program_row (context_in c.args.context.now) p (rule_at c.along.tree.now) (mon_of c.along.left.now) (mon_of c.along.right.now) (map kind_of c.args.kinds.now)).holds) (ap₂ (λ fs bs. record { facts = fs; names = bs }) c.pass-facts.ensures.facts (c.pass-names.ensures ∙ names_there c.along.stretch c.along.count (tree_of c.args.tree.now) (mon_of c.args.left.now) c.along.invariant.stands (binders_in c.args.point.names.now))) (c.is_asked.ensures.0 c.if-not-is_asked.false)) c.laid_out.ensures c.requires.results c.along.invariant.kinds c.next.result c.in_ok-at.at (subst (λ p. Checked (table_at c.args.context.now) (tree_of c.in-Some-both.first.now) (program p (first_of (mon_of c.along.left.now)) (first_of (mon_of c.along.right.now)) (map kind_of c.in-Some.js.now)) c.next.result (Ok c.in_ok-at.at)) (ap₂ (λ fs bs. record { facts = fs; names = bs }) c.pass-facts.ensures.facts (c.pass-names.ensures ∙ names_there c.along.stretch c.along.count (tree_of c.args.tree.now) (mon_of c.args.left.now) c.along.invariant.stands (binders_in c.args.point.names.now))) (subst (λ m. Checked (table_at c.args.context.now) (tree_of c.in-Some-both.first.now) (program (record { facts = known_in c.pass-facts.result; names = binders_in c.pass-names.result }) m (first_of (mon_of c.along.right.now)) (map kind_of c.in-Some.js.now)) c.next.result (Ok c.in_ok-at.at)) c.first_of.ensures (subst (λ m. Checked (table_at c.args.context.now) (tree_of c.in-Some-both.first.now) (program (record { facts = known_in c.pass-facts.result; names = binders_in c.pass-names.result }) (mon_of c.first_of.result.now) m (map kind_of c.in-Some.js.now)) c.next.result (Ok c.in_ok-at.at)) c.first_of-in-along.ensures (subst (λ r. Checked (table_at c.args.context.now) (tree_of c.in-Some-both.first.now) (program (record { facts = known_in c.pass-facts.result; names = binders_in c.pass-names.result }) (mon_of c.first_of.result.now) (mon_of c.first_of-in-along.result.now) (map kind_of c.in-Some.js.now)) c.next.result r) c.in_ok-at.was c.checked.ensures))))), c.requires.results),
       ),
     )
 
@@ -279,18 +279,9 @@ pub checked-returns-then-count : goal.checked-returns-then-count
 checked-returns-then-count t c =
     let items : walked.parts_at c.along.tree.now ≡ c.in-Some-both.first.now ∷ c.in-Some-both.last.now ∷ [] = search rules in
     c.along.invariant.decides c.checked-then-count.result (along.step_onward (context_in c.args.context.now) c.along.tree.now c.in-Some-both.first.now c.in-Some-both.last.now items (point_in c.args.point) c.along.count (sequence (Q.TheVariants.Program c.of.result)) (tree_of c.args.tree.now) (mon_of c.args.left.now) (map kind_of c.in-Some.js.now) (map kind_of c.args.kinds.now) (mon_of c.along.left.now) (mon_of c.along.right.now) c.in-Some.ensures.some c.along.invariant.facts c.along.invariant.names c.along.invariant.fits (subst (λ p. (program_row (context_in c.args.context.now) p (rule_at c.along.tree.now) (mon_of c.along.left.now) (mon_of c.along.right.now) (map kind_of c.args.kinds.now)).holds) (ap₂ (λ fs bs. record { facts = fs; names = bs }) c.pass-facts.ensures.facts (c.pass-names.ensures ∙ names_there c.along.stretch c.along.count (tree_of c.args.tree.now) (mon_of c.args.left.now) c.along.invariant.stands (binders_in c.args.point.names.now))) (c.is_asked.ensures.0 c.if-not-is_asked.false)) c.along.at c.next.result c.in_ok-at.at c.next.ensures (subst (λ p. Checked (table_at c.args.context.now) (tree_of c.in-Some-both.first.now) (program p (first_of (mon_of c.along.left.now)) (first_of (mon_of c.along.right.now)) (map kind_of c.in-Some.js.now)) c.next.result (Ok c.in_ok-at.at)) (ap₂ (λ fs bs. record { facts = fs; names = bs }) c.pass-facts.ensures.facts (c.pass-names.ensures ∙ names_there c.along.stretch c.along.count (tree_of c.args.tree.now) (mon_of c.args.left.now) c.along.invariant.stands (binders_in c.args.point.names.now))) (subst (λ m. Checked (table_at c.args.context.now) (tree_of c.in-Some-both.first.now) (program (record { facts = known_in c.pass-facts.result; names = binders_in c.pass-names.result }) m (first_of (mon_of c.along.right.now)) (map kind_of c.in-Some.js.now)) c.next.result (Ok c.in_ok-at.at)) c.first_of.ensures (subst (λ m. Checked (table_at c.args.context.now) (tree_of c.in-Some-both.first.now) (program (record { facts = known_in c.pass-facts.result; names = binders_in c.pass-names.result }) (mon_of c.first_of.result.now) m (map kind_of c.in-Some.js.now)) c.next.result (Ok c.in_ok-at.at)) c.first_of-in-along.ensures (subst (λ r. Checked (table_at c.args.context.now) (tree_of c.in-Some-both.first.now) (program (record { facts = known_in c.pass-facts.result; names = binders_in c.pass-names.result }) (mon_of c.first_of.result.now) (mon_of c.first_of-in-along.result.now) (map kind_of c.in-Some.js.now)) c.next.result r) c.in_ok-at.was c.checked.ensures)))) c.checked-then-count.result
-    (subst (λ p. Checked (table_at c.args.context.now) (tree_of c.in-Some-both.last.now) (program p (behind (mon_of c.along.left.now)) (behind (mon_of c.along.right.now)) (map kind_of c.args.kinds.now)) c.in_ok-at.at c.checked-then-count.result) (ap₂ (λ fs bs. record { facts = fs; names = bs }) (c.pass-known.ensures.facts ∙ ap₂ (λ ps gs. passed 1 ps gs) c.of-then-count.ensures c.pass-facts.ensures.facts ∙ c.along.invariant.facts.left 1 (point_in c.args.point).facts) ((c.pass-more.ensures ∙ names_there c.first-one.result 1 (tree_of c.along.tree.now) (mon_of c.along.left.now) (record { count = c.first-one.ensures.count; tree = c.first-one.ensures.tree; parts = c.first-one.ensures.parts }) (binders_in c.pass-names.result)) ∙ ap (λ bs. with_passed 1 (tree_of c.along.tree.now) (mon_of c.along.left.now) bs) (c.pass-names.ensures ∙ names_there c.along.stretch c.along.count (tree_of c.args.tree.now) (mon_of c.args.left.now) c.along.invariant.stands (binders_in c.args.point.names.now)) ∙ c.along.invariant.names.left 1 (point_in c.args.point).names))
-    (subst (λ m. Checked (table_at c.args.context.now) (tree_of c.in-Some-both.last.now) (program (record { facts = known_in c.pass-known.result; names = binders_in c.pass-more.result }) m (behind (mon_of c.along.right.now)) (map kind_of c.args.kinds.now)) c.in_ok-at.at c.checked-then-count.result) c.behind.ensures
-    (subst (λ m. Checked (table_at c.args.context.now) (tree_of c.in-Some-both.last.now) (program (record { facts = known_in c.pass-known.result; names = binders_in c.pass-more.result }) (mon_of c.behind.result.now) m (map kind_of c.args.kinds.now)) c.in_ok-at.at c.checked-then-count.result) c.behind-then-count.ensures c.checked-then-count.ensures))))
-
-pub checked-first-one-requires : goal.checked-first-one-requires
-checked-first-one-requires t c =
-    let items : walked.parts_at c.along.tree.now ≡ c.in-Some-both.first.now ∷ c.in-Some-both.last.now ∷ [] = search rules in (
-      (map kind_of c.in-Some.js.now),
-      next_is 0 (tree_of c.along.tree.now) (mon_of c.along.left.now) (names_bound (mon_of c.along.left.now)) (map kind_of c.in-Some.js.now) (tree_of c.in-Some-both.last.now) (behind (mon_of c.along.left.now))
-          (along.step_binds (context_in c.args.context.now) c.along.tree.now c.in-Some-both.first.now c.in-Some-both.last.now items (record { facts = passed c.along.count (sequence (Q.TheVariants.Program c.of.result)) (point_in c.args.point).facts; names = with_passed c.along.count (tree_of c.args.tree.now) (mon_of c.args.left.now) (point_in c.args.point).names }) 0 (parts (mon_of c.along.right.now)) (tree_of c.along.tree.now) (mon_of c.along.left.now) (map kind_of c.in-Some.js.now) (map kind_of c.args.kinds.now) (mon_of c.along.left.now) (mon_of c.along.right.now) c.in-Some.ensures.some (no_facts_passed (parts (mon_of c.along.right.now))) (no_names_passed (tree_of c.along.tree.now) (mon_of c.along.left.now)) c.along.invariant.fits (subst (λ p. (program_row (context_in c.args.context.now) p (rule_at c.along.tree.now) (mon_of c.along.left.now) (mon_of c.along.right.now) (map kind_of c.args.kinds.now)).holds) (ap₂ (λ fs bs. record { facts = fs; names = bs }) c.pass-facts.ensures.facts (c.pass-names.ensures ∙ names_there c.along.stretch c.along.count (tree_of c.args.tree.now) (mon_of c.args.left.now) c.along.invariant.stands (binders_in c.args.point.names.now))) (c.is_asked.ensures.0 c.if-not-is_asked.false)))
-          (along.behind_names (context_in c.args.context.now) c.along.tree.now c.in-Some-both.first.now c.in-Some-both.last.now items (record { facts = passed c.along.count (sequence (Q.TheVariants.Program c.of.result)) (point_in c.args.point).facts; names = with_passed c.along.count (tree_of c.args.tree.now) (mon_of c.args.left.now) (point_in c.args.point).names }) 0 (parts (mon_of c.along.right.now)) (tree_of c.along.tree.now) (mon_of c.along.left.now) (map kind_of c.in-Some.js.now) (map kind_of c.args.kinds.now) (mon_of c.along.left.now) (mon_of c.along.right.now) c.in-Some.ensures.some (no_facts_passed (parts (mon_of c.along.right.now))) (no_names_passed (tree_of c.along.tree.now) (mon_of c.along.left.now)) c.along.invariant.fits (subst (λ p. (program_row (context_in c.args.context.now) p (rule_at c.along.tree.now) (mon_of c.along.left.now) (mon_of c.along.right.now) (map kind_of c.args.kinds.now)).holds) (ap₂ (λ fs bs. record { facts = fs; names = bs }) c.pass-facts.ensures.facts (c.pass-names.ensures ∙ names_there c.along.stretch c.along.count (tree_of c.args.tree.now) (mon_of c.args.left.now) c.along.invariant.stands (binders_in c.args.point.names.now))) (c.is_asked.ensures.0 c.if-not-is_asked.false))),
-    )
+    (subst (λ p. Checked (table_at c.args.context.now) (tree_of c.in-Some-both.last.now) (program p (behind (mon_of c.along.left.now)) (behind (mon_of c.along.right.now)) (map kind_of c.args.kinds.now)) c.in_ok-at.at c.checked-then-count.result) (ap₂ (λ fs bs. record { facts = fs; names = bs }) (c.pass-known.ensures.facts ∙ ap₂ (λ ps gs. passed 1 ps gs) c.of-then-count.ensures c.pass-facts.ensures.facts ∙ c.along.invariant.facts.left 1 (point_in c.args.point).facts) (c.push-more.ensures ∙ ap (λ xs. with_kinds xs (map kind_of c.in-Some.js.now) (binders_in c.pass-names.result)) c.named.ensures ∙ ap (λ bs. with_kinds (names_bound (mon_of c.along.left.now)) (map kind_of c.in-Some.js.now) bs) (c.pass-names.ensures ∙ names_there c.along.stretch c.along.count (tree_of c.args.tree.now) (mon_of c.args.left.now) c.along.invariant.stands (binders_in c.args.point.names.now)) ∙ along.step_binds (context_in c.args.context.now) c.along.tree.now c.in-Some-both.first.now c.in-Some-both.last.now items (point_in c.args.point) c.along.count (sequence (Q.TheVariants.Program c.of.result)) (tree_of c.args.tree.now) (mon_of c.args.left.now) (map kind_of c.in-Some.js.now) (map kind_of c.args.kinds.now) (mon_of c.along.left.now) (mon_of c.along.right.now) c.in-Some.ensures.some c.along.invariant.facts c.along.invariant.names c.along.invariant.fits (subst (λ p. (program_row (context_in c.args.context.now) p (rule_at c.along.tree.now) (mon_of c.along.left.now) (mon_of c.along.right.now) (map kind_of c.args.kinds.now)).holds) (ap₂ (λ fs bs. record { facts = fs; names = bs }) c.pass-facts.ensures.facts (c.pass-names.ensures ∙ names_there c.along.stretch c.along.count (tree_of c.args.tree.now) (mon_of c.args.left.now) c.along.invariant.stands (binders_in c.args.point.names.now))) (c.is_asked.ensures.0 c.if-not-is_asked.false)) (point_in c.args.point).names))
+    (subst (λ m. Checked (table_at c.args.context.now) (tree_of c.in-Some-both.last.now) (program (record { facts = known_in c.pass-known.result; names = binders_in c.push-more.result }) m (behind (mon_of c.along.right.now)) (map kind_of c.args.kinds.now)) c.in_ok-at.at c.checked-then-count.result) c.behind.ensures
+    (subst (λ m. Checked (table_at c.args.context.now) (tree_of c.in-Some-both.last.now) (program (record { facts = known_in c.pass-known.result; names = binders_in c.push-more.result }) (mon_of c.behind.result.now) m (map kind_of c.args.kinds.now)) c.in_ok-at.at c.checked-then-count.result) c.behind-then-count.ensures c.checked-then-count.ensures))))
 
 pub checked-step-stretch-requires-clause-next : goal.checked-step-stretch-requires-clause-next
 checked-step-stretch-requires-clause-next t c =
