@@ -1,4 +1,4 @@
--- The class of typed texts that are shown: no globals, and at most one function, whose result and parameters are unsigned ints,
+-- The class of typed texts that are shown by tidy programs: no globals, and at most one function, whose result and parameters are unsigned ints,
 -- which has no locals, and whose body returns a sum of the parameters, of constants of type unsigned int, and of constants of
 -- type int that are converted to it (C99 6.5.6, 6.9.1). The target is ILP32.
 use Rattle.std.specs.Prelude.{Bool, true, false, not, ◌&&◌, List, [], ◌∷◌, Option, Some, None, if◌then◌else◌}

@@ -1,5 +1,5 @@
-//! Which typed texts are shown: those without globals that have at most one function, which returns
-//! a sum of its unsigned parameters and of constants.
+//! Which typed texts are shown by tidy programs: those without globals that have at most one function,
+//! which returns a sum of its unsigned parameters and of constants.
 
 ghost use Rattle.std.specs.Prelude.{◌≡◌, map, IfOk, option_map, string_bytes};
 ghost use Rattle.c_values.specs.CodeTypes.{target_of, type_of};
@@ -13,7 +13,7 @@ use c_lang::tree::{Arithmetic, Expr, Statement, Statements, TypedFn, TypedUnit, 
 use c_values::{CType, IntType, Target};
 use std::alloc::{AllocError, Global};
 
-/// The functions of a text that is shown, and `None` for any other text.
+/// The functions of a text of the class, and `None` for any other text.
 pub(crate) fn class_of(
     alloc: Global,
     unit: &TypedUnit,
