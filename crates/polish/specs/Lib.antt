@@ -2,6 +2,5 @@ pub mod Rewritten
 pub mod Known
 pub mod Shortened
 pub mod Polished
-pub mod Balanced
 pub mod Translation
 pub mod Climbed
