@@ -1,9 +1,15 @@
 -- One part more, or none.
-use Rattle.std.proofs.Common.{◌≡◌, ◌↔◌, ◌⊎◌, inl, inr, ℕ, zero, suc, ◌-◌, ◌<◌, true, false, ◌&&◌, List, [], ◌∷◌, refl, sym, subst, ap, ◌∙◌, arith}
+use Rattle.std.proofs.Common.{◌≡◌, ◌↔◌, ◌⊎◌, inl, inr, ℕ, zero, suc, ◌-◌, ◌<◌, Bool, true, false, ◌&&◌, List, [], ◌∷◌, refl, sym, subst, ap, ◌∙◌, arith}
 use Rattle.expression_lang.specs.Expression.{Exp}
 use Rattle.ac_expr.specs.Passed.{Part}
 use Rattle.ac_expr.specs.Lasting.{lasts_part, lasts_passed}
 use Rattle.ac_expr.specs.Guarded.{GuardHas, Kept, SomeGuard}
+
+pub both_ways : (a b : Bool) → (b && a) ≡ (a && b)
+both_ways true true = refl
+both_ways true false = refl
+both_ways false true = refl
+both_ways false false = refl
 
 pub through_none : (n : ℕ) (ps : List Part) (e : Exp) → ps ≡ [] → lasts_passed n ps e ≡ true
 through_none n ps e h = subst (λ qs. lasts_passed n qs e ≡ true) (sym h) (none n)

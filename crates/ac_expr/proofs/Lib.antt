@@ -2,6 +2,7 @@ pub mod GivesLaws
 pub mod KnownHolds
 pub mod LastingFacts
 pub mod LastingParts
+pub mod FirstSides
 pub mod SameValues
 pub mod GivenFacts
 pub mod HeadsAgree

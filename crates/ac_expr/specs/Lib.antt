@@ -5,6 +5,7 @@ pub mod Lasting
 pub mod Guarded
 pub mod Known
 pub mod CodeFacts
+pub mod CodeFirstSides
 pub mod CodeChain
 pub mod CodeLasting
 pub mod Heads

@@ -8,6 +8,7 @@ ghost use Rattle.ac_expr.specs.Known.{GivesAtOnce};
 ghost use Rattle.ac_expr.specs.CodeFacts.{fact_of};
 
 use crate::facts::Fact;
+use crate::first_sides::is_same;
 use c_values::{Number, same_number};
 use expression_lang::{Exp, equal_types};
 
@@ -26,31 +27,31 @@ pub(crate) fn is_claimed(e: &Exp, claim: &Fact<'_>) -> bool
     ensures { IsTrue result ↔ (stands_for (fact_of claim.now) ≡ exp_of e.now) }
 {
     match claim {
-        Fact::Whole(whole) => whole.same(e),
+        Fact::Whole(whole) => is_same(whole, e),
         Fact::Not(inner) => match e {
-            Exp::Not(own) => inner.same(own),
+            Exp::Not(own) => is_same(inner, own),
             _ => false,
         },
         Fact::Tagged(t, p) => match e {
-            Exp::Tagged(u, q) => equal_types(t, u) && p.same(q),
+            Exp::Tagged(u, q) => equal_types(t, u) && is_same(p, q),
             _ => false,
         },
         Fact::Between(low, x, high) => match e {
             Exp::Between(least, y, greatest) => {
-                same_number(*low, *least) && same_number(*high, *greatest) && x.same(y)
+                same_number(*low, *least) && same_number(*high, *greatest) && is_same(x, y)
             }
             _ => false,
         },
         Fact::AtLeast(x, low) => match e {
-            Exp::Le(a, b) => is_numeral(a, *low) && x.same(b),
+            Exp::Le(a, b) => is_numeral(a, *low) && is_same(x, b),
             _ => false,
         },
         Fact::AtMost(x, high) => match e {
-            Exp::Le(a, b) => is_numeral(b, *high) && x.same(a),
+            Exp::Le(a, b) => is_numeral(b, *high) && is_same(x, a),
             _ => false,
         },
         Fact::Equal(x, y) => match e {
-            Exp::Eq(a, b) => x.same(a) && y.same(b),
+            Exp::Eq(a, b) => is_same(x, a) && is_same(y, b),
             _ => false,
         },
     }
@@ -62,8 +63,8 @@ fn is_at_least(x: &Exp, low: Number, claim: &Fact<'_>) -> bool
         ↔ (stands_for (fact_of claim.now) ≡ Le (NumberLit low) (exp_of x.now)) }
 {
     match claim {
-        Fact::Whole(Exp::Le(a, b)) => is_numeral(a, low) && x.same(b),
-        Fact::AtLeast(y, least) => same_number(low, *least) && x.same(*y),
+        Fact::Whole(Exp::Le(a, b)) => is_numeral(a, low) && is_same(x, b),
+        Fact::AtLeast(y, least) => same_number(low, *least) && is_same(x, *y),
         Fact::AtMost(y, high) => is_numeral(*y, low) && is_numeral(x, *high),
         _ => false,
     }
@@ -75,8 +76,8 @@ fn is_at_most(x: &Exp, high: Number, claim: &Fact<'_>) -> bool
         ↔ (stands_for (fact_of claim.now) ≡ Le (exp_of x.now) (NumberLit high)) }
 {
     match claim {
-        Fact::Whole(Exp::Le(a, b)) => is_numeral(b, high) && x.same(a),
-        Fact::AtMost(y, most) => same_number(high, *most) && x.same(*y),
+        Fact::Whole(Exp::Le(a, b)) => is_numeral(b, high) && is_same(x, a),
+        Fact::AtMost(y, most) => same_number(high, *most) && is_same(x, *y),
         Fact::AtLeast(y, low) => is_numeral(*y, high) && is_numeral(x, *low),
         _ => false,
     }
@@ -99,18 +100,18 @@ pub(crate) fn same_fact(fact: &Fact<'_>, claim: &Fact<'_>) -> bool
         Fact::Whole(e) => is_claimed(*e, claim),
         Fact::Not(x) => match claim {
             Fact::Whole(e) => is_claimed(*e, fact),
-            Fact::Not(y) => x.same(*y),
+            Fact::Not(y) => is_same(x, *y),
             _ => false,
         },
         Fact::Tagged(t, p) => match claim {
             Fact::Whole(e) => is_claimed(*e, fact),
-            Fact::Tagged(u, q) => equal_types(*t, *u) && p.same(*q),
+            Fact::Tagged(u, q) => equal_types(*t, *u) && is_same(p, *q),
             _ => false,
         },
         Fact::Between(low, x, high) => match claim {
             Fact::Whole(e) => is_claimed(*e, fact),
             Fact::Between(least, y, greatest) => {
-                same_number(*low, *least) && same_number(*high, *greatest) && x.same(*y)
+                same_number(*low, *least) && same_number(*high, *greatest) && is_same(x, *y)
             }
             _ => false,
         },
@@ -118,7 +119,7 @@ pub(crate) fn same_fact(fact: &Fact<'_>, claim: &Fact<'_>) -> bool
         Fact::AtMost(x, high) => is_at_most(*x, *high, claim),
         Fact::Equal(a, b) => match claim {
             Fact::Whole(e) => is_claimed(*e, fact),
-            Fact::Equal(x, y) => a.same(*x) && b.same(*y),
+            Fact::Equal(x, y) => is_same(a, *x) && is_same(b, *y),
             _ => false,
         },
     }

@@ -1,6 +1,7 @@
 //! Which facts last through what came after them.
 
-ghost use Rattle.std.specs.Prelude.{◌≡◌, List, Bool, map, string_bytes};
+ghost use Rattle.std.specs.Prelude.{◌≡◌, ◌&&◌, List, Bool, map, string_bytes};
+ghost use Rattle.expression_lang.specs.Mentions.{reads};
 ghost use Rattle.ac_expr.specs.Fact.{stands_for};
 ghost use Rattle.ac_expr.specs.Lasting.{is_unnamed, lasts_part, lasts_passed};
 ghost use Rattle.ac_expr.specs.Passed.{Part};
@@ -33,6 +34,15 @@ pub(crate) fn is_unnamed(fact: &Fact<'_>, names: &[String]) -> bool
     true
 }
 
+// Whether a fact may not last since it reads what the part may change. What is cheap to tell is
+// asked first.
+#[tactic(auto, using(crate::proofs::LastingParts::both_ways))]
+fn is_outdated<S: Sequence>(fact: &Fact<'_>, first: S) -> bool
+    ensures { result ≡ (reads (stands_for (fact_of fact.now)) && S.changes first) }
+{
+    first.changes_state() && fact.reads()
+}
+
 // Whether a fact lasts through a part.
 fn lasts_part<S: Sequence>(fact: &Fact<'_>, first: S, names: &[String]) -> bool
     ensures { result ≡ lasts_part (record {
@@ -41,7 +51,7 @@ fn lasts_part<S: Sequence>(fact: &Fact<'_>, first: S, names: &[String]) -> bool
       changes = S.changes first;
     }) (stands_for (fact_of fact.now)) }
 {
-    is_unnamed(fact, names) && !(fact.reads() && first.changes_state())
+    is_unnamed(fact, names) && !is_outdated(fact, first)
 }
 
 /// Whether a fact lasts through the first so many parts.

@@ -8,6 +8,7 @@ mod constants;
 mod differences;
 mod fact_laws;
 mod facts;
+mod first_sides;
 mod heads_alike;
 mod knowing;
 mod lasting;
