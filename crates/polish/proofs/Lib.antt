@@ -1,4 +1,3 @@
-pub mod KnownIs
 pub mod Cases
 pub mod Shorter
 pub mod Closed
@@ -23,3 +22,10 @@ pub mod StaysAccepted
 pub mod Shallow
 pub mod Translated
 pub mod Worked
+pub mod Walks
+pub mod Lists
+pub mod FirstPut
+pub mod Takings
+pub mod Nexts
+pub mod Descending
+pub mod Weighed

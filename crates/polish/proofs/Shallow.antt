@@ -4,7 +4,7 @@ use Rattle.monad_lang.specs.Program.{Mon}
 use Rattle.rule_trees.specs.RuleTree.{Tree, node, no_trees, tree}
 use Rattle.rule_eq.specs.Rule as R
 use Rattle.rule_eq.specs.Rule.{Rule}
-use Rattle.polish.specs.Balanced.{Chain, single, before, paired, links, as_one, built, height, tallest}
+use Rattle.rule_walks.specs.Balanced.{Chain, single, before, paired, links, as_one, built, height, tallest}
 
 halved : (c : Chain) → links (paired c) + links (paired c) ≤ links c
 halved (single t) = omega arith

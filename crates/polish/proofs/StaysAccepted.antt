@@ -7,7 +7,7 @@ use Rattle.rule_trees.specs.RuleTree.{Tree, Trees, node, no_trees, tree, Accepts
 use Rattle.rule_eq.specs.Rule as R
 use Rattle.rule_eq.specs.Rule.{Rule, Point, Claim, does}
 use Rattle.rule_eq.specs.Table.{Takes, table, row}
-use Rattle.polish.specs.Balanced.{Chain, single, before, chained, paired, links, as_one, built, steps_of, all_balanced, balanced}
+use Rattle.rule_walks.specs.Balanced.{Chain, single, before, chained, paired, links, as_one, built, steps_of, all_balanced, balanced}
 use Rattle.polish.proofs.Trees.{Gives}
 
 module _ (at : Point) where

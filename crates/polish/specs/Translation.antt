@@ -8,7 +8,7 @@ use Rattle.rule_eq.specs.Rule.{Point}
 use Rattle.rule_eq.specs.Table.{Takes}
 use Rattle.rule_eq.specs.Tidy.{KeepsForms}
 use Rattle.polish.specs.Polished.{Polished, polished}
-use Rattle.polish.specs.Balanced.{balanced}
+use Rattle.rule_walks.specs.Balanced.{balanced}
 
 -- made tidy by a balanced tree
 abbrev pub translation : Point → Mon → Polished
