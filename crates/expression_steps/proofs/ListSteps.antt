@@ -28,26 +28,32 @@ after_none : (k : ℕ) (o : Option Exp) (r : Option Placed) → o ≡ None → l
 after_none k o r h = ap (λ p. later k (or_later p r)) h ∙ later_more k r
 
 module _ (f : Choice) (fs : List Fact) where
-  -- the position, counted from before
-  pub begun : (es : List Exp) → later 0 (first_in f fs es) ≡ first_in f fs es
-  begun es = later_none (first_in f fs es)
+  -- the position is counted from before
+  pub begun : (k : ℕ) (es : List Exp) → k ≡ 0 → later k (first_in f fs es) ≡ first_in f fs es
+  begun k es h = ap (λ n. later n (first_in f fs es)) h ∙ later_none (first_in f fs es)
 
-  pub here : (k : ℕ) (e new : Exp) (es : List Exp) → first_step f fs e ≡ Some new → later k (first_in f fs (e ∷ es)) ≡ Some (put_at k new)
-  here k e new es h = in_order k (first_step f fs e) new (first_in f fs es) h
+  pub here : (k p : ℕ) (e new : Exp) (es : List Exp) (all : Option Placed) → p ≡ k → first_step f fs e ≡ Some new →
+      later k (first_in f fs (e ∷ es)) ≡ all → Some (put_at p new) ≡ all
+  here k p e new es all h i j =
+      ap (λ q. Some q) (at p k new h) ∙ sym (in_order k (first_step f fs e) new (first_in f fs es) i) ∙ j
 
-  pub next : (k : ℕ) (e : Exp) (es : List Exp) → first_step f fs e ≡ None → later k (first_in f fs (e ∷ es)) ≡ later (k + 1) (first_in f fs es)
-  next k e es h = after_none k (first_step f fs e) (first_in f fs es) h
+  pub next : (k n : ℕ) (e : Exp) (es : List Exp) (all : Option Placed) → n ≡ k + 1 → first_step f fs e ≡ None →
+      later k (first_in f fs (e ∷ es)) ≡ all → later n (first_in f fs es) ≡ all
+  next k n e es all h i j =
+      ap (λ m. later m (first_in f fs es)) h ∙ sym (after_none k (first_step f fs e) (first_in f fs es) i) ∙ j
 
-  pub start_begun : (ss : List Start) → later 0 (first_start f fs ss) ≡ first_start f fs ss
-  start_begun ss = later_none (first_start f fs ss)
+  pub start_begun : (k : ℕ) (ss : List Start) → k ≡ 0 → later k (first_start f fs ss) ≡ first_start f fs ss
+  start_begun k ss h = ap (λ n. later n (first_start f fs ss)) h ∙ later_none (first_start f fs ss)
 
-  pub start_here : (k : ℕ) (s : Start) (new : Exp) (ss : List Start) → first_step f fs s.exp ≡ Some new →
-      later k (first_start f fs (s ∷ ss)) ≡ Some (put_at k new)
-  start_here k s new ss h = in_order k (first_step f fs s.exp) new (first_start f fs ss) h
+  pub start_here : (k p : ℕ) (s : Start) (new : Exp) (ss : List Start) (all : Option Placed) → p ≡ k →
+      first_step f fs s.exp ≡ Some new → later k (first_start f fs (s ∷ ss)) ≡ all → Some (put_at p new) ≡ all
+  start_here k p s new ss all h i j =
+      ap (λ q. Some q) (at p k new h) ∙ sym (in_order k (first_step f fs s.exp) new (first_start f fs ss) i) ∙ j
 
-  pub start_next : (k : ℕ) (s : Start) (ss : List Start) → first_step f fs s.exp ≡ None →
-      later k (first_start f fs (s ∷ ss)) ≡ later (k + 1) (first_start f fs ss)
-  start_next k s ss h = after_none k (first_step f fs s.exp) (first_start f fs ss) h
+  pub start_next : (k n : ℕ) (s : Start) (ss : List Start) (all : Option Placed) → n ≡ k + 1 →
+      first_step f fs s.exp ≡ None → later k (first_start f fs (s ∷ ss)) ≡ all → later n (first_start f fs ss) ≡ all
+  start_next k n s ss all h i j =
+      ap (λ m. later m (first_start f fs ss)) h ∙ sym (after_none k (first_step f fs s.exp) (first_start f fs ss) i) ∙ j
 
   pub list_placed : (es : List Exp) → list_step f fs es ≡ option_map (λ p. with_exp p.position p.exp es) (first_in f fs es)
   list_placed [] = refl

@@ -19,16 +19,29 @@ both k p path (Some x) q = refl
 both k p path None (Some y) = refl
 both k p path None None = refl
 
-pub stored_step : (t : CType) (p : Exp) (path : Path) (o : Option Exp) (q : Option Path) (new : Target) →
-    Some new ≡ in_two (λ x y. target x y) p path o q →
-    Some (M.Stored t new.pointer new.path) ≡ in_two (λ x y. M.Stored t x y) p path o q
+pub stored_step : (t : CType) (p x : Exp) (path y : Path) (o : Option Exp) (q : Option Path) →
+    Some (target x y) ≡ in_two (λ x y. target x y) p path o q →
+    Some (M.Stored t x y) ≡ in_two (λ x y. M.Stored t x y) p path o q
 unfolding target_of
-stored_step t p path o q new h =
+stored_step t p x path y o q h =
     ap (λ r. target_of r (λ x y. M.Stored t x y)) h ∙ both (λ x y. M.Stored t x y) p path o q
 
-pub written_step : (t : CType) (p : Exp) (path : Path) (o : Option Exp) (q : Option Path) (new : Target) →
-    Some new ≡ in_two (λ x y. target x y) p path o q →
-    Some (M.Written t new.pointer new.path) ≡ in_two (λ x y. M.Written t x y) p path o q
+pub written_step : (t : CType) (p x : Exp) (path y : Path) (o : Option Exp) (q : Option Path) →
+    Some (target x y) ≡ in_two (λ x y. target x y) p path o q →
+    Some (M.Written t x y) ≡ in_two (λ x y. M.Written t x y) p path o q
 unfolding target_of
-written_step t p path o q new h =
+written_step t p x path y o q h =
+    ap (λ r. target_of r (λ x y. M.Written t x y)) h ∙ both (λ x y. M.Written t x y) p path o q
+
+-- where there is no step in a target, there is none in a place
+pub stored_none : (t : CType) (p : Exp) (path : Path) (o : Option Exp) (q : Option Path) →
+    None ≡ in_two (λ x y. target x y) p path o q → None ≡ in_two (λ x y. M.Stored t x y) p path o q
+unfolding target_of
+stored_none t p path o q h =
+    ap (λ r. target_of r (λ x y. M.Stored t x y)) h ∙ both (λ x y. M.Stored t x y) p path o q
+
+pub written_none : (t : CType) (p : Exp) (path : Path) (o : Option Exp) (q : Option Path) →
+    None ≡ in_two (λ x y. target x y) p path o q → None ≡ in_two (λ x y. M.Written t x y) p path o q
+unfolding target_of
+written_none t p path o q h =
     ap (λ r. target_of r (λ x y. M.Written t x y)) h ∙ both (λ x y. M.Written t x y) p path o q

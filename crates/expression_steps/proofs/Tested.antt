@@ -1,8 +1,9 @@
 -- Tests that the code makes are those of the definitions.
-use Rattle.std.proofs.Common.{◌≡◌, ℕ, zero, suc, ◌==◌, Bool, true, false, List, ℤ, pos, negsuc, ◌↔◌, IsTrue, refl, sym, ap, ◌∙◌, subst, arith}
+use Rattle.std.proofs.Common.{◌≡◌, ℕ, zero, suc, ◌-◌, ◌^◌, ◌==◌, Bool, true, false, List, ℤ, pos, negsuc, neg_ℤ, ◌↔◌, IsTrue, refl, sym, ap, ap₂, ◌∙◌, subst, arith}
 use Rattle.std.proofs.lemmas.Bool.{ne_eqb}
 use Rattle.std.specs.Prelude.{unsigned_abs}
-use Rattle.expression_lang.specs.Expression.{Exp, NumberLit}
+use Rattle.c_values.specs.Number.{least, greatest}
+use Rattle.expression_lang.specs.Expression.{Exp, NumberLit, Between}
 use Rattle.ac_expr.specs.Fact.{Fact}
 use Rattle.ac_expr.specs.Known.{IsKnown}
 use Rattle.ac_expr.specs.SameExp.{same_exp}
@@ -30,3 +31,14 @@ pub sum_tested : (a : Exp) (n : ℤ) → where_true (unsigned_abs n == 0) a ≡ 
 sum_tested a (pos zero) = refl
 sum_tested a (pos (suc n)) = ap (λ b. where_true b a) (ne_eqb (suc n) 0 (λ e. omega (arith, e)))
 sum_tested a (negsuc n) = ap (λ b. where_true b a) (ne_eqb (suc n) 0 (λ e. omega (arith, e)))
+
+-- numbers between the least and the greatest value of words of a width
+pub natural_tested : (fs : List Fact) (e : Exp) (w m : ℕ) (low high : ℤ) (b : Bool) → m ≡ 2 ^ w - 1 → low ≡ pos 0 → high ≡ pos m →
+    b ≡ is_known fs (Between low e high) → b ≡ is_known fs (Between (least false w) e (greatest false w))
+natural_tested fs e w m low high b g h i j =
+    j ∙ ap₂ (λ (x y : ℤ). is_known fs (Between x e y)) h (i ∙ ap (λ n. pos n) g)
+
+pub integer_tested : (fs : List Fact) (e : Exp) (w m : ℕ) (low high : ℤ) (b : Bool) → m ≡ 2 ^ (w - 1) → low ≡ neg_ℤ (pos m) →
+    high ≡ pos (m - 1) → b ≡ is_known fs (Between low e high) → b ≡ is_known fs (Between (least true w) e (greatest true w))
+integer_tested fs e w m low high b g h i j =
+    j ∙ ap₂ (λ (x y : ℤ). is_known fs (Between x e y)) (h ∙ ap (λ n. neg_ℤ (pos n)) g) (i ∙ ap (λ n. pos (n - 1)) g)

@@ -78,13 +78,12 @@ fn first_in<'x>(
         ≡ first_in (shortened (scope_in context.now)) (known_in facts.now) (map exp_of exps.now)) }
 {
     let mut rest = exps;
-    let mut position = 0;
     'along: while let Some((exp, others)) = rest.split_first() {
         if let Some(exp) = first_step(alloc, context, facts, exp)? {
+            let position = exps.len() - rest.len();
             return Ok(Some(Placed { position, exp }));
         }
         rest = others;
-        position += 1;
     }
     Ok(None)
 }
@@ -178,13 +177,12 @@ fn first_start<'x>(
         (map start_of starts.now)) }
 {
     let mut rest = starts;
-    let mut position = 0;
     'along: while let Some((start, others)) = rest.split_first() {
         if let Some(exp) = first_step(alloc, context, facts, &start.exp)? {
+            let position = starts.len() - rest.len();
             return Ok(Some(Placed { position, exp }));
         }
         rest = others;
-        position += 1;
     }
     Ok(None)
 }
@@ -237,7 +235,7 @@ fn target_step<'x>(
     Ok(Some(Target { pointer, path }))
 }
 
-#[tactic(auto, using(crate::proofs::PlaceSteps::stored_step, crate::proofs::PlaceSteps::written_step))]
+#[tactic(auto, using(crate::proofs::PlaceSteps::stored_step, crate::proofs::PlaceSteps::written_step, crate::proofs::PlaceSteps::stored_none, crate::proofs::PlaceSteps::written_none))]
 fn place_step<'x>(
     alloc: Global,
     context: &Context<'_>,

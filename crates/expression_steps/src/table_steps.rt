@@ -322,8 +322,10 @@ fn is_natural(facts: &Facts<'_, Passed<'_>>, width: u8, number: &Exp) -> bool
         (plain.Between (least false width) (exp_of number.now) (greatest false width)) }
 {
     let low = Number::new(false, 0);
-    let high = Number::new(false, greatest_word(width));
-    is_known(facts, &Fact::Between(low, number, high))
+    let greatest = greatest_word(width);
+    let high = Number::new(false, greatest);
+    let claim = Fact::Between(low, number, high);
+    is_known(facts, &claim)
 }
 
 // The same of the signed value.
@@ -335,7 +337,8 @@ fn is_integer(facts: &Facts<'_, Passed<'_>>, width: u8, number: &Exp) -> bool
     let size = half(width);
     let low = Number::new(true, size);
     let high = Number::new(false, size - 1);
-    is_known(facts, &Fact::Between(low, number, high))
+    let claim = Fact::Between(low, number, high);
+    is_known(facts, &claim)
 }
 
 fn shorter_nat(
