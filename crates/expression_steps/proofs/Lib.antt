@@ -6,5 +6,4 @@ pub mod Tested
 pub mod ShapeSteps
 pub mod ListSteps
 pub mod Sizes
-pub mod PlaceSteps
 pub mod Headers

@@ -1,9 +1,12 @@
--- The first step in lists, by its position.
+-- The first step in lists, by its position, and in a loop's guard and its test.
 use Rattle.std.specs.Prelude.{ℕ, zero, suc, ◌+◌, List, [], ◌∷◌, Option, Some, None}
+use Rattle.c_values.specs.Types.{CType}
 use Rattle.expression_lang.specs.Expression.{Exp, Path}
-use Rattle.ac_expr.specs.Fact.{Fact}
-use Rattle.monad_lang.specs.Program.{Start}
-use Rattle.expression_steps.specs.Rewritten.{Choice, first_step}
+use Rattle.expression_lang.specs.Sort.{Scope}
+use Rattle.ac_expr.specs.Fact.{Fact, Whole}
+use Rattle.monad_lang.specs.Program.{Start, Place, Stored, Written, Mon, Loop}
+use Rattle.expression_steps.specs.Rewritten.{Choice, in_two, first_step}
+use Rattle.expression_steps.specs.Shortened.{shortened}
 
 pub record Placed : Type 0 where
   pub position : ℕ
@@ -38,16 +41,17 @@ with_start i new [] = []
 with_start zero new (s ∷ ss) = record { name = s.name; exp = new } ∷ ss
 with_start (suc i) new (s ∷ ss) = s ∷ with_start i new ss
 
-pub record Target : Type 0 where
-  pub pointer : Exp
-  pub path : Path
+-- how an object is written to
+pub data Object : Type 0 where
+  StoredAt : Object
+  WrittenAt : Object
 
-abbrev pub target : Exp → Path → Target
-target p path = record { pointer = p; path = path }
+abbrev pub object_at : Object → CType → Exp → Path → Place
+object_at StoredAt t p path = Stored t p path
+object_at WrittenAt t p path = Written t p path
 
-pub record Turn : Type 0 where
-  pub guard : Exp
-  pub test : Exp
-
-abbrev pub turn : Exp → Exp → Turn
-turn guard test = record { guard = guard; test = test }
+-- a loop after the first step in its guard or its test, in a scope
+abbrev pub turned_in : List Start → Exp → Exp → Mon → Scope → Option Mon
+turned_in starts guard test m g =
+    in_two (λ x y. Loop starts x y m) guard test (first_step (shortened g) [] guard)
+    (first_step (shortened g) (Whole guard ∷ []) test)

@@ -9,13 +9,14 @@ ghost use Rattle.monad_lang.specs.Program as plain;
 ghost use Rattle.monad_lang.specs.CodeProgram.{place_of, start_of, mon_of};
 ghost use Rattle.expression_steps.specs.Rewritten.{list_step, start_step, place_step, scope_started, direct_step_in, in_one, in_two, in_three, first_step, path_step};
 ghost use Rattle.expression_steps.specs.Shortened.{shortened};
-ghost use Rattle.expression_steps.specs.CodePoint.{known_in, scope_in};
+ghost use Rattle.expression_steps.specs.CodePoint.{known_in, names_of, scalars_of, scope_in};
 ghost use Rattle.monad_lang.specs.CodeFront.{with_front};
-ghost use Rattle.expression_steps.specs.CodeProgramSteps.{first_in, first_start, put_at, with_exp, with_start, target, turn};
-ghost use Rattle.expression_steps.specs.CodeProgramStepsView.{target_in, turn_in};
+ghost use Rattle.expression_lang.specs.Sorted.{scope_with};
+ghost use Rattle.expression_steps.specs.CodeProgramSteps.{first_in, first_start, put_at, with_exp, with_start, object_at, turned_in};
+ghost use Rattle.expression_steps.specs.CodeProgramStepsView.{object_in, turned_at};
 
 use crate::exp_steps::{first_step, path_step};
-use crate::points::{Context, Passed, Scoped, bindings_of};
+use crate::points::{Binding, Context, Passed, Scoped, bindings_of};
 use ac_expr::{Fact, Facts};
 use c_values::{CType, copy_of};
 use expression_lang::{Exp, Names, Path};
@@ -205,37 +206,51 @@ fn start_step<'x>(
     }
 }
 
-// A pointer and a path.
-#[derive(Drop)]
-struct Target {
-    pointer: Box<Exp>,
-    path: Path,
+// How an object is written to.
+#[derive(Clone, Copy)]
+enum Object {
+    Stored,
+    Written,
 }
 
-fn target_step<'x>(
+fn object_at(object: Object, ty: CType, pointer: Box<Exp>, path: Path) -> Place
+    ensures { place_of result
+        ≡ object_at (object_in object) (type_of ty) (exp_of pointer.value) (path_of path) }
+{
+    match object {
+        Object::Stored => Place::Stored(ty, Box::into_inner(pointer), path),
+        Object::Written => Place::Written(ty, Box::into_inner(pointer), path),
+    }
+}
+
+fn object_step<'x>(
     alloc: Global,
     context: &Context<'_>,
     facts: &'x Facts<'x, Passed<'x>>,
+    object: Object,
+    ty: &CType,
     pointer: &'x Exp,
     path: &'x Path,
-) -> Result<Option<Target>, AllocError>
-    ensures { IfOk result (λ new. option_map target_in new
-        ≡ in_two (λ x y. target x y) (exp_of pointer.now) (path_of path.now)
+) -> Result<Option<Place>, AllocError>
+    ensures { IfOk result (λ new. option_map place_of new
+        ≡ in_two (λ x y. object_at (object_in object) (type_of ty.now) x y) (exp_of pointer.now)
+        (path_of path.now)
         (first_step (shortened (scope_in context.now)) (known_in facts.now) (exp_of pointer.now))
         (path_step (shortened (scope_in context.now)) (known_in facts.now) (path_of path.now))) }
 {
-    if let Some(pointer) = first_step(alloc, context, facts, pointer)? {
+    if let Some(new) = first_step(alloc, context, facts, pointer)? {
         let path = path.copy(alloc)?;
-        return Ok(Some(Target { pointer, path }));
+        let ty = copy_of(alloc, ty)?;
+        return Ok(Some(object_at(object, ty, new, path)));
     }
-    let Some(path) = path_step(alloc, context, facts, path)? else {
+    let Some(new) = path_step(alloc, context, facts, path)? else {
         return Ok(None);
     };
     let pointer = pointer.boxed_copy(alloc)?;
-    Ok(Some(Target { pointer, path }))
+    let ty = copy_of(alloc, ty)?;
+    Ok(Some(object_at(object, ty, pointer, new)))
 }
 
-#[tactic(auto, using(crate::proofs::PlaceSteps::stored_step, crate::proofs::PlaceSteps::written_step, crate::proofs::PlaceSteps::stored_none, crate::proofs::PlaceSteps::written_none))]
 fn place_step<'x>(
     alloc: Global,
     context: &Context<'_>,
@@ -247,20 +262,10 @@ fn place_step<'x>(
 {
     match place {
         Place::Stored(ty, pointer, path) => {
-            let Some(new) = target_step(alloc, context, facts, pointer, path)? else {
-                return Ok(None);
-            };
-            let Target { pointer, path } = new;
-            let ty = copy_of(alloc, ty)?;
-            Ok(Some(Place::Stored(ty, Box::into_inner(pointer), path)))
+            object_step(alloc, context, facts, Object::Stored, ty, pointer, path)
         }
         Place::Written(ty, pointer, path) => {
-            let Some(new) = target_step(alloc, context, facts, pointer, path)? else {
-                return Ok(None);
-            };
-            let Target { pointer, path } = new;
-            let ty = copy_of(alloc, ty)?;
-            Ok(Some(Place::Written(ty, Box::into_inner(pointer), path)))
+            object_step(alloc, context, facts, Object::Written, ty, pointer, path)
         }
         Place::Global(name, path) => {
             let Some(path) = path_step(alloc, context, facts, path)? else {
@@ -321,68 +326,94 @@ fn copy_of_place(alloc: Global, place: &Place) -> Result<Place, AllocError>
     }
 }
 
-// A loop's guard and its test.
-#[derive(Drop)]
-struct Turn {
+// A loop that was made.
+fn looped(
+    alloc: Global,
+    starts: Vec<Start>,
     guard: Box<Exp>,
     test: Box<Exp>,
+    last: &Mon,
+) -> Result<Option<Box<Mon>>, AllocError>
+    ensures { IfOk result (λ new. option_map (λ m. mon_of m.value) new
+        ≡ Some (plain.Loop (map start_of starts.items) (exp_of guard.value) (exp_of test.value)
+        (mon_of last.now))) }
+{
+    let last = last.copy(alloc)?;
+    made(alloc, whole(Front::Loop(starts, guard, test), last))
 }
 
-// A guard and a test after their first step, where nothing is known but the guard.
+// The parts of a loop.
+#[derive(Clone, Copy)]
+struct Turns<'a> {
+    starts: &'a [Start],
+    guard: &'a Exp,
+    test: &'a Exp,
+    last: &'a Mon,
+}
+
+// A loop after the first step in its guard or its test, where nothing is known but the guard.
 fn turn_step<'x>(
     alloc: Global,
-    context: &Context<'_>,
+    inner: &Context<'_>,
     none: &'x Facts<'x, Passed<'x>>,
-    guard: &'x Exp,
-    test: &'x Exp,
-) -> Result<Option<Turn>, AllocError>
+    turns: Turns<'x>,
+) -> Result<Option<Box<Mon>>, AllocError>
     requires { known_in none.now ≡ [] }
-    ensures { IfOk result (λ new. option_map turn_in new
-        ≡ in_two (λ x y. turn x y) (exp_of guard.now) (exp_of test.now)
-        (first_step (shortened (scope_in context.now)) [] (exp_of guard.now))
-        (first_step (shortened (scope_in context.now)) (Whole (exp_of guard.now) ∷ [])
-        (exp_of test.now))) }
+    ensures { IfOk result (λ new. option_map (λ m. mon_of m.value) new
+        ≡ turned_at turns.entry (scope_in inner.now)) }
 {
-    if let Some(guard) = first_step(alloc, context, none, guard)? {
-        let test = test.boxed_copy(alloc)?;
-        return Ok(Some(Turn { guard, test }));
+    if let Some(new) = first_step(alloc, inner, none, turns.guard)? {
+        let starts = copy_of_starts(alloc, turns.starts)?;
+        let test = turns.test.boxed_copy(alloc)?;
+        return looped(alloc, starts, new, test, turns.last);
     }
-    let holds = Fact::Whole(&*guard);
-    let Some(test) = first_step(alloc, context, &(&*none).with(&holds), &*test)? else {
+    let holds = Fact::Whole(&*turns.guard);
+    let Some(new) = first_step(alloc, inner, &(&*none).with(&holds), &*turns.test)? else {
         return Ok(None);
     };
-    let guard = guard.boxed_copy(alloc)?;
-    Ok(Some(Turn { guard, test }))
+    let starts = copy_of_starts(alloc, turns.starts)?;
+    let guard = turns.guard.boxed_copy(alloc)?;
+    looped(alloc, starts, guard, new, turns.last)
 }
 
-// The same of a loop that begins with these.
-#[tactic(auto, using(crate::proofs::Headers::none_turned, crate::proofs::Headers::some_turned))]
-fn started_step<'x>(
+// The same where names have these scalars.
+fn turn_within<'x>(
     alloc: Global,
     context: &Context<'_>,
+    bound: &[Binding],
     none: &'x Facts<'x, Passed<'x>>,
-    starts: &[Start],
-    guard: &'x Exp,
-    test: &'x Exp,
-) -> Result<Option<Turn>, AllocError>
+    turns: Turns<'x>,
+) -> Result<Option<Box<Mon>>, AllocError>
     requires { known_in none.now ≡ [] }
-    ensures { IfOk result (λ new. option_map turn_in new
-        ≡ in_two (λ x y. turn x y) (exp_of guard.now) (exp_of test.now)
-        (first_step (shortened (scope_started (map start_of starts.now)
-        (scope_in context.now))) [] (exp_of guard.now))
-        (first_step (shortened (scope_started (map start_of starts.now) (scope_in context.now)))
-        (Whole (exp_of guard.now) ∷ []) (exp_of test.now))) }
+    ensures { IfOk result (λ new. option_map (λ m. mon_of m.value) new
+        ≡ turned_at turns.entry
+        (scope_with (names_of bound.now) (scalars_of bound.now) (scope_in context.now))) }
 {
-    let Some(bound) = bindings_of(alloc, context, starts)? else {
-        return turn_step(alloc, context, none, guard, test);
-    };
-    let scope = Scoped::Within(context.scope, &bound);
+    let scope = Scoped::Within(context.scope, bound);
     let inner = Context {
         layout: context.layout,
         globals: context.globals,
         scope: &scope,
     };
-    turn_step(alloc, &inner, none, guard, test)
+    turn_step(alloc, &inner, none, turns)
+}
+
+// The same where the loop's names are in scope.
+fn started_step<'x>(
+    alloc: Global,
+    context: &Context<'_>,
+    none: &'x Facts<'x, Passed<'x>>,
+    turns: Turns<'x>,
+) -> Result<Option<Box<Mon>>, AllocError>
+    requires { known_in none.now ≡ [] }
+    ensures { IfOk result (λ new. option_map (λ m. mon_of m.value) new
+        ≡ turned_at turns.entry
+        (scope_started (map start_of turns.entry.starts.now) (scope_in context.now))) }
+{
+    match bindings_of(alloc, context, turns.starts)? {
+        Some(bound) => turn_within(alloc, context, &bound, none, turns),
+        None => turn_step(alloc, context, none, turns),
+    }
 }
 
 // The same, without what is known outside of the loop.
@@ -392,48 +423,48 @@ fn without_facts(
     starts: &[Start],
     guard: &Exp,
     test: &Exp,
-) -> Result<Option<Turn>, AllocError>
-    ensures { IfOk result (λ new. option_map turn_in new
-        ≡ in_two (λ x y. turn x y) (exp_of guard.now) (exp_of test.now)
-        (first_step (shortened (scope_started (map start_of starts.now)
-        (scope_in context.now))) [] (exp_of guard.now))
-        (first_step (shortened (scope_started (map start_of starts.now) (scope_in context.now)))
-        (Whole (exp_of guard.now) ∷ []) (exp_of test.now))) }
+    last: &Mon,
+) -> Result<Option<Box<Mon>>, AllocError>
+    ensures { IfOk result (λ new. option_map (λ m. mon_of m.value) new
+        ≡ turned_in (map start_of starts.now) (exp_of guard.now) (exp_of test.now) (mon_of last.now)
+        (scope_started (map start_of starts.now) (scope_in context.now))) }
 {
     let names = Names::new();
     let none = Facts::new(context.layout, context.globals, &names);
-    started_step(alloc, context, &none, starts, guard, test)
+    let turns = Turns {
+        starts: &*starts,
+        guard: &*guard,
+        test: &*test,
+        last: &*last,
+    };
+    started_step(alloc, context, &none, turns)
 }
 
-// A loop's starts, its guard and its test after their first step.
-fn header_step<'x>(
+// A loop after the first step in what it begins with, its guard or its test.
+fn loop_step<'x>(
     alloc: Global,
     context: &Context<'_>,
     facts: &'x Facts<'x, Passed<'x>>,
     starts: &'x [Start],
-    guard: &'x Exp,
-    test: &'x Exp,
-) -> Result<Option<Front>, AllocError>
-    ensures { (m : plain.Mon) → IfOk result (λ new. option_map (λ front. with_front front m) new
+    guard: &Exp,
+    test: &Exp,
+    last: &Mon,
+) -> Result<Option<Box<Mon>>, AllocError>
+    ensures { IfOk result (λ new. option_map (λ m. mon_of m.value) new
         ≡ direct_step_in shortened (scope_in context.now) (known_in facts.now)
-        (plain.Loop (map start_of starts.now) (exp_of guard.now) (exp_of test.now) m)) }
+        (plain.Loop (map start_of starts.now) (exp_of guard.now) (exp_of test.now)
+        (mon_of last.now))) }
 {
-    if let Some(starts) = start_step(alloc, context, facts, starts)? {
+    if let Some(new) = start_step(alloc, context, facts, starts)? {
         let guard = guard.boxed_copy(alloc)?;
         let test = test.boxed_copy(alloc)?;
-        return Ok(Some(Front::Loop(starts, guard, test)));
+        return looped(alloc, new, guard, test, last);
     }
-    let Some(turn) = without_facts(alloc, context, starts, guard, test)? else {
-        return Ok(None);
-    };
-    let starts = copy_of_starts(alloc, starts)?;
-    let Turn { guard, test } = turn;
-    Ok(Some(Front::Loop(starts, guard, test)))
+    without_facts(alloc, context, starts, guard, test, last)
 }
 
 /// A program after the first step in an expression that stands in it directly, or none where there
 /// is no step.
-#[tactic(auto, using(crate::proofs::Headers::loop_step))]
 pub fn direct_step<'x>(
     alloc: Global,
     context: &Context<'_>,
@@ -474,11 +505,7 @@ pub fn direct_step<'x>(
             made(alloc, whole(front, last))
         }
         Mon::Loop(starts, guard, test, last) => {
-            let Some(front) = header_step(alloc, context, facts, starts, guard, test)? else {
-                return Ok(None);
-            };
-            let last = last.copy(alloc)?;
-            made(alloc, whole(front, last))
+            loop_step(alloc, context, facts, starts, guard, test, last)
         }
     }
 }
