@@ -29,3 +29,10 @@ pub mod Takings
 pub mod Nexts
 pub mod Descending
 pub mod Weighed
+pub mod Following
+pub mod Choices
+pub mod Putting
+pub mod Lightened
+pub mod Deeper
+pub mod Parting
+pub mod Starting

@@ -1,19 +1,15 @@
 -- What the code does next.
-use Rattle.monad_lang.specs.Program as M
-use Rattle.monad_lang.specs.Program.{Mon}
 use Rattle.polish.specs.declared.entering.Next as N
 use Rattle.polish.specs.declared.settling.Settling as S
 use Rattle.polish.specs.Climbed as C
 use Rattle.polish.specs.Climbed.{Next}
 use Rattle.polish.specs.CodeNext.{Settling, Stays, Gives, Skips, Turns, Puts}
 
-abbrev pub next_in : N.Next → Mon → Next
-next_in N.TheVariants.Enters m = C.Enters
-next_in N.TheVariants.Skips m = C.Skips
-next_in N.TheVariants.Stands m = C.Stands
-next_in N.TheVariants.Turns (M.Bind a zs b) = C.Turns a zs b
-next_in N.TheVariants.Turns m = C.Enters
-next_in (N.TheVariants.Puts i) m = C.Puts i
+abbrev pub next_in : N.Next → Next
+next_in N.TheVariants.Enters = C.Enters
+next_in N.TheVariants.Skips = C.Skips
+next_in N.TheVariants.Stands = C.Stands
+next_in (N.TheVariants.Puts i) = C.Puts i
 
 abbrev pub settling_in : S.Settling → Settling
 settling_in S.TheVariants.Stays = Stays

@@ -15,3 +15,6 @@ pub mod CodeParted
 pub mod Followed
 pub mod Weight
 pub mod Parts
+pub mod SeenFollowed
+pub mod Branches
+pub mod CodeBranches

@@ -1,20 +1,34 @@
 //! Programs that hold others, and what is done in these.
 
-ghost use Rattle.std.specs.Prelude.{◌≡◌, map, IfOk, IfSome, IfNone};
+ghost use Rattle.std.specs.Prelude.{◌≡◌, [], Option, map, unwrap_or, IfOk};
+ghost use Rattle.std.specs.Option.{option_map};
+ghost use Rattle.c_values.specs.Name.{Name};
+ghost use Rattle.expression_lang.specs.Sort.{Scalar as Plain};
+ghost use Rattle.expression_lang.specs.Sorted.{names_with};
 ghost use Rattle.expression_lang.specs.CodeExpression.{exp_of};
 ghost use Rattle.monad_lang.specs.Program as plain;
+ghost use Rattle.monad_lang.specs.Run.{start_names};
+ghost use Rattle.monad_lang.specs.Sorted.{start_scalars};
 ghost use Rattle.monad_lang.specs.CodeProgram.{mon_of, start_of};
 ghost use Rattle.rule_eq.specs.Rule as rules;
 ghost use Rattle.rule_walks.specs.Walk.{walked, over_one, over_two};
 ghost use Rattle.rule_walks.specs.CodeWalks.{walk_in, made_in};
+ghost use Rattle.expression_steps.specs.CodePoint.{names_of, scalars_of};
+ghost use Rattle.given_scalars.specs.CodeScalars.{setting_in};
+ghost use Rattle.polish.specs.Branches.{test_in, chosen_in, turn_in};
+ghost use Rattle.polish.specs.CodeBranches.{turn_of};
 
 use expression_lang::Exp;
+use expression_steps::{Binding, Context, Scoped, bindings_of};
+use given_scalars::Unit;
 use monad_lang::{Front, Mon, Start, boxed, whole};
 use rule_walks::{Walked, in_body, in_branches};
 use std::alloc::{AllocError, Global};
 
 /// The test of a choice.
-pub(crate) fn test_of(m: &Mon) -> Option<&Exp> {
+pub(crate) fn test_of(m: &Mon) -> Option<&Exp>
+    ensures { option_map (λ e. exp_of e.now) result ≡ test_in (mon_of m.now) }
+{
     match m {
         Mon::If(test, _, _) => Some(test),
         _ => None,
@@ -22,7 +36,9 @@ pub(crate) fn test_of(m: &Mon) -> Option<&Exp> {
 }
 
 /// Which branch a test chooses that is a constant.
-pub(crate) fn chosen_by(test: &Exp) -> Option<bool> {
+pub(crate) fn chosen_by(test: &Exp) -> Option<bool>
+    ensures { result ≡ chosen_in (exp_of test.now) }
+{
     match test {
         Exp::Truth(holds) => Some(*holds),
         _ => None,
@@ -57,7 +73,9 @@ pub(crate) struct Turn<'a> {
 }
 
 /// A loop without its body.
-pub(crate) fn body_of(m: &Mon) -> Option<Turn<'_>> {
+pub(crate) fn turn_of(m: &Mon) -> Option<Turn<'_>>
+    ensures { option_map turn_of result ≡ turn_in (mon_of m.now) }
+{
     match m {
         Mon::Loop(starts, guard, test, _) => Some(Turn {
             starts,
@@ -65,6 +83,30 @@ pub(crate) fn body_of(m: &Mon) -> Option<Turn<'_>> {
             test,
         }),
         _ => None,
+    }
+}
+
+/// The names of a loop, with the scalars of what they begin with.
+#[tactic(auto, using(crate::proofs::Starting::none_started))]
+pub(crate) fn started(
+    alloc: Global,
+    unit: Unit<'_>,
+    scope: &Scoped<'_>,
+    starts: &[Start],
+) -> Result<Vec<Binding>, AllocError>
+    ensures { IfOk result (λ bound. let ss = map start_of starts.now in
+        (names : Name → Option Plain) → names_with (names_of bound.items) (scalars_of bound.items) names
+        ≡ names_with (start_names ss)
+        (unwrap_or (start_scalars (setting_in scope.now unit.entry).scope ss) []) names) }
+{
+    let context = Context {
+        layout: unit.layout,
+        globals: unit.globals,
+        scope,
+    };
+    match bindings_of(alloc, &context, starts)? {
+        Some(bound) => Ok(bound),
+        None => Ok(Vec::new(alloc)),
     }
 }
 

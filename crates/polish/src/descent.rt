@@ -1,13 +1,17 @@
 //! Sequences whose second parts were entered, on the way down a program.
 
-ghost use Rattle.std.specs.Prelude.{◌≡◌, map, string_bytes, IfOk};
+ghost use Rattle.std.specs.Prelude.{◌≡◌, ◌∷◌, ◌++◌, [], map, string_bytes, unwrap_or, IfOk};
+ghost use Rattle.expression_lang.specs.CodeSort.{scalar_of};
 ghost use Rattle.monad_lang.specs.Program.{Bind};
 ghost use Rattle.monad_lang.specs.CodeProgram.{mon_of};
+ghost use Rattle.monad_lang.specs.Sorted.{setting_with, scalars_given};
 ghost use Rattle.rule_trees.specs.RuleTree.{node, no_trees};
 ghost use Rattle.rule_eq.specs.Rule.{Assoc};
 ghost use Rattle.rule_walks.specs.Walk.{and_led, one_walk, over_bind, stays};
 ghost use Rattle.polish.specs.Seen.{seen_parted};
 ghost use Rattle.polish.specs.CodeParted.{parted_in};
+ghost use Rattle.polish.specs.SeenFollowed.{stage};
+ghost use Rattle.polish.specs.CodeDescent.{setting_past, kept_names, given_names, IsKept, IsDeeper};
 ghost use Rattle.rule_walks.specs.CodeWalks.{walk_in, before_in};
 
 use crate::sequences::Sequence;
@@ -71,16 +75,22 @@ pub(crate) fn led_to(
     }
 }
 
-/// The scalars of the names that a first part binds, behind the parts that were passed. Where it
-/// binds none, it isn't looked at.
-pub(crate) fn scalars_bound<'x>(
+// The scalars of the names that a first part binds, behind the parts that were passed. Where it
+// binds none, it isn't looked at.
+#[tactic(auto, using(crate::proofs::Deeper::no_names))]
+fn scalars_bound<'x>(
     alloc: Global,
     unit: Unit<'_>,
     scope: &'x Scoped<'x>,
     parts: &'x [PassedPart],
     first: &Mon,
     names: &[String],
-) -> Result<Vec<Scalar>, AllocError> {
+) -> Result<Vec<Scalar>, AllocError>
+    ensures { IfOk result (λ scalars. let t = setting_past unit.entry scope.now parts.now in
+        setting_with (map string_bytes names.now) (map scalar_of scalars.items) t
+        ≡ setting_with (map string_bytes names.now)
+        (unwrap_or (scalars_given t (mon_of first.now)) []) t) }
+{
     if names.is_empty() {
         return Ok(Vec::new(alloc));
     }
@@ -91,12 +101,11 @@ pub(crate) fn scalars_bound<'x>(
     }
 }
 
-/// The sequences that were entered, and one more.
-pub(crate) fn entered(
-    down: Descent,
-    level: Level,
-    part: PassedPart,
-) -> Result<Descent, AllocError> {
+// The sequences that were entered, and one more.
+fn entered(down: Descent, level: Level, part: PassedPart) -> Result<Descent, AllocError>
+    ensures levels { IfOk result (λ new. new.levels.items ≡ down.levels.items ++ level ∷ []) }
+    ensures parts { IfOk result (λ new. new.parts.items ≡ down.parts.items ++ part ∷ []) }
+{
     let Descent {
         mut levels,
         mut parts,
@@ -104,6 +113,50 @@ pub(crate) fn entered(
     levels.push(level)?;
     parts.push(part)?;
     Ok(Descent { levels, parts })
+}
+
+// A first part with its names, behind parts that were passed.
+fn part_behind<'x>(
+    alloc: Global,
+    unit: Unit<'_>,
+    scope: &'x Scoped<'x>,
+    parts: &'x [PassedPart],
+    first: &Mon,
+    names: &[String],
+) -> Result<PassedPart, AllocError>
+    ensures first { IfOk result (λ part. mon_of part.first.value ≡ mon_of first.now) }
+    ensures names { IfOk result (λ part.
+        map string_bytes part.names.items ≡ map string_bytes names.now) }
+    ensures told { IfOk result (λ part. let t = setting_past unit.entry scope.now parts.now in
+        kept_names t part ≡ given_names t part) }
+{
+    let scalars = scalars_bound(alloc, unit, scope, parts, first, names)?;
+    let first = first.copy(alloc)?;
+    let names = copy_names(alloc, names)?;
+    Ok(PassedPart {
+        first,
+        names,
+        scalars,
+    })
+}
+
+/// A descent that has come past this first part.
+pub(crate) fn with_part<'x>(
+    alloc: Global,
+    unit: Unit<'_>,
+    scope: &'x Scoped<'x>,
+    down: Descent,
+    level: Level,
+    first: &Mon,
+    names: &[String],
+) -> Result<Descent, AllocError>
+    requires { IsKept unit scope.now down }
+    ensures { IfOk result (λ new. IsDeeper unit.entry scope.now down
+        (stage (before_in level.before) (walk_in level.walk) (mon_of first.now)
+        (map string_bytes names.now)) new) }
+{
+    let part = part_behind(alloc, unit, &*scope, &down.parts, first, names)?;
+    entered(down, level, part)
 }
 
 /// What a walk does to a sequence before the sequence is turned, and what is left to be done to its

@@ -4,6 +4,7 @@
 mod branches;
 mod descent;
 mod entering;
+mod following;
 mod laws;
 mod polishing;
 mod putting;
@@ -11,6 +12,7 @@ mod rewriting;
 mod sequences;
 mod settling;
 mod translation;
+mod turning;
 
 pub use laws::{programs_are_made_tidy, steps_are_made};
 pub use translation::translate;

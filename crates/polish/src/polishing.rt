@@ -1,52 +1,48 @@
 //! How programs are made tidy, with the steps that lead there.
 
-ghost use Rattle.std.specs.Prelude.{◌≡◌, List, map, string_bytes, vec_len, IfOk};
-ghost use Rattle.monad_lang.specs.Program as plain;
-ghost use Rattle.monad_lang.specs.CodeProgram.{mon_of};
-ghost use Rattle.rule_trees.specs.RuleTree.{Tree as Rules};
-ghost use Rattle.rule_eq.specs.Rule.{Rule as Named};
-ghost use Rattle.rule_walks.specs.Walk.{walk_of, after_before};
-ghost use Rattle.rule_walks.specs.CodeWalks.{walk_in, before_in, made_in};
-ghost use Rattle.given_scalars.specs.CodeScalars.{IsNoBind};
+ghost use Rattle.std.specs.Prelude.{◌≡◌, List, map, string_bytes, IfOk};
+ghost use Rattle.c_values.specs.Name.{Name};
 ghost use Rattle.ac_expr.specs.Fact.{Fact as Known};
-ghost use Rattle.given_scalars.specs.CodeScalars.{setting_in};
-ghost use Rattle.rule_eq.specs.Table.{point};
-ghost use Rattle.polish.specs.Polished.{chosen, turning, followed, polished, what_is_bound};
+ghost use Rattle.expression_lang.specs.Sort.{Scalar as Plain};
+ghost use Rattle.monad_lang.specs.Program as plain;
+ghost use Rattle.monad_lang.specs.CodeProgram.{mon_of, start_of};
+ghost use Rattle.monad_lang.specs.Sorted.{setting_with, start_scalars};
+ghost use Rattle.monad_lang.specs.Run.{start_names};
+ghost use Rattle.rule_eq.specs.Rule.{IfConst};
+ghost use Rattle.rule_eq.specs.Table.{point, behind};
+ghost use Rattle.rule_walks.specs.Walk.{Nothing, one_walk, after_before, and_led};
+ghost use Rattle.rule_walks.specs.CodeWalks.{walk_in, before_in, made_in};
+ghost use Rattle.expression_steps.specs.CodePoint.{known_in, names_of, scalars_of};
+ghost use Rattle.given_scalars.specs.CodeScalars.{setting_in, IsNoBind};
+ghost use Rattle.polish.specs.Polished.{leaf, bound, chosen, turned, turning, polished, what_is_bound};
 ghost use Rattle.polish.specs.Parts.{IsIf, IsLoop};
 ghost use Rattle.polish.specs.Seen.{seen};
+ghost use Rattle.polish.specs.SeenFollowed.{seen_followed};
+ghost use Rattle.polish.specs.Weight.{weight};
 ghost use Rattle.polish.specs.Descent.{seen_raised};
 ghost use Rattle.polish.specs.CodePoint.{point_in};
-ghost use Rattle.polish.specs.CodeDescent.{point_behind, stage_in, AreTold};
-ghost use Rattle.polish.specs.CodeNext.{Turns, Puts, settling_of, stepped};
-ghost use Rattle.polish.specs.CodeNextView.{settling_in};
-ghost use Rattle.polish.specs.Followed.{up_from, outcome, IsKept};
+ghost use Rattle.polish.specs.CodeDescent.{point_behind, stage_in, IsKept, up_from, rebuilt};
+ghost use Rattle.polish.specs.CodeNext.{Puts, stepped};
+ghost use Rattle.polish.specs.CodeNextView.{next_in, settling_in};
+ghost use Rattle.polish.specs.Followed.{heavy, ending, IsFollowed};
 
-use crate::branches::{body_of, chosen_by, test_of, with_body, with_branches};
-use crate::descent::{
-    Descent, Level, assoc_level, copied, entered, led_to, parted, scalars_bound, turned_level,
-};
-use crate::entering::{Next, next_of};
+use crate::branches::{chosen_by, started, test_of, turn_of, with_body, with_branches};
+use crate::descent::{Descent, Level, copied, led_to, with_part};
+use crate::entering::Next;
+use crate::following::{Bottom, Followed, Here, first_alone, led_past, led_whole, to_bottom};
 use crate::putting::put_at;
 use crate::rewriting::{after_all, after_steps, behind, whole};
 use crate::sequences::{Sequence, split};
 use crate::settling::{Settling, is_nothing, settling_of};
+use crate::turning::{Turned, turned_down};
 use ac_expr::{Fact, Facts};
-use expression_lang::{Names, copy_names};
-use expression_steps::{Context, Passed, PassedPart, Scoped, bindings_of, facts_behind};
+use expression_lang::Names;
+use expression_steps::{Passed, PassedPart, Scoped, facts_behind};
 use given_scalars::Unit;
 use monad_lang::{Mon, boxed};
 use rule_eq::Rule;
-use rule_walks::{Ahead, Walk, Walked, at_once, in_both, joined, leaf, led, one, unchanged};
+use rule_walks::{Ahead, Walked, at_once, in_both, joined, leaf, led, one, unchanged};
 use std::alloc::{AllocError, Global};
-
-/// What became of a sequence whose first part is tidy.
-#[derive(Drop)]
-pub(crate) enum Followed {
-    /// Its second part is left, after what was done.
-    Goes(Descent, Ahead),
-    /// It is tidy.
-    Ends(Descent, Walked),
-}
 
 /// A program made tidy, where these names are in scope and these facts are known. It goes along
 /// sequences by loops, since a text may have long ones.
@@ -68,7 +64,7 @@ pub(crate) fn polished<'x>(
     let mut rest = m;
     'along: loop {
         let Some(it) = split(rest) else {
-            let last = single_behind(alloc, unit, &*scope, &*facts, &down.parts, rest)?;
+            let last = single(alloc, unit, &*scope, &*facts, &down.parts, rest)?;
             let last = joined(alloc, ahead, last)?;
             return climbed(alloc, unit, &*scope, &*facts, down, last);
         };
@@ -104,8 +100,9 @@ fn polished_behind<'x>(
     polished(alloc, unit, &inner, &known, m)
 }
 
+// The same of a program that is no sequence.
 #[cycle(polishing)]
-fn single_behind<'x>(
+fn single<'x>(
     alloc: Global,
     unit: Unit<'_>,
     scope: &'x Scoped<'x>,
@@ -119,30 +116,14 @@ fn single_behind<'x>(
 {
     let inner = Scoped::Behind(&*scope, &*parts);
     let known = facts_behind(&*facts, &*parts)?;
-    single(alloc, unit, &inner, &known, m)
-}
-
-// A program that is no sequence.
-#[cycle(polishing)]
-fn single<'x>(
-    alloc: Global,
-    unit: Unit<'_>,
-    scope: &'x Scoped<'x>,
-    facts: &'x Facts<'x, Passed<'x>>,
-    m: &Mon,
-) -> Result<Walked, AllocError>
-    requires { IsNoBind (mon_of m.now) }
-    ensures { IfOk result (λ p. made_in p
-        ≡ seen (polished (point_in unit.entry scope.now facts.now) (mon_of m.now))) }
-{
-    let new = after_all(alloc, unit, &*scope, &*facts, &*m)?;
+    let new = after_all(alloc, unit, &inner, &known, &*m)?;
     match m {
         Mon::If(_, first, last) => {
             let p = choice(
                 alloc,
                 unit,
-                &*scope,
-                &*facts,
+                &inner,
+                &known,
                 after_steps(&new, m),
                 first,
                 last,
@@ -150,7 +131,7 @@ fn single<'x>(
             behind(alloc, new, p)
         }
         Mon::Loop(_, _, _, body) => {
-            let p = turning(alloc, unit, &*scope, after_steps(&new, m), body)?;
+            let p = turning(alloc, unit, &inner, after_steps(&new, m), body)?;
             behind(alloc, new, p)
         }
         _ => whole(alloc, new, m),
@@ -196,7 +177,10 @@ fn choice<'x>(
 }
 
 // The branch that a constant chooses, and what was done to it.
-fn taken_branch(alloc: Global, own: &Mon, p: Walked) -> Result<Walked, AllocError> {
+fn taken_branch(alloc: Global, own: &Mon, p: Walked) -> Result<Walked, AllocError>
+    ensures { IfOk result (λ q. made_in q
+        ≡ after_before (and_led Nothing (one_walk (leaf IfConst)) (mon_of own.now)) (made_in p)) }
+{
     let tree = leaf(alloc, Rule::IfConst);
     let program = own.copy(alloc)?;
     let ahead = led(alloc, Ahead::Stayed, one(alloc, tree), program)?;
@@ -217,18 +201,10 @@ fn turning<'x>(
         ≡ seen (turning (point fs (setting_in scope.now unit.entry)) (mon_of after.now)
         (λ a. polished a (mon_of body.now)))) }
 {
-    let Some(turn) = body_of(after) else {
+    let Some(turn) = turn_of(after) else {
         return Ok(unchanged(after.copy(alloc)?));
     };
-    let context = Context {
-        layout: unit.layout,
-        globals: unit.globals,
-        scope: &*scope,
-    };
-    let bound = match bindings_of(alloc, &context, turn.starts)? {
-        Some(bound) => bound,
-        None => Vec::new(alloc),
-    };
+    let bound = started(alloc, unit, scope, turn.starts)?;
     let inner = Scoped::Within(&*scope, &bound);
     let names = Names::new();
     let none = Facts::new(unit.layout, unit.globals, &names);
@@ -251,130 +227,88 @@ fn followed<'x>(
     tidy: Walked,
     it: Sequence<'_>,
 ) -> Result<Followed, AllocError>
-    requires even { vec_len down.levels ≡ vec_len down.parts }
-    requires told { AreTold (point_in unit scope.now facts.now) down.parts.items }
-    ensures same { (t : Rules Named) → walk_of t ≡ walk_in tidy.walk → IfOk result (λ f.
-        outcome unit.entry scope.now facts.now (mon_of it.entry.last.now) f
-        ≡ up_from unit.entry scope.now facts.now down (after_before (before_in ahead)
-        (seen (followed polished (λ a. polished a (mon_of it.entry.last.now))
-        (point_behind unit.entry scope.now facts.now down.parts.items) t
-        (mon_of it.entry.first.now) (mon_of tidy.program.value)
-        (map string_bytes it.entry.names.now) (mon_of it.entry.last.now))))) }
-    ensures kept { IfOk result (λ f.
-        IsKept (point_in unit.entry scope.now facts.now) f) }
+    requires { IsKept unit scope.now down }
+    ensures { IfOk result (λ f. let n = mon_of it.entry.last.now in
+        IsFollowed unit.entry scope.now (known_in facts.now) n
+        (up_from unit.entry scope.now (known_in facts.now) down
+        (seen_followed polished (λ a. seen (polished a n))
+        (point_behind unit.entry scope.now facts.now down.parts.items) (before_in ahead)
+        (walk_in tidy.walk) (mon_of it.entry.first.now) (mon_of tidy.program.value)
+        (map string_bytes it.entry.names.now) n))
+        (weight (rebuilt down.parts.items (plain.Bind (mon_of tidy.program.value)
+        (map string_bytes it.entry.names.now) n))) f) }
 {
     let Walked { program, walk } = tidy;
-    let mut down = down;
-    let mut ahead = ahead;
-    let mut walk = walk;
-    let mut raw = it.first;
-    let mut first: &Mon = &program;
-    'turns: loop {
-        match next_behind(&*facts, &down.parts, first, it.names, it.last)? {
-            Next::Enters => {
-                let level = Level {
-                    before: ahead,
-                    walk,
-                };
-                let down = with_part(alloc, unit, &*scope, down, level, first, it.names)?;
-                return Ok(Followed::Goes(down, Ahead::Stayed));
-            }
-            Next::Skips => {
-                let ahead = led_to(
-                    alloc,
-                    ahead,
-                    in_both(alloc, walk, Walk::Stayed)?,
-                    first,
-                    it.names,
-                    it.last,
-                )?;
-                let tree = leaf(alloc, Rule::GuardKnown);
-                let ahead = led(alloc, ahead, one(alloc, tree), it.last.copy(alloc)?)?;
-                return Ok(Followed::Goes(down, ahead));
-            }
-            Next::Stands => {
-                let ahead = led_to(
-                    alloc,
-                    ahead,
-                    in_both(alloc, walk, Walk::Stayed)?,
-                    first,
-                    it.names,
-                    it.last,
-                )?;
-                let p = at_once(alloc, Rule::BindRet, first.copy(alloc)?);
-                let p = joined(alloc, ahead, p)?;
-                return Ok(Followed::Ends(down, p));
-            }
-            Next::Puts(position) => {
-                let ahead = led_to(
-                    alloc,
-                    ahead,
-                    in_both(alloc, walk, Walk::Stayed)?,
-                    first,
-                    it.names,
-                    it.last,
-                )?;
-                let p = put_in_behind(
-                    alloc,
-                    unit,
-                    &*scope,
-                    &*facts,
-                    &down.parts,
-                    first,
-                    position,
-                    it,
-                )?;
-                let p = joined(alloc, ahead, p)?;
-                return Ok(Followed::Ends(down, p));
-            }
-            Next::Turns => {
-                let Some(inner) = split(first) else {
-                    let p = unchanged(copied(alloc, first, it.names, it.last)?);
-                    return Ok(Followed::Ends(down, p));
-                };
-                let part = parted(walk, raw, inner.last);
-                let level = turned_level(alloc, ahead, part.before, inner, part.second, it)?;
-                down = with_part(alloc, unit, &*scope, down, level, inner.first, inner.names)?;
-                ahead = Ahead::Stayed;
-                walk = part.walk;
-                raw = part.second;
-                first = inner.last;
-            }
-        }
-    }
+    let here = Here {
+        down,
+        ahead,
+        walk,
+        raw: it.first,
+        first: &program,
+    };
+    let Bottom { here, next } = to_bottom(alloc, unit, &*scope, &*facts, here, it)?;
+    at_bottom(alloc, unit, &*scope, &*facts, here, next, it)
 }
 
-// What is done next behind parts that were passed.
-fn next_behind<'x>(
-    facts: &'x Facts<'x, Passed<'x>>,
-    parts: &'x [PassedPart],
-    first: &Mon,
-    names: &[String],
-    rest: &Mon,
-) -> Result<Next, AllocError> {
-    let known = facts_behind(facts, parts)?;
-    Ok(next_of(&known, first, names, rest))
-}
-
-// A descent, and a sequence more with this first part.
-fn with_part<'x>(
+// The same where this is done next.
+#[cycle(polishing)]
+fn at_bottom<'x>(
     alloc: Global,
     unit: Unit<'_>,
     scope: &'x Scoped<'x>,
-    down: Descent,
-    level: Level,
-    first: &Mon,
-    names: &[String],
-) -> Result<Descent, AllocError> {
-    let scalars = scalars_bound(alloc, unit, &*scope, &down.parts, first, names)?;
-    let first = first.copy(alloc)?;
-    let names = copy_names(alloc, names)?;
-    let part = PassedPart {
+    facts: &'x Facts<'x, Passed<'x>>,
+    here: Here<'_>,
+    next: Next,
+    it: Sequence<'_>,
+) -> Result<Followed, AllocError>
+    requires { IsKept unit scope.now here.down }
+    ensures { IfOk result (λ f. let n = mon_of it.entry.last.now in
+        let xs = map string_bytes it.entry.names.now in
+        IsFollowed unit.entry scope.now (known_in facts.now) n
+        (ending unit.entry scope.now (known_in facts.now) xs n here.entry (next_in next))
+        (heavy xs n here.entry) f) }
+{
+    let Here {
+        down,
+        ahead,
+        walk,
+        raw: _,
         first,
-        names,
-        scalars,
-    };
-    entered(down, level, part)
+    } = here;
+    match next {
+        Next::Enters => {
+            let level = Level {
+                before: ahead,
+                walk,
+            };
+            let down = with_part(alloc, unit, &*scope, down, level, first, it.names)?;
+            Ok(Followed::Goes(down, Ahead::Stayed))
+        }
+        Next::Skips => {
+            let ahead = led_past(alloc, ahead, walk, first, it)?;
+            Ok(Followed::Goes(down, ahead))
+        }
+        Next::Stands => {
+            let p = first_alone(alloc, ahead, walk, first, it)?;
+            Ok(Followed::Ends(down, p))
+        }
+        Next::Puts(position) => {
+            let ahead = led_whole(alloc, ahead, walk, first, it)?;
+            let p = put_in(
+                alloc,
+                unit,
+                &*scope,
+                &*facts,
+                &down.parts,
+                first,
+                position,
+                it.names,
+                it.last,
+            )?;
+            let p = joined(alloc, ahead, p)?;
+            Ok(Followed::Ends(down, p))
+        }
+    }
 }
 
 // Up to the top of a descent.
@@ -387,10 +321,9 @@ fn climbed<'x>(
     down: Descent,
     last: Walked,
 ) -> Result<Walked, AllocError>
-    requires even { vec_len down.levels ≡ vec_len down.parts }
-    requires told { AreTold (point_in unit scope.now facts.now) down.parts.items }
+    requires { IsKept unit scope.now down }
     ensures { IfOk result (λ p. made_in p
-        ≡ up_from unit.entry scope.now facts.now down (made_in last)) }
+        ≡ up_from unit.entry scope.now (known_in facts.now) down (made_in last)) }
 {
     let Descent {
         mut levels,
@@ -439,9 +372,9 @@ fn raised<'x>(
         return joined(alloc, before, Walked { program, walk });
     }
     let before = led_to(alloc, before, walk, &first, &names, &rest)?;
-    let inner = Scoped::Behind(&*scope, &*parts);
-    let known = facts_behind(&*facts, &*parts)?;
-    let p = stepped(alloc, unit, &inner, &known, next, first, &names, rest)?;
+    let p = stepped(
+        alloc, unit, &*scope, &*facts, &*parts, next, first, &names, rest,
+    )?;
     joined(alloc, before, p)
 }
 
@@ -452,14 +385,16 @@ fn stepped<'x>(
     unit: Unit<'_>,
     scope: &'x Scoped<'x>,
     facts: &'x Facts<'x, Passed<'x>>,
+    parts: &'x [PassedPart],
     next: Settling,
     first: Box<Mon>,
     names: &[String],
     rest: Box<Mon>,
 ) -> Result<Walked, AllocError>
     ensures { IfOk result (λ p. made_in p
-        ≡ seen (stepped polished (point_in unit.entry scope.now facts.now) (settling_in next)
-        (mon_of first.value) (map string_bytes names.now) (mon_of rest.value))) }
+        ≡ seen (stepped polished (point_behind unit.entry scope.now facts.now parts.now)
+        (settling_in next) (mon_of first.value) (map string_bytes names.now)
+        (mon_of rest.value))) }
 {
     match next {
         Settling::Stays => Ok(unchanged(copied(alloc, &first, names, &rest)?)),
@@ -468,10 +403,17 @@ fn stepped<'x>(
             let bound = bound_by(first, names, rest);
             Ok(at_once(alloc, Rule::BindRet, bound))
         }
-        Settling::Turns => turned(alloc, unit, &*scope, &*facts, &first, names, &rest),
+        Settling::Turns => match split(&first) {
+            Some(inner) => {
+                turned(
+                    alloc, unit, &*scope, &*facts, &*parts, inner, names, &rest,
+                )
+            }
+            None => Ok(unchanged(copied(alloc, &first, names, &rest)?)),
+        },
         Settling::Puts(position) => {
             put_in(
-                alloc, unit, &*scope, &*facts, &first, position, names, &rest,
+                alloc, unit, &*scope, &*facts, &*parts, &first, position, names, &rest,
             )
         }
     }
@@ -497,70 +439,39 @@ fn turned<'x>(
     unit: Unit<'_>,
     scope: &'x Scoped<'x>,
     facts: &'x Facts<'x, Passed<'x>>,
-    first: &Mon,
+    parts: &'x [PassedPart],
+    inner: Sequence<'_>,
     names: &[String],
     rest: &Mon,
 ) -> Result<Walked, AllocError>
-    requires { settling_of (mon_of first.now) (map string_bytes names.now) (mon_of rest.now)
-        ≡ Turns }
-    ensures { IfOk result (λ p. made_in p
-        ≡ seen (stepped polished (point_in unit.entry scope.now facts.now) Turns
-        (mon_of first.now) (map string_bytes names.now) (mon_of rest.now))) }
+    ensures { IfOk result (λ p.
+        let at = point_behind unit.entry scope.now facts.now parts.now in
+        let a = mon_of inner.entry.first.now in
+        let zs = map string_bytes inner.entry.names.now in
+        let b = mon_of inner.entry.last.now in
+        let xs = map string_bytes names.now in
+        let n = mon_of rest.now in
+        made_in p ≡ seen (turned a zs b xs n (bound polished (behind a zs at) b xs n)
+        (λ r. bound polished at a zs r))) }
 {
-    let levels = Vec::new(alloc);
-    let parts = Vec::new(alloc);
-    let mut down = Descent { levels, parts };
-    let mut tidy = first;
-    'down: while let Some(inner) = to_turn(tidy, names, rest) {
-        let level = assoc_level(alloc, Ahead::Stayed, inner, inner.last, names, rest)?;
-        down = with_part(alloc, unit, &*scope, down, level, inner.first, inner.names)?;
-        tidy = inner.last;
-    }
-    let next = settling_of(tidy, names, rest);
-    let last = tidy.copy(alloc)?;
-    let behind = rest.copy(alloc)?;
-    let p = stepped_behind(
+    let outer = Scoped::Behind(&*scope, &*parts);
+    let known = facts_behind(&*facts, &*parts)?;
+    let Turned { down, first } = turned_down(alloc, unit, &outer, inner, names, rest)?;
+    let next = settling_of(first, names, rest);
+    let first = first.copy(alloc)?;
+    let last = rest.copy(alloc)?;
+    let p = stepped(
         alloc,
         unit,
-        &*scope,
-        &*facts,
+        &outer,
+        &known,
         &down.parts,
         next,
-        last,
+        first,
         names,
-        behind,
+        last,
     )?;
-    climbed(alloc, unit, &*scope, &*facts, down, p)
-}
-
-// The sequence in first place, where it is turned.
-fn to_turn<'a>(first: &'a Mon, names: &[String], rest: &Mon) -> Option<Sequence<'a>> {
-    match settling_of(first, names, rest) {
-        Settling::Turns => split(first),
-        _ => None,
-    }
-}
-
-#[cycle(polishing)]
-fn stepped_behind<'x>(
-    alloc: Global,
-    unit: Unit<'_>,
-    scope: &'x Scoped<'x>,
-    facts: &'x Facts<'x, Passed<'x>>,
-    parts: &'x [PassedPart],
-    next: Settling,
-    first: Box<Mon>,
-    names: &[String],
-    rest: Box<Mon>,
-) -> Result<Walked, AllocError>
-    ensures { IfOk result (λ p. made_in p
-        ≡ seen (stepped polished (point_behind unit.entry scope.now facts.now parts.now)
-        (settling_in next) (mon_of first.value) (map string_bytes names.now)
-        (mon_of rest.value))) }
-{
-    let inner = Scoped::Behind(&*scope, &*parts);
-    let known = facts_behind(&*facts, &*parts)?;
-    stepped(alloc, unit, &inner, &known, next, first, names, rest)
+    climbed(alloc, unit, &outer, &known, down, p)
 }
 
 // A sequence whose value at the position is put in, and made tidy.
@@ -570,14 +481,15 @@ fn put_in<'x>(
     unit: Unit<'_>,
     scope: &'x Scoped<'x>,
     facts: &'x Facts<'x, Passed<'x>>,
+    parts: &'x [PassedPart],
     first: &Mon,
     position: usize,
     names: &[String],
     rest: &Mon,
 ) -> Result<Walked, AllocError>
     ensures { IfOk result (λ p. made_in p
-        ≡ seen (stepped polished (point_in unit.entry scope.now facts.now) (Puts position)
-        (mon_of first.now) (map string_bytes names.now) (mon_of rest.now))) }
+        ≡ seen (stepped polished (point_behind unit.entry scope.now facts.now parts.now)
+        (Puts position) (mon_of first.now) (map string_bytes names.now) (mon_of rest.now))) }
 {
     let Some(program) = put_at(alloc, first, position, names, rest)? else {
         return Ok(unchanged(copied(alloc, first, names, rest)?));
@@ -585,31 +497,8 @@ fn put_in<'x>(
     let Ok(position) = u32::try_from(position) else {
         return Err(AllocError);
     };
-    let p = polished(alloc, unit, &*scope, &*facts, &program)?;
+    let p = polished_behind(alloc, unit, &*scope, &*facts, &*parts, &program)?;
     let tree = leaf(alloc, Rule::RetOne(position));
     let ahead = led(alloc, Ahead::Stayed, one(alloc, tree), program)?;
     joined(alloc, ahead, p)
-}
-
-#[cycle(polishing)]
-fn put_in_behind<'x>(
-    alloc: Global,
-    unit: Unit<'_>,
-    scope: &'x Scoped<'x>,
-    facts: &'x Facts<'x, Passed<'x>>,
-    parts: &'x [PassedPart],
-    first: &Mon,
-    position: usize,
-    it: Sequence<'_>,
-) -> Result<Walked, AllocError>
-    ensures { IfOk result (λ p. made_in p
-        ≡ seen (stepped polished (point_behind unit.entry scope.now facts.now parts.now)
-        (Puts position) (mon_of first.now) (map string_bytes it.entry.names.now)
-        (mon_of it.entry.last.now))) }
-{
-    let inner = Scoped::Behind(&*scope, &*parts);
-    let known = facts_behind(&*facts, &*parts)?;
-    put_in(
-        alloc, unit, &inner, &known, first, position, it.names, it.last,
-    )
 }

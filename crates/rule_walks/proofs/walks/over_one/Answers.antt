@@ -1,0 +1,9 @@
+use Rattle.std.proofs.Common.{rules, ◌≡◌, [], ◌∷◌}
+use Rattle.rule_trees.proofs.Parts.{made}
+use Rattle.rule_eq.specs.CodeRule.{rule_of}
+use Rattle.rule_walks.proofs.walks.over_one.Goals as goal
+
+pub returns : goal.returns
+returns c =
+    let items : c.push.new.self.items ≡ c.args.part ∷ [] = search rules in
+    made rule_of (record { rule = c.args.rule; parts = c.push.new.self }) (c.args.part ∷ []) items
