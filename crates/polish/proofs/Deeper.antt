@@ -12,7 +12,7 @@ use Rattle.monad_lang.specs.Sorted.{Setting, setting_with, scalars_given}
 use Rattle.program_facts.specs.Flow.{facts_after}
 use Rattle.rule_eq.specs.Rule.{Point}
 use Rattle.rule_eq.specs.Table.{point, behind}
-use Rattle.rule_walks.specs.Walk.{Walked}
+use Rattle.rule_walks.specs.Walk.{Walk, Walked, Before}
 use Rattle.expression_steps.specs.declared.points.Scoped as N
 use Rattle.expression_steps.specs.declared.points.PassedPart as Q
 use Rattle.expression_steps.specs.CodePoint.{names_in, names_behind, facts_behind}
@@ -23,9 +23,10 @@ use Rattle.polish.specs.declared.descent.Descent as D
 use Rattle.polish.specs.Polished.{polished}
 use Rattle.polish.specs.Weight.{weight}
 use Rattle.polish.specs.Descent.{Stage, below, seen_raised, seen_climbed}
-use Rattle.polish.specs.CodeDescent.{setting_past, point_past, stage_in, stages_in, kept_names, given_names, AreTold, IsKept, up_from, rebuilt, IsDeeper}
+use Rattle.polish.specs.CodeDescent.{setting_past, point_past, stage_in, stages_in, kept_names, given_names, AreTold, IsKept, up_from, rebuilt, IsDeeper, IsClimbed}
 use Rattle.polish.specs.SeenFollowed.{stage}
 use Rattle.polish.proofs.Descending.{below_push, climbed_push}
+use Rattle.polish.proofs.Lightened.{raised_lighter}
 
 facts_push : (ps : List Q.PassedPart) (p : Q.PassedPart) (fs : List Fact) →
     facts_behind (ps ++ p ∷ []) fs ≡ facts_after (mon_of p.first.value) (map string_bytes p.names.items) (facts_behind ps fs)
@@ -124,33 +125,63 @@ module _ (u : U.Unit) (scope : N.Scoped) where
         whole = λ r. ap (λ ps. rebuilt ps r) g ∙ rebuilt_push d.parts.items p r;
       })
 
-  -- one stage back up
-  pub record IsHigher (fs : List Fact) (vs : List L.Level) (ps : List Q.PassedPart) (v : L.Level) (p : Q.PassedPart)
-      (ws : List L.Level) (qs : List Q.PassedPart) : Type 0 where
-    pub even : length vs ≡ length ps
-    pub told : AreTold (setting_in scope u) ps
-    pub climbs : (s : Walked) →
-        seen_climbed polished (point_past u scope fs []) (stages_in ws qs) s
-        ≡ seen_climbed polished (point_past u scope fs []) (stages_in vs ps)
-        (seen_raised polished (point_past u scope fs ps) (stage_in v p) s)
-    pub whole : (m : Mon) → rebuilt qs m ≡ rebuilt ps (M.Bind (mon_of p.first.value) (map string_bytes p.names.items) m)
+  pub same_stage : (d e : D.Descent) (b c : Before) (w v : Walk) (m : Mon) (xs : List Name) → b ≡ c → w ≡ v →
+      IsDeeper u scope d (stage b w m xs) e → IsDeeper u scope d (stage c v m xs) e
+  same_stage d e b c w v m xs f g i = subst (λ s. IsDeeper u scope d s e) (ap₂ (λ p q. stage p q m xs) f g) i
 
-  pub one_higher : (fs : List Fact) (vs : List L.Level) (ps : List Q.PassedPart) (v : L.Level) (p : Q.PassedPart)
-      (ws : List L.Level) (qs : List Q.PassedPart) → ws ≡ vs ++ v ∷ [] → qs ≡ ps ++ p ∷ [] → length ws ≡ length qs →
-      AreTold (setting_in scope u) qs → IsHigher fs vs ps v p ws qs
-  one_higher fs vs ps v p ws qs f g e h =
-      let even : length vs ≡ length ps =
-          omega (arith, length_more vs v, length_more ps p, e, ap length f, ap length g) in
-      let told : AreTold (setting_in scope u) ps =
-          told_front u ps p (λ x. names_in scope x) (subst (λ q. AreTold (setting_in scope u) q) g h) in
-      record {
-        even = even;
-        told = told;
-        climbs = λ s.
-        ap₂ (λ a b. seen_climbed polished (point_past u scope fs []) (stages_in a b) s) f g
-        ∙ climbs_push vs v ps p fs s even told;
-        whole = λ m. ap (λ q. rebuilt q m) g ∙ rebuilt_push ps p m;
-      }
+-- Back up
+
+module _ (u : U.Unit) (scope : N.Scoped) (fs : List Fact) (d : D.Descent) (s : Walked) where
+  pub at_the_bottom : IsKept u scope d → IsClimbed u scope fs d s d.levels.items d.parts.items s
+  at_the_bottom k = record { even = k.even; told = k.told; same = refl; lighter = omega arith }
+
+  pub at_the_top : (vs : List L.Level) (ps : List Q.PassedPart) (q : Walked) → ps ≡ [] → IsClimbed u scope fs d s vs ps q →
+      q ≡ up_from u scope fs d s
+  at_the_top [] [] q e c = c.same
+  at_the_top (v ∷ vs) [] q e c = absurd (omega (arith, c.even))
+  at_the_top vs (p ∷ ps) q e c = absurd cc
+
+  module _ (vs : List L.Level) (v : L.Level) (ps : List Q.PassedPart) (p : Q.PassedPart) (ws : List L.Level)
+      (qs : List Q.PassedPart) (q : Walked) (g : qs ≡ ps ++ p ∷ []) (c : IsClimbed u scope fs d s ws qs q) where
+    pub no_level : ws ≡ [] → ⊥
+    no_level f = omega (arith, c.even, ap length f, ap length g, length_more ps p)
+
+    pub part_lighter : weight (M.Bind (mon_of p.first.value) (map string_bytes p.names.items) q.program)
+        ≤ weight (rebuilt d.parts.items s.program)
+    part_lighter =
+        omega (
+          arith,
+          c.lighter,
+          ap (λ r. weight (rebuilt r q.program)) g,
+          ap weight (rebuilt_push ps p q.program),
+          at_bottom_lighter ps (M.Bind (mon_of p.first.value) (map string_bytes p.names.items) q.program),
+        )
+
+    pub one_higher : ws ≡ vs ++ v ∷ [] → (r : Walked) → r ≡ seen_raised polished (point_past u scope fs ps) (stage_in v p) q →
+        IsClimbed u scope fs d s vs ps r
+    one_higher f r e =
+        let even : length vs ≡ length ps =
+            omega (arith, length_more vs v, length_more ps p, c.even, ap length f, ap length g) in
+        let told : AreTold (setting_in scope u) ps =
+            told_front u ps p (λ x. names_in scope x) (subst (λ q. AreTold (setting_in scope u) q) g c.told) in
+        record {
+          even = even;
+          told = told;
+          same =
+          ap (λ a. seen_climbed polished (point_past u scope fs []) (stages_in vs ps) a) e
+          ∙ sym (climbs_push u scope vs v ps p fs q even told)
+          ∙ sym (ap₂ (λ a b. seen_climbed polished (point_past u scope fs []) (stages_in a b) q) f g)
+          ∙ c.same;
+          lighter =
+          omega (
+            arith,
+            c.lighter,
+            ap (λ r. weight (rebuilt r q.program)) g,
+            ap weight (rebuilt_push ps p q.program),
+            rebuilt_lighter ps r.program (M.Bind (mon_of p.first.value) (map string_bytes p.names.items) q.program)
+            (omega (arith, ap (λ a. weight a.program) e, raised_lighter (point_past u scope fs ps) (stage_in v p) q)),
+          );
+        }
 
 pub no_names : (ss rs : List Scalar) (t : Setting) → setting_with [] ss t ≡ setting_with [] rs t
 no_names ss rs t = refl

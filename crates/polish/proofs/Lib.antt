@@ -36,3 +36,4 @@ pub mod Lightened
 pub mod Deeper
 pub mod Parting
 pub mod Starting
+pub mod Onward

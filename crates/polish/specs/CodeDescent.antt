@@ -1,5 +1,5 @@
 -- What the code keeps of the loops down a program, and the points there.
-use Rattle.std.specs.Prelude.{◌≡◌, List, [], ◌∷◌, map, length, string_bytes, unwrap_or}
+use Rattle.std.specs.Prelude.{◌≡◌, ◌≤◌, List, [], ◌∷◌, map, length, string_bytes, unwrap_or}
 use Rattle.ac_expr.specs.Fact.{Fact}
 use Rattle.ac_expr.specs.declared.chain.Facts as F
 use Rattle.expression_lang.specs.CodeSort.{scalar_of}
@@ -20,6 +20,7 @@ use Rattle.given_scalars.specs.CodeScalars.{setting_over, setting_in}
 use Rattle.polish.specs.declared.descent.Level as L
 use Rattle.polish.specs.declared.descent.Descent as D
 use Rattle.polish.specs.Polished.{polished}
+use Rattle.polish.specs.Weight.{weight}
 use Rattle.polish.specs.Descent.{Stage, seen_raised, seen_climbed}
 
 -- behind parts that were passed
@@ -80,3 +81,11 @@ pub record IsDeeper (u : U.Unit) (scope : N.Scoped) (d : D.Descent) (v : Stage) 
   pub climbs : (fs : List Fact) (s : Walked) →
       up_from u scope fs e s ≡ up_from u scope fs d (seen_raised polished (point_past u scope fs d.parts.items) v s)
   pub whole : (m : Mon) → rebuilt e.parts.items m ≡ rebuilt d.parts.items (M.Bind v.first v.names m)
+
+-- a descent that was climbed up to these levels and parts, with this made of what was at its bottom
+pub record IsClimbed (u : U.Unit) (scope : N.Scoped) (fs : List Fact) (d : D.Descent) (s : Walked) (vs : List L.Level)
+    (ps : List Q.PassedPart) (q : Walked) : Type 0 where
+  pub even : length vs ≡ length ps
+  pub told : AreTold (setting_in scope u) ps
+  pub same : seen_climbed polished (point_past u scope fs []) (stages_in vs ps) q ≡ up_from u scope fs d s
+  pub lighter : weight (rebuilt ps q.program) ≤ weight (rebuilt d.parts.items s.program)

@@ -6,7 +6,7 @@ use Rattle.monad_lang.specs.Program as M
 use Rattle.monad_lang.specs.Program.{Mon}
 use Rattle.monad_lang.specs.CodeProgram.{mon_of}
 use Rattle.rule_eq.specs.Table.{behind}
-use Rattle.rule_walks.specs.Walk.{Walked, after_before}
+use Rattle.rule_walks.specs.Walk.{Walked, Before, after_before}
 use Rattle.rule_walks.specs.CodeWalks.{walk_in, before_in, made_in}
 use Rattle.expression_steps.specs.declared.points.Scoped as N
 use Rattle.given_scalars.specs.declared.unit.Unit as U
@@ -14,7 +14,6 @@ use Rattle.polish.specs.declared.descent.Descent as D
 use Rattle.polish.specs.declared.following.Here as H
 use Rattle.polish.specs.declared.following.Bottom as B
 use Rattle.polish.specs.declared.following.Followed as W
-use Rattle.polish.specs.declared.turning.Turned as T
 use Rattle.polish.specs.Polished.{bound, polished, turned}
 use Rattle.polish.specs.Climbed.{Next}
 use Rattle.polish.specs.Seen.{seen}
@@ -77,12 +76,19 @@ pub record IsFollowed (u : U.Unit) (scope : N.Scoped) (fs : List Fact) (n : Mon)
   pub lighter : weight (left n f) ≤ most
 
 -- A sequence in first place, of these parts, is turned, and so are those in first place of what is left.
-pub record IsTurned (u : U.Unit) (scope : N.Scoped) (xs : List Name) (n : Mon) (a : Mon) (zs : List Name) (c : Mon) (t : T.Turned)
-    : Type 0 where
-  pub kept : IsKept u scope t.down
+pub record IsTurned (u : U.Unit) (scope : N.Scoped) (xs : List Name) (n : Mon) (a : Mon) (zs : List Name) (c : Mon) (d : D.Descent)
+    (m : Mon) : Type 0 where
+  pub kept : IsKept u scope d
   pub same : (fs : List Fact) →
-      up_from u scope fs t.down (seen (bound polished (point_past u scope fs t.down.parts.items) (mon_of t.first.now) xs n))
+      up_from u scope fs d (seen (bound polished (point_past u scope fs d.parts.items) m xs n))
       ≡ seen
       (turned a zs c xs n (bound polished (behind a zs (point_past u scope fs [])) c xs n)
       (λ r. bound polished (point_past u scope fs []) a zs r))
-  pub lighter : weight (rebuilt t.down.parts.items (M.Bind (mon_of t.first.now) xs n)) < weight (M.Bind (M.Bind a zs c) xs n)
+  pub lighter : weight (rebuilt d.parts.items (M.Bind m xs n)) < weight (M.Bind (M.Bind a zs c) xs n)
+
+-- What is left of a program, after what was done before.
+pub record IsOnward (u : U.Unit) (scope : N.Scoped) (fs : List Fact) (m : Mon) (d : D.Descent) (b : Before) (r : Mon) : Type 0 where
+  pub kept : IsKept u scope d
+  pub same : up_from u scope fs d (after_before b (seen (polished (point_past u scope fs d.parts.items) r)))
+      ≡ seen (polished (point_past u scope fs []) m)
+  pub lighter : weight (rebuilt d.parts.items r) ≤ weight m

@@ -58,7 +58,7 @@ pub(crate) fn turned_down<'a, 'x>(
 ) -> Result<Turned<'a>, AllocError>
     ensures { IfOk result (λ t. IsTurned unit.entry scope.now (map string_bytes names.now)
         (mon_of rest.now) (mon_of inner.entry.first.now) (map string_bytes inner.entry.names.now)
-        (mon_of inner.entry.last.now) t) }
+        (mon_of inner.entry.last.now) t.down (mon_of t.first.now)) }
 {
     let levels = Vec::new(alloc);
     let parts = Vec::new(alloc);

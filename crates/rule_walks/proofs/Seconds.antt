@@ -16,15 +16,19 @@ pub inner_second : (k : ℕ) (t : Tree Rule) → second_trees k (second_tree t) 
 inner_second zero t = refl
 inner_second (suc k) t = ap second_tree (inner_second k t)
 
+-- one less outside, and one more inside
+pub around : (k j : ℕ) (t : Tree Rule) → suc j ≡ k → second_trees j (second_tree t) ≡ second_trees k t
+around k j t e = inner_second j t ∙ ap (λ i. second_trees i t) e
+
 pub seconds_go : (k : ℕ) (c : Chain) → has_stayed (seconds k (Goes c)) ≡ false
 seconds_go zero c = refl
 seconds_go (suc k) c = refl
 
-pub here_single : (k : ℕ) (n : ℕ) (c : Chain) (t u : Tree Rule) → k ≡ suc n → t ≡ built c → u ≡ second_trees k t →
+pub here_single : (k : ℕ) (c : Chain) (t u : Tree Rule) → (k ≡ 0 → ⊥) → t ≡ built c → u ≡ second_trees k t →
     single u ≡ steps_in (seconds k (Goes c))
-here_single k n c t u e h i =
-    ap single (i ∙ ap (second_trees k) h ∙ ap (λ j. second_trees j (built c)) e)
-    ∙ ap (λ t. single (second_tree t)) (sym (seconds_built n c)) ∙ ap (λ j. steps_in (seconds j (Goes c))) (sym e)
+here_single zero c t u e h i = absurd (e refl)
+here_single (suc n) c t u e h i =
+    ap single (i ∙ ap (second_trees (suc n)) h) ∙ ap (λ t. single (second_tree t)) (sym (seconds_built n c))
 
 pub here_whole : (c : Chain) (k : ℕ) → k ≡ 0 → c ≡ steps_in (seconds k (Goes c))
 here_whole c k e = ap (λ j. steps_in (seconds j (Goes c))) (sym e)

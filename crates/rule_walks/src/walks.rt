@@ -110,7 +110,7 @@ fn joined_step(alloc: Global, first: Step, second: Step) -> Result<Step, AllocEr
 }
 
 // Each two that come one after the other, as one.
-#[tactic(auto, using(crate::proofs::StepLists::with_steps_push))]
+#[tactic(auto, using(crate::proofs::StepLists::waits, crate::proofs::StepLists::pairs))]
 fn paired(alloc: Global, chain: Chain) -> Result<Chain, AllocError>
     ensures { IfOk result (λ new. chain_in new ≡ paired (chain_in chain)) }
 {
@@ -132,7 +132,7 @@ fn paired(alloc: Global, chain: Chain) -> Result<Chain, AllocError>
     }
 }
 
-#[tactic(auto, using(crate::proofs::Rounds::built_paired, crate::proofs::Rounds::links_paired))]
+#[tactic(auto, using(crate::proofs::StepLists::round_same, crate::proofs::StepLists::round_fewer))]
 fn as_one(alloc: Global, chain: Chain) -> Result<Tree<Rule>, AllocError>
     ensures { IfOk result (λ t. tree_of t ≡ built (chain_in chain)) }
 {
@@ -145,7 +145,7 @@ fn as_one(alloc: Global, chain: Chain) -> Result<Tree<Rule>, AllocError>
 }
 
 // A tree in the second part of a second part, and so on, so many times.
-#[tactic(auto, using(crate::proofs::Seconds::inner_second))]
+#[tactic(auto, using(crate::proofs::Seconds::around))]
 fn wrapped(alloc: Global, tree: Tree<Rule>, count: u32) -> Result<Tree<Rule>, AllocError>
     ensures { IfOk result (λ t. tree_of t ≡ second_trees count (tree_of tree)) }
 {
@@ -203,7 +203,7 @@ pub fn one(alloc: Global, tree: Tree<Rule>) -> Walk
 }
 
 /// A chain, and then another one.
-#[tactic(auto, using(crate::proofs::StepLists::with_steps_push, crate::proofs::StepLists::with_steps_on, crate::proofs::StepLists::chained_steps))]
+#[tactic(auto, using(crate::proofs::StepLists::chained_made))]
 pub fn chained(first: Chain, program: Box<Mon>, then: Chain) -> Result<Chain, AllocError>
     ensures { IfOk result (λ new. chain_in new
         ≡ chained (chain_in first) (mon_of program.value) (chain_in then)) }
