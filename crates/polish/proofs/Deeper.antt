@@ -125,6 +125,12 @@ module _ (u : U.Unit) (scope : N.Scoped) where
         whole = λ r. ap (λ ps. rebuilt ps r) g ∙ rebuilt_push d.parts.items p r;
       })
 
+  pub none_kept : (d : D.Descent) → d.levels.items ≡ [] → d.parts.items ≡ [] → IsKept u scope d
+  none_kept d f g = record {
+    even = ap length f ∙ sym (ap length g);
+    told = subst (λ ps. AreTold (setting_in scope u) ps) (sym g) tt;
+  }
+
   pub same_stage : (d e : D.Descent) (b c : Before) (w v : Walk) (m : Mon) (xs : List Name) → b ≡ c → w ≡ v →
       IsDeeper u scope d (stage b w m xs) e → IsDeeper u scope d (stage c v m xs) e
   same_stage d e b c w v m xs f g i = subst (λ s. IsDeeper u scope d s e) (ap₂ (λ p q. stage p q m xs) f g) i

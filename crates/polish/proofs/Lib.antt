@@ -37,3 +37,7 @@ pub mod Deeper
 pub mod Parting
 pub mod Starting
 pub mod Onward
+pub mod Passed
+pub mod Passing
+pub mod Rewriting
+pub mod Made

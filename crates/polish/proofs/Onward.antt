@@ -39,7 +39,7 @@ use Rattle.polish.proofs.Descending.{turned_seen}
 use Rattle.polish.proofs.Following.{followed_seen, turned_down, bottom_there}
 use Rattle.polish.proofs.Weighed.{sequence_lighter, polished_lighter}
 use Rattle.polish.proofs.Lightened.{program_after, puts_lighter}
-use Rattle.polish.proofs.Deeper.{rebuilt_lighter, at_bottom_lighter}
+use Rattle.polish.proofs.Deeper.{rebuilt_lighter, at_bottom_lighter, none_kept}
 
 module _ (u : U.Unit) (scope : N.Scoped) where
   -- Down a sequence whose first part is tidy
@@ -317,10 +317,9 @@ module _ (u : U.Unit) (scope : N.Scoped) where
   -- Along a program
 
   module _ (fs : List Fact) (m : Mon) where
-    pub onward_first : (d : D.Descent) → d.levels.items ≡ [] → d.parts.items ≡ [] → IsKept u scope d →
-        IsOnward u scope fs m d Nothing m
-    onward_first d f g k = record {
-      kept = k;
+    pub onward_first : (d : D.Descent) → d.levels.items ≡ [] → d.parts.items ≡ [] → IsOnward u scope fs m d Nothing m
+    onward_first d f g = record {
+      kept = none_kept u scope d f g;
       same = nothing_passed d.levels.items d.parts.items f g;
       lighter = omega (arith, ap (λ ps. weight (rebuilt ps m)) g);
     }

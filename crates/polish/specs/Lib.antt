@@ -17,4 +17,5 @@ pub mod Weight
 pub mod Parts
 pub mod SeenFollowed
 pub mod Branches
+pub mod Passing
 pub mod CodeBranches

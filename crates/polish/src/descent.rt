@@ -55,6 +55,7 @@ pub(crate) fn copied(
 
 /// What was done before, and then a walk to a sequence of these parts. It is copied only where
 /// something was done.
+#[tactic(auto, using(rule_walks::proofs::Seconds::led_stays))]
 pub(crate) fn led_to(
     alloc: Global,
     ahead: Ahead,
@@ -141,6 +142,7 @@ fn part_behind<'x>(
 }
 
 /// A descent that has come past this first part.
+#[tactic(auto, using(crate::proofs::Deeper::one_deeper))]
 pub(crate) fn with_part<'x>(
     alloc: Global,
     unit: Unit<'_>,
@@ -169,6 +171,7 @@ pub(crate) struct Parted<'a> {
 }
 
 /// All of it before, but where the walk goes to the second part alone.
+#[tactic(auto, using(crate::proofs::Parting::none_parted, crate::proofs::Parting::first_parted, crate::proofs::Parting::second_parted, crate::proofs::Parting::other_parted))]
 pub(crate) fn parted<'a>(walk: Walk, raw: &'a Mon, tidy: &'a Mon) -> Parted<'a>
     ensures { parted_in result
         ≡ seen_parted (walk_in walk) (mon_of raw.now) (mon_of tidy.now) }
@@ -256,6 +259,7 @@ pub(crate) fn turned_level(
 }
 
 // What was done before, and then a walk to a sequence whose first part is a sequence.
+#[tactic(auto, using(rule_walks::proofs::Seconds::led_stays))]
 fn led_to_inner(
     alloc: Global,
     ahead: Ahead,

@@ -52,6 +52,7 @@ pub(crate) struct Bottom<'a> {
 }
 
 // The place after the sequence in first place is turned.
+#[tactic(auto, using(crate::proofs::Onward::turned_by))]
 fn turned_once<'a, 'x>(
     alloc: Global,
     unit: Unit<'_>,
@@ -93,6 +94,7 @@ fn turned_once<'a, 'x>(
 }
 
 /// Down, as long as the sequence in first place is turned.
+#[tactic(auto, using(crate::proofs::Onward::here_first, crate::proofs::Onward::and_further, crate::proofs::Onward::bottom_reached))]
 pub(crate) fn to_bottom<'a, 'x>(
     alloc: Global,
     unit: Unit<'_>,

@@ -15,24 +15,23 @@ use std::alloc::{AllocError, Global};
 use value_putting::{can_be_put, put};
 
 /// The first position whose value can be put in.
-#[tactic(auto, using(crate::proofs::FirstPut::put_begun, crate::proofs::FirstPut::put_here, crate::proofs::FirstPut::put_next))]
+#[tactic(auto, using(crate::proofs::Passing::put_first, crate::proofs::Passing::put_none, crate::proofs::Passing::put_no_name, crate::proofs::Passing::put_found, crate::proofs::Passing::put_further, crate::proofs::Passed::fewer_left))]
 pub(crate) fn first_put(values: &[Exp], names: &[String], rest: &Mon) -> Option<usize>
     ensures { result ≡ first_put [] (map exp_of values.now) (map string_bytes names.now)
         (mon_of rest.now) }
 {
     let mut left = values;
     let mut right = names;
-    let mut count = 0;
     'along: while let Some((value, others)) = left.split_first() {
         let Some((name, after)) = right.split_first() else {
             return None;
         };
-        if can_be_put(value, name, &names[..count], after, rest) {
-            return Some(count);
+        let passed = names.len() - right.len();
+        if can_be_put(value, name, &names[..passed], after, rest) {
+            return Some(passed);
         }
         left = others;
         right = after;
-        count += 1;
     }
     None
 }
@@ -44,24 +43,22 @@ fn is_literal(e: &Exp) -> bool
 }
 
 /// The first position of a constant whose name the program has free.
-#[tactic(auto, using(crate::proofs::FirstPut::constant_begun, crate::proofs::FirstPut::constant_here, crate::proofs::FirstPut::constant_next))]
+#[tactic(auto, using(crate::proofs::Passing::constant_first, crate::proofs::Passing::constant_none, crate::proofs::Passing::constant_no_name, crate::proofs::Passing::constant_found, crate::proofs::Passing::constant_further, crate::proofs::Passed::fewer_left))]
 pub(crate) fn first_constant(values: &[Exp], names: &[String], rest: &Mon) -> Option<usize>
     ensures { result ≡ first_constant (map exp_of values.now) (map string_bytes names.now)
         (mon_of rest.now) }
 {
     let mut left = values;
     let mut right = names;
-    let mut count = 0;
     'along: while let Some((value, others)) = left.split_first() {
         let Some((name, after)) = right.split_first() else {
             return None;
         };
         if is_literal(value) && is_free(name, rest) {
-            return Some(count);
+            return Some(names.len() - right.len());
         }
         left = others;
         right = after;
-        count += 1;
     }
     None
 }

@@ -26,7 +26,7 @@ pub(crate) enum Rewritten {
 }
 
 /// A program after all steps.
-#[tactic(auto, using(crate::proofs::Walks::rewritten_on, crate::proofs::Walks::rewritten_no_more, crate::proofs::Walks::walks_on, crate::proofs::Walks::step_fewer, rule_walks::proofs::StepLists::with_steps_push, rule_walks::proofs::StepLists::chained_steps))]
+#[tactic(auto, using(crate::proofs::Rewriting::none_made, crate::proofs::Rewriting::one_made, crate::proofs::Rewriting::more_made, crate::proofs::Rewriting::all_made, crate::proofs::Walks::step_fewer))]
 pub(crate) fn after_all<'x>(
     alloc: Global,
     unit: Unit<'_>,

@@ -34,7 +34,7 @@ use std::alloc::{AllocError, Global};
 /// A tidy program that does the same, and the balanced tree of rules that shows it, where a
 /// function's parameters are in scope and nothing is known. The rules take a well-sorted program to
 /// it. There is no answer only where memory is wanting.
-#[tactic(auto, using(crate::proofs::Translated::translation_is_tidy))]
+#[tactic(auto, using(crate::proofs::Made::right_made, crate::proofs::Made::tree_made, crate::proofs::Made::taken_there, crate::proofs::Made::gives_there, crate::proofs::Made::tidy_there, crate::proofs::Made::forms_there))]
 pub fn translate(
     alloc: Global,
     left: &Mon,

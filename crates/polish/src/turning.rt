@@ -27,6 +27,7 @@ pub(crate) struct Turned<'a> {
 }
 
 // Past the first part of a sequence in first place, which is turned.
+#[tactic(auto, using(crate::proofs::Deeper::same_stage))]
 fn past_first<'x>(
     alloc: Global,
     unit: Unit<'_>,
@@ -48,6 +49,7 @@ fn past_first<'x>(
 }
 
 /// Down from a sequence in first place that is turned.
+#[tactic(auto, using(crate::proofs::Deeper::none_kept, crate::proofs::Onward::turned_first, crate::proofs::Onward::turned_more))]
 pub(crate) fn turned_down<'a, 'x>(
     alloc: Global,
     unit: Unit<'_>,
