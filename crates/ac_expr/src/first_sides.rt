@@ -1,18 +1,18 @@
 //! Whether two expressions are the same, where most that are compared are long sums that differ at
 //! their bottom: these are told apart by how long they are.
 
-ghost use Rattle.std.specs.Prelude.{◌≡◌, ◌↔◌, IsTrue};
+ghost use Rattle.std.specs.Prelude.{◌≡◌, ◌<◌, ◌↔◌, IsTrue, IfSome};
 ghost use Rattle.std.specs.Option.{option_map};
 ghost use Rattle.expression_lang.specs.declared.expression.Exp.{size-Exp};
 ghost use Rattle.expression_lang.specs.CodeExpression.{exp_of};
-ghost use Rattle.ac_expr.specs.CodeFirstSides.{first_side, IsSmaller};
+ghost use Rattle.ac_expr.specs.CodeFirstSides.{first_side};
 
 use expression_lang::Exp;
 
 // The first side of an operation on two.
 fn first_side(e: &Exp) -> Option<&Exp>
     ensures same { option_map (λ a. exp_of a.now) result ≡ first_side (exp_of e.now) }
-    ensures smaller { IsSmaller result (size-Exp e.now) }
+    ensures smaller { IfSome result (λ a. size-Exp a.now < size-Exp e.now) }
 {
     match e {
         Exp::WordBinary(_, a, _) | Exp::Arith(_, a, _) | Exp::And(a, _) => Some(&**a),
