@@ -47,6 +47,7 @@ use std::alloc::{AllocError, Global};
 /// A program made tidy, where these names are in scope and these facts are known. It goes along
 /// sequences by loops, since a text may have long ones.
 #[cycle(polishing)]
+#[tactic(auto, using(crate::proofs::Onward::onward_first, crate::proofs::Onward::rest_lighter, crate::proofs::Onward::onward_last, crate::proofs::Onward::last_lighter, crate::proofs::Onward::part_lighter, crate::proofs::Onward::sequence_most, crate::proofs::Onward::onward_more, crate::proofs::Onward::onward_ends, crate::proofs::Onward::ends_lighter))]
 pub(crate) fn polished<'x>(
     alloc: Global,
     unit: Unit<'_>,
@@ -102,6 +103,7 @@ fn polished_behind<'x>(
 
 // The same of a program that is no sequence.
 #[cycle(polishing)]
+#[tactic(auto, using(crate::proofs::Choices::choice_left, crate::proofs::Choices::choice_made, crate::proofs::Choices::loop_left, crate::proofs::Choices::loop_made, crate::proofs::Choices::leaf_made))]
 fn single<'x>(
     alloc: Global,
     unit: Unit<'_>,
@@ -140,6 +142,7 @@ fn single<'x>(
 
 // A choice after its steps, whose branches are these: one of them where its test is a constant.
 #[cycle(polishing)]
+#[tactic(auto, using(crate::proofs::Choices::no_test, crate::proofs::Choices::first_taken, crate::proofs::Choices::second_taken, crate::proofs::Choices::both_made))]
 fn choice<'x>(
     alloc: Global,
     unit: Unit<'_>,
@@ -189,6 +192,7 @@ fn taken_branch(alloc: Global, own: &Mon, p: Walked) -> Result<Walked, AllocErro
 
 // A loop after its steps, whose body is this.
 #[cycle(polishing)]
+#[tactic(auto, using(crate::proofs::Choices::no_turn, crate::proofs::Choices::body_made))]
 fn turning<'x>(
     alloc: Global,
     unit: Unit<'_>,
@@ -217,6 +221,7 @@ fn turning<'x>(
 
 // A sequence whose first part is tidy, at the bottom of a descent.
 #[cycle(polishing)]
+#[tactic(auto, using(crate::proofs::Onward::followed_on))]
 fn followed<'x>(
     alloc: Global,
     unit: Unit<'_>,
@@ -252,6 +257,7 @@ fn followed<'x>(
 
 // The same where this is done next.
 #[cycle(polishing)]
+#[tactic(auto, using(crate::proofs::Onward::enters_done, crate::proofs::Onward::skips_done, crate::proofs::Onward::stands_done, crate::proofs::Onward::puts_done))]
 fn at_bottom<'x>(
     alloc: Global,
     unit: Unit<'_>,
@@ -313,6 +319,7 @@ fn at_bottom<'x>(
 
 // Up to the top of a descent.
 #[cycle(polishing)]
+#[tactic(auto, using(crate::proofs::Deeper::at_the_bottom, crate::proofs::Deeper::at_the_top, crate::proofs::Deeper::no_level, crate::proofs::Deeper::part_lighter, crate::proofs::Deeper::one_higher))]
 fn climbed<'x>(
     alloc: Global,
     unit: Unit<'_>,
@@ -341,6 +348,7 @@ fn climbed<'x>(
 
 // One stage up, behind the parts that are left.
 #[cycle(polishing)]
+#[tactic(auto, using(crate::proofs::Following::raised_stays, crate::proofs::Following::raised_steps))]
 fn raised<'x>(
     alloc: Global,
     unit: Unit<'_>,
@@ -434,6 +442,7 @@ fn bound_by(first: Box<Mon>, names: &[String], rest: Box<Mon>) -> Box<Mon>
 
 // A sequence whose first part is a tidy sequence, turned.
 #[cycle(polishing)]
+#[tactic(auto, using(crate::proofs::Onward::turned_made, crate::proofs::Onward::bottom_lighter))]
 fn turned<'x>(
     alloc: Global,
     unit: Unit<'_>,
@@ -476,6 +485,7 @@ fn turned<'x>(
 
 // A sequence whose value at the position is put in, and made tidy.
 #[cycle(polishing)]
+#[tactic(auto, using(crate::proofs::Putting::put_made, crate::proofs::Putting::nothing_put, crate::proofs::Lightened::into_lighter))]
 fn put_in<'x>(
     alloc: Global,
     unit: Unit<'_>,

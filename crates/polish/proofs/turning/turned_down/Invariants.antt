@@ -7,8 +7,8 @@ use Rattle.polish.proofs.turning.turned_down.Given as goal
 
 abbrev pub invariant-down : goal.invariant-down
 invariant-down l =
-    IsTurned l.unit l.scope (map string_bytes l.names) (mon_of l.rest) (mon_of l.inner.first.now)
-    (map string_bytes l.inner.names.now) (mon_of l.inner.last.now) l.down (mon_of l.first)
+    IsTurned l.unit l.scope (map string_bytes l.names) (mon_of l.rest) (mon_of l.fn.inner.first.now)
+    (map string_bytes l.fn.inner.names.now) (mon_of l.fn.inner.last.now) l.down (mon_of l.first)
 
 abbrev pub decreases-down : goal.decreases-down
 decreases-down l = size-Mon l.first
