@@ -114,14 +114,14 @@ module _ (u : U.Unit) (scope : N.Scoped) where
         kept = record {
           even = ap length f ∙ length_more d.levels.items v ∙ ap suc k.even ∙ sym (length_more d.parts.items p) ∙ sym (ap length g);
           told = subst (λ ps. AreTold (setting_in scope u) ps) (sym g)
-          (told_push u d.parts.items p (λ x. names_in scope x) k.told t);
+              (told_push u d.parts.items p (λ x. names_in scope x) k.told t);
         };
         point = λ fs.
-        ap (λ ps. point_past u scope fs ps) g
-        ∙ ap₂ (λ a b. point a b) (facts_push d.parts.items p fs) (setting_push u d.parts.items p (λ x. names_in scope x) ∙ t);
+            ap (λ ps. point_past u scope fs ps) g
+            ∙ ap₂ (λ a b. point a b) (facts_push d.parts.items p fs) (setting_push u d.parts.items p (λ x. names_in scope x) ∙ t);
         climbs = λ fs s.
-        ap₂ (λ vs ps. seen_climbed polished (point_past u scope fs []) (stages_in vs ps) s) f g
-        ∙ climbs_push d.levels.items v d.parts.items p fs s k.even k.told;
+            ap₂ (λ vs ps. seen_climbed polished (point_past u scope fs []) (stages_in vs ps) s) f g
+            ∙ climbs_push d.levels.items v d.parts.items p fs s k.even k.told;
         whole = λ r. ap (λ ps. rebuilt ps r) g ∙ rebuilt_push d.parts.items p r;
       })
 
@@ -167,26 +167,26 @@ module _ (u : U.Unit) (scope : N.Scoped) (fs : List Fact) (d : D.Descent) (s : W
         IsClimbed u scope fs d s vs ps r
     one_higher f r e =
         let even : length vs ≡ length ps =
-            omega (arith, length_more vs v, length_more ps p, c.even, ap length f, ap length g) in
+        omega (arith, length_more vs v, length_more ps p, c.even, ap length f, ap length g) in
         let told : AreTold (setting_in scope u) ps =
-            told_front u ps p (λ x. names_in scope x) (subst (λ q. AreTold (setting_in scope u) q) g c.told) in
+        told_front u ps p (λ x. names_in scope x) (subst (λ q. AreTold (setting_in scope u) q) g c.told) in
         record {
           even = even;
           told = told;
           same =
-          ap (λ a. seen_climbed polished (point_past u scope fs []) (stages_in vs ps) a) e
-          ∙ sym (climbs_push u scope vs v ps p fs q even told)
-          ∙ sym (ap₂ (λ a b. seen_climbed polished (point_past u scope fs []) (stages_in a b) q) f g)
-          ∙ c.same;
+              ap (λ a. seen_climbed polished (point_past u scope fs []) (stages_in vs ps) a) e
+              ∙ sym (climbs_push u scope vs v ps p fs q even told)
+              ∙ sym (ap₂ (λ a b. seen_climbed polished (point_past u scope fs []) (stages_in a b) q) f g)
+              ∙ c.same;
           lighter =
-          omega (
-            arith,
-            c.lighter,
-            ap (λ r. weight (rebuilt r q.program)) g,
-            ap weight (rebuilt_push ps p q.program),
-            rebuilt_lighter ps r.program (M.Bind (mon_of p.first.value) (map string_bytes p.names.items) q.program)
-            (omega (arith, ap (λ a. weight a.program) e, raised_lighter (point_past u scope fs ps) (stage_in v p) q)),
-          );
+              omega (
+                arith,
+                c.lighter,
+                ap (λ r. weight (rebuilt r q.program)) g,
+                ap weight (rebuilt_push ps p q.program),
+                rebuilt_lighter ps r.program (M.Bind (mon_of p.first.value) (map string_bytes p.names.items) q.program)
+                    (omega (arith, ap (λ a. weight a.program) e, raised_lighter (point_past u scope fs ps) (stage_in v p) q)),
+              );
         }
 
 pub no_names : (ss rs : List Scalar) (t : Setting) → setting_with [] ss t ≡ setting_with [] rs t

@@ -68,38 +68,38 @@ module _ (u : U.Unit) (scope : N.Scoped) where
         record {
           kept = d.kept;
           same = λ fs.
-          let at = point_past u scope fs from.down.parts.items in
-          let under = point_past u scope fs to.down.parts.items in
-          ap
-          (λ j. up_from u scope fs to.down
-          (seen_followed polished (λ a. seen (polished a n)) under j (walk_in to.walk) (mon_of to.raw.now) (mon_of to.first.now) xs n)) b
-          ∙ ap₂
-          (λ v r. up_from u scope fs to.down
-          (seen_followed polished (λ a. seen (polished a n)) under Nothing v r (mon_of to.first.now) xs n)) w o
-          ∙ ap
-          (λ m. up_from u scope fs to.down
-          (seen_followed polished (λ a. seen (polished a n)) under Nothing k.walk k.second m xs n)) f
-          ∙ d.climbs fs (seen_followed polished (λ a. seen (polished a n)) under Nothing k.walk k.second c xs n)
-          ∙ ap
-          (λ p. up_from u scope fs from.down
-          (seen_raised polished at (turn_stage (before_in from.ahead) k a zs xs n)
-          (seen_followed polished (λ a. seen (polished a n)) p Nothing k.walk k.second c xs n))) (d.point fs)
-          ∙ ap (λ s. up_from u scope fs from.down s)
-          (sym
-          (turned_down polished (λ a. seen (polished a n)) at (before_in from.ahead) (walk_in from.walk) (mon_of from.raw.now) a zs c xs
-          n (subst (λ m. turns m xs n ≡ true) e t)))
-          ∙ ap
-          (λ m. up_from u scope fs from.down
-          (seen_followed polished (λ a. seen (polished a n)) at (before_in from.ahead) (walk_in from.walk) (mon_of from.raw.now) m xs n))
-          (sym e);
+              let at = point_past u scope fs from.down.parts.items in
+              let under = point_past u scope fs to.down.parts.items in
+              ap
+              (λ j. up_from u scope fs to.down
+              (seen_followed polished (λ a. seen (polished a n)) under j (walk_in to.walk) (mon_of to.raw.now) (mon_of to.first.now) xs n)) b
+              ∙ ap₂
+              (λ v r. up_from u scope fs to.down
+              (seen_followed polished (λ a. seen (polished a n)) under Nothing v r (mon_of to.first.now) xs n)) w o
+              ∙ ap
+              (λ m. up_from u scope fs to.down
+              (seen_followed polished (λ a. seen (polished a n)) under Nothing k.walk k.second m xs n)) f
+              ∙ d.climbs fs (seen_followed polished (λ a. seen (polished a n)) under Nothing k.walk k.second c xs n)
+              ∙ ap
+              (λ p. up_from u scope fs from.down
+              (seen_raised polished at (turn_stage (before_in from.ahead) k a zs xs n)
+              (seen_followed polished (λ a. seen (polished a n)) p Nothing k.walk k.second c xs n))) (d.point fs)
+              ∙ ap (λ s. up_from u scope fs from.down s)
+              (sym
+              (turned_down polished (λ a. seen (polished a n)) at (before_in from.ahead) (walk_in from.walk) (mon_of from.raw.now) a zs c xs
+              n (subst (λ m. turns m xs n ≡ true) e t)))
+              ∙ ap
+              (λ m. up_from u scope fs from.down
+              (seen_followed polished (λ a. seen (polished a n)) at (before_in from.ahead) (walk_in from.walk) (mon_of from.raw.now) m xs n))
+              (sym e);
           lighter =
-          omega (
-            arith,
-            ap (λ m. weight (rebuilt to.down.parts.items (M.Bind m xs n))) f,
-            ap weight (d.whole (M.Bind c xs n)),
-            ap (λ m. weight (rebuilt from.down.parts.items (M.Bind m xs n))) e,
-            rebuilt_lighter from.down.parts.items (M.Bind a zs (M.Bind c xs n)) (M.Bind (M.Bind a zs c) xs n) (omega arith),
-          );
+              omega (
+                arith,
+                ap (λ m. weight (rebuilt to.down.parts.items (M.Bind m xs n))) f,
+                ap weight (d.whole (M.Bind c xs n)),
+                ap (λ m. weight (rebuilt from.down.parts.items (M.Bind m xs n))) e,
+                rebuilt_lighter from.down.parts.items (M.Bind a zs (M.Bind c xs n)) (M.Bind (M.Bind a zs c) xs n) (omega arith),
+              );
         }
 
     -- by the level and the part that the code pushes
@@ -123,12 +123,12 @@ module _ (u : U.Unit) (scope : N.Scoped) where
     bottom_reached fs from h next l t e = record {
       kept = l.kept;
       same =
-      ap (λ j. ending u scope fs xs n h j) e
-      ∙ ap (λ s. up_from u scope fs h.down s)
-      (sym
-      (bottom_there polished (λ a. seen (polished a n)) (point_past u scope fs h.down.parts.items) (before_in h.ahead)
-      (walk_in h.walk) (mon_of h.raw.now) (mon_of h.first.now) xs n t))
-      ∙ l.same fs;
+          ap (λ j. ending u scope fs xs n h j) e
+          ∙ ap (λ s. up_from u scope fs h.down s)
+          (sym
+          (bottom_there polished (λ a. seen (polished a n)) (point_past u scope fs h.down.parts.items) (before_in h.ahead)
+          (walk_in h.walk) (mon_of h.raw.now) (mon_of h.first.now) xs n t))
+          ∙ l.same fs;
       lighter = l.lighter;
     }
 
@@ -157,11 +157,11 @@ module _ (u : U.Unit) (scope : N.Scoped) where
       enters_done e i = record {
         kept = i.kept;
         same =
-        i.climbs fs (seen (polished (point_past u scope fs e.parts.items) n))
-        ∙ ap
-        (λ at. up_from u scope fs d
-        (seen_raised polished (point_past u scope fs d.parts.items) (stage b w m xs) (seen (polished at n))))
-        (i.point fs);
+            i.climbs fs (seen (polished (point_past u scope fs e.parts.items) n))
+            ∙ ap
+            (λ at. up_from u scope fs d
+            (seen_raised polished (point_past u scope fs d.parts.items) (stage b w m xs) (seen (polished at n))))
+            (i.point fs);
         lighter = omega (arith, ap weight (i.whole n));
       }
 
@@ -171,7 +171,7 @@ module _ (u : U.Unit) (scope : N.Scoped) where
       skips_done a k e = record {
         kept = k;
         same =
-        ap (λ c. up_from u scope fs d (after_before c (seen (polished (point_past u scope fs d.parts.items) n)))) e;
+            ap (λ c. up_from u scope fs d (after_before c (seen (polished (point_past u scope fs d.parts.items) n)))) e;
         lighter = rebuilt_lighter d.parts.items n (M.Bind m xs n) (omega arith);
       }
 
@@ -182,12 +182,12 @@ module _ (u : U.Unit) (scope : N.Scoped) where
         kept = k;
         same = ap (λ s. up_from u scope fs d s) e;
         lighter =
-        rebuilt_lighter d.parts.items (mon_of p.program.value) (M.Bind m xs n)
-        (omega (
-          arith,
-          ap (λ s. weight s.program) e,
-          ap weight (program_after (led_whole b w m xs n) (seen (at_once R.BindRet m))),
-        ));
+            rebuilt_lighter d.parts.items (mon_of p.program.value) (M.Bind m xs n)
+            (omega (
+              arith,
+              ap (λ s. weight s.program) e,
+              ap weight (program_after (led_whole b w m xs n) (seen (at_once R.BindRet m))),
+            ));
       }
 
       pub puts_done : (i : ℕ) (a : A.Ahead) (q p : P.Walked) → IsKept u scope d → before_in a ≡ led_whole b w m xs n →
@@ -201,13 +201,13 @@ module _ (u : U.Unit) (scope : N.Scoped) where
             kept = k;
             same = ap (λ s. up_from u scope fs d s) h;
             lighter =
-            rebuilt_lighter d.parts.items (mon_of p.program.value) (M.Bind m xs n)
-            (omega (
-              arith,
-              ap (λ s. weight s.program) h,
-              ap weight (program_after (led_whole b w m xs n) s),
-              puts_lighter (point_past u scope fs d.parts.items) i m xs n,
-            ));
+                rebuilt_lighter d.parts.items (mon_of p.program.value) (M.Bind m xs n)
+                (omega (
+                  arith,
+                  ap (λ s. weight s.program) h,
+                  ap weight (program_after (led_whole b w m xs n) s),
+                  puts_lighter (point_past u scope fs d.parts.items) i m xs n,
+                ));
           }
 
     -- Sequences in first place that are turned
@@ -235,21 +235,21 @@ module _ (u : U.Unit) (scope : N.Scoped) where
         record {
           kept = i.kept;
           same = λ fs.
-          let root = point_past u scope fs [] in
-          i.climbs fs (seen (bound polished (point_past u scope fs d.parts.items) c xs n))
-          ∙ ap
-          (λ at. up_from u scope fs none (seen_raised polished (point_past u scope fs none.parts.items) v (seen (bound polished at c xs n))))
-          (i.point fs)
-          ∙ nothing_passed fs none.levels.items none.parts.items f g
-          (λ at. seen_raised polished at v (seen (bound polished (behind a zs at) c xs n)))
-          ∙ sym
-          (turned_seen polished (λ at. polished at n) root Nothing a zs c xs n (bound polished (behind a zs root) c xs n));
+              let root = point_past u scope fs [] in
+              i.climbs fs (seen (bound polished (point_past u scope fs d.parts.items) c xs n))
+              ∙ ap
+              (λ at. up_from u scope fs none (seen_raised polished (point_past u scope fs none.parts.items) v (seen (bound polished at c xs n))))
+              (i.point fs)
+              ∙ nothing_passed fs none.levels.items none.parts.items f g
+              (λ at. seen_raised polished at v (seen (bound polished (behind a zs at) c xs n)))
+              ∙ sym
+              (turned_seen polished (λ at. polished at n) root Nothing a zs c xs n (bound polished (behind a zs root) c xs n));
           lighter =
-          omega (
-            arith,
-            ap weight (i.whole (M.Bind c xs n)),
-            ap (λ ps. weight (rebuilt ps (M.Bind a zs (M.Bind c xs n)))) g,
-          );
+              omega (
+                arith,
+                ap weight (i.whole (M.Bind c xs n)),
+                ap (λ ps. weight (rebuilt ps (M.Bind a zs (M.Bind c xs n)))) g,
+              );
         }
       where
         nothing_passed : (fs : List Fact) (vs : _) (ps : _) → vs ≡ [] → ps ≡ [] → (s : Point → Walked) →
@@ -269,22 +269,22 @@ module _ (u : U.Unit) (scope : N.Scoped) where
         record {
           kept = i.kept;
           same = λ fs.
-          let at = point_past u scope fs d.parts.items in
-          i.climbs fs (seen (bound polished (point_past u scope fs e.parts.items) c' xs n))
-          ∙ ap (λ p. up_from u scope fs d (seen_raised polished at v (seen (bound polished p c' xs n)))) (i.point fs)
-          ∙ ap (λ s. up_from u scope fs d s)
-          (sym (turned_seen polished (λ at. polished at n) at Nothing a' zs' c' xs n (bound polished (behind a' zs' at) c' xs n)))
-          ∙ ap (λ p. up_from u scope fs d (seen p)) (sym (bound_turns at a' zs' c' (subst (λ q. turns q xs n ≡ true) h k)))
-          ∙ ap (λ q. up_from u scope fs d (seen (bound polished at q xs n))) (sym h)
-          ∙ t.same fs;
+              let at = point_past u scope fs d.parts.items in
+              i.climbs fs (seen (bound polished (point_past u scope fs e.parts.items) c' xs n))
+              ∙ ap (λ p. up_from u scope fs d (seen_raised polished at v (seen (bound polished p c' xs n)))) (i.point fs)
+              ∙ ap (λ s. up_from u scope fs d s)
+              (sym (turned_seen polished (λ at. polished at n) at Nothing a' zs' c' xs n (bound polished (behind a' zs' at) c' xs n)))
+              ∙ ap (λ p. up_from u scope fs d (seen p)) (sym (bound_turns at a' zs' c' (subst (λ q. turns q xs n ≡ true) h k)))
+              ∙ ap (λ q. up_from u scope fs d (seen (bound polished at q xs n))) (sym h)
+              ∙ t.same fs;
           lighter =
-          omega (
-            arith,
-            t.lighter,
-            ap (λ q. weight (rebuilt d.parts.items (M.Bind q xs n))) h,
-            ap weight (i.whole (M.Bind c' xs n)),
-            rebuilt_lighter d.parts.items (M.Bind a' zs' (M.Bind c' xs n)) (M.Bind (M.Bind a' zs' c') xs n) (omega arith),
-          );
+              omega (
+                arith,
+                t.lighter,
+                ap (λ q. weight (rebuilt d.parts.items (M.Bind q xs n))) h,
+                ap weight (i.whole (M.Bind c' xs n)),
+                rebuilt_lighter d.parts.items (M.Bind a' zs' (M.Bind c' xs n)) (M.Bind (M.Bind a' zs' c') xs n) (omega arith),
+              );
         }
 
     module _ (fs : List Fact) (d : D.Descent) (a : Mon) (zs : List Name) (c m : Mon) (t : IsTurned u scope xs n a zs c d m)
@@ -307,11 +307,11 @@ module _ (u : U.Unit) (scope : N.Scoped) where
             arith,
             t.lighter,
             rebuilt_lighter d.parts.items p.program (M.Bind m xs n)
-            (omega (
-              arith,
-              ap (λ s. weight s.program) is_bound,
-              sequence_lighter polished polished_lighter (point_past u scope fs d.parts.items) m xs n,
-            )),
+                (omega (
+                  arith,
+                  ap (λ s. weight s.program) is_bound,
+                  sequence_lighter polished polished_lighter (point_past u scope fs d.parts.items) m xs n,
+                )),
           )
 
   -- Along a program
@@ -345,13 +345,13 @@ module _ (u : U.Unit) (scope : N.Scoped) where
               arith,
               o.lighter,
               rebuilt_lighter d.parts.items q.program r
-              (omega (
-                arith,
-                ap (λ s. weight s.program) f,
-                ap weight (program_after b p),
-                ap (λ s. weight s.program) e,
-                polished_lighter (point_past u scope fs d.parts.items) r,
-              )),
+                  (omega (
+                    arith,
+                    ap (λ s. weight s.program) f,
+                    ap weight (program_after b p),
+                    ap (λ s. weight s.program) e,
+                    polished_lighter (point_past u scope fs d.parts.items) r,
+                  )),
             )
 
       module _ (x : Mon) (xs : List Name) (n : Mon) (q : Walked) (h : r ≡ M.Bind x xs n)
@@ -366,7 +366,7 @@ module _ (u : U.Unit) (scope : N.Scoped) where
               o.lighter,
               ap (λ a. weight (rebuilt d.parts.items a)) h,
               rebuilt_lighter d.parts.items (M.Bind q.program xs n) (M.Bind x xs n)
-              (omega (arith, ap (λ s. weight s.program) e, polished_lighter (point_past u scope fs d.parts.items) x)),
+                  (omega (arith, ap (λ s. weight s.program) e, polished_lighter (point_past u scope fs d.parts.items) x)),
             )
 
         followed_same : up_from u scope fs d

@@ -25,8 +25,8 @@ module _ {A E : Type 0} (f : A → Name) (g : E → Exp) (values : List E) (name
   put_first = record {
     names_left = all_left names;
     found =
-    ap (λ k. put_later k (put_behind (map f (take k names)) (map g values) (map f names) n)) (no_more (length names))
-    ∙ put_begun (map g values) (map f names) n;
+        ap (λ k. put_later k (put_behind (map f (take k names)) (map g values) (map f names) n)) (no_more (length names))
+        ∙ put_begun (map g values) (map f names) n;
   }
 
   pub put_none : (left : List E) (right : List A) → left ≡ [] → IsPutLeft f g values names n left right →
@@ -60,12 +60,12 @@ module _ {A E : Type 0} (f : A → Name) (g : E → Exp) (values : List E) (name
       put_further i = record {
         names_left = one_less_left names right x after h.names_left e;
         found =
-        ap₂ (λ k xs. put_later k (put_behind (map f xs) (map g others) (map f after) n))
-        (one_further names right x after h.names_left e) (one_more_taken names right x after h.names_left e)
-        ∙ ap (λ xs. put_later (length names - length right + 1) (put_behind xs (map g others) (map f after) n))
-        (map_more f (take (length names - length right) names) x)
-        ∙ sym (put_next (length names - length right) passed (g v) (map g others) (f x) (map f after) n i)
-        ∙ here;
+            ap₂ (λ k xs. put_later k (put_behind (map f xs) (map g others) (map f after) n))
+            (one_further names right x after h.names_left e) (one_more_taken names right x after h.names_left e)
+            ∙ ap (λ xs. put_later (length names - length right + 1) (put_behind xs (map g others) (map f after) n))
+            (map_more f (take (length names - length right) names) x)
+            ∙ sym (put_next (length names - length right) passed (g v) (map g others) (f x) (map f after) n i)
+            ∙ here;
       }
 
     module _ (h : IsConstantLeft f g values names n left right) where
@@ -84,9 +84,9 @@ module _ {A E : Type 0} (f : A → Name) (g : E → Exp) (values : List E) (name
       constant_further i = record {
         names_left = one_less_left names right x after h.names_left e;
         found =
-        ap (λ k. put_later k (first_constant (map g others) (map f after) n)) (one_further names right x after h.names_left e)
-        ∙ sym (constant_next n (length names - length right) (g v) (map g others) (f x) (map f after) i)
-        ∙ constant;
+            ap (λ k. put_later k (first_constant (map g others) (map f after) n)) (one_further names right x after h.names_left e)
+            ∙ sym (constant_next n (length names - length right) (g v) (map g others) (f x) (map f after) i)
+            ∙ constant;
       }
 
   -- Constants
@@ -95,8 +95,8 @@ module _ {A E : Type 0} (f : A → Name) (g : E → Exp) (values : List E) (name
   constant_first = record {
     names_left = all_left names;
     found =
-    ap (λ k. put_later k (first_constant (map g values) (map f names) n)) (no_more (length names))
-    ∙ constant_begun n (map g values) (map f names);
+        ap (λ k. put_later k (first_constant (map g values) (map f names) n)) (no_more (length names))
+        ∙ constant_begun n (map g values) (map f names);
   }
 
   pub constant_none : (left : List E) (right : List A) → left ≡ [] → IsConstantLeft f g values names n left right →

@@ -11,17 +11,17 @@ IsLeft all rest = take (length all - length rest) all ++ rest ≡ all
 
 module _ {A E : Type 0} (f : A → Name) (g : E → Exp) (values : List E) (names : List A) (n : Mon) (left : List E) (right : List A)
   where
-  -- the first value that can be put in, of what is left and of all
-  pub record IsPutLeft : Type 0 where
-    pub names_left : IsLeft names right
-    pub found :
-        put_later (length names - length right)
-        (put_behind (map f (take (length names - length right) names)) (map g left) (map f right) n)
-        ≡ first_put [] (map g values) (map f names) n
+    -- the first value that can be put in, of what is left and of all
+    pub record IsPutLeft : Type 0 where
+      pub names_left : IsLeft names right
+      pub found :
+          put_later (length names - length right)
+          (put_behind (map f (take (length names - length right) names)) (map g left) (map f right) n)
+          ≡ first_put [] (map g values) (map f names) n
 
-  -- the first constant
-  pub record IsConstantLeft : Type 0 where
-    pub names_left : IsLeft names right
-    pub found :
-        put_later (length names - length right) (first_constant (map g left) (map f right) n)
-        ≡ first_constant (map g values) (map f names) n
+    -- the first constant
+    pub record IsConstantLeft : Type 0 where
+      pub names_left : IsLeft names right
+      pub found :
+          put_later (length names - length right) (first_constant (map g left) (map f right) n)
+          ≡ first_constant (map g values) (map f names) n

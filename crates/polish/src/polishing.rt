@@ -1,18 +1,14 @@
 //! How programs are made tidy, with the steps that lead there.
 
 ghost use Rattle.std.specs.Prelude.{◌≡◌, List, map, string_bytes, IfOk};
-ghost use Rattle.c_values.specs.Name.{Name};
 ghost use Rattle.ac_expr.specs.Fact.{Fact as Known};
-ghost use Rattle.expression_lang.specs.Sort.{Scalar as Plain};
 ghost use Rattle.monad_lang.specs.Program as plain;
-ghost use Rattle.monad_lang.specs.CodeProgram.{mon_of, start_of};
-ghost use Rattle.monad_lang.specs.Sorted.{setting_with, start_scalars};
-ghost use Rattle.monad_lang.specs.Run.{start_names};
+ghost use Rattle.monad_lang.specs.CodeProgram.{mon_of};
 ghost use Rattle.rule_eq.specs.Rule.{IfConst};
 ghost use Rattle.rule_eq.specs.Table.{point, behind};
 ghost use Rattle.rule_walks.specs.Walk.{Nothing, one_walk, after_before, and_led};
 ghost use Rattle.rule_walks.specs.CodeWalks.{walk_in, before_in, made_in};
-ghost use Rattle.expression_steps.specs.CodePoint.{known_in, names_of, scalars_of};
+ghost use Rattle.expression_steps.specs.CodePoint.{known_in};
 ghost use Rattle.given_scalars.specs.CodeScalars.{setting_in, IsNoBind};
 ghost use Rattle.polish.specs.Polished.{leaf, bound, chosen, turned, turning, polished, what_is_bound};
 ghost use Rattle.polish.specs.Parts.{IsIf, IsLoop};
@@ -412,11 +408,7 @@ fn stepped<'x>(
             Ok(at_once(alloc, Rule::BindRet, bound))
         }
         Settling::Turns => match split(&first) {
-            Some(inner) => {
-                turned(
-                    alloc, unit, &*scope, &*facts, &*parts, inner, names, &rest,
-                )
-            }
+            Some(inner) => { turned(alloc, unit, &*scope, &*facts, &*parts, inner, names, &rest) }
             None => Ok(unchanged(copied(alloc, &first, names, &rest)?)),
         },
         Settling::Puts(position) => {

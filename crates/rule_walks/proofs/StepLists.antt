@@ -1,14 +1,13 @@
 -- Steps that stand in lists: one more, others behind them, and a chain of them with another one behind it.
-use Rattle.std.proofs.Common.{◌≡◌, ◌<◌, List, [], ◌∷◌, ◌++◌, length, None, Some, refl, sym, ap, ◌∙◌, arith}
+use Rattle.std.proofs.Common.{◌≡◌, false, List, [], ◌∷◌, ◌++◌, None, Some, refl, sym, ap, ◌∙◌}
 use Rattle.monad_lang.specs.Program.{Mon}
 use Rattle.monad_lang.specs.CodeProgram.{mon_of}
 use Rattle.rule_trees.specs.RuleTree.{Tree}
 use Rattle.rule_eq.specs.Rule.{Rule}
 use Rattle.rule_eq.specs.CodeRule.{tree_of}
-use Rattle.rule_walks.specs.Balanced.{Chain, single, before, chained, paired, links, built}
-use Rattle.rule_walks.specs.CodeWalks.{with_steps, with_waiting}
+use Rattle.rule_walks.specs.Balanced.{Chain, single, before, chained, paired, built}
+use Rattle.rule_walks.specs.CodeWalks.{with_steps, with_waiting, has_links}
 use Rattle.rule_walks.specs.declared.walks.Step as S
-use Rattle.rule_walks.proofs.Rounds.{built_paired, links_paired}
 use Rattle.rule_trees.specs.RuleTree.{node, no_trees, tree}
 use Rattle.rule_eq.specs.Rule as R
 
@@ -52,11 +51,7 @@ module _ (ys ms : List S.Step) (s : S.Step) where
       ∙ ap (λ m. with_steps ms (before (tree_of b.tree) m (paired c))) (sym j)
       ∙ sym (with_steps_push ms b (paired c))
 
--- a round, where there is a step
-pub round_same : (ss : List S.Step) (c : Chain) → (length ss ≡ 0 → ⊥) → built (paired (with_steps ss c)) ≡ built (with_steps ss c)
-round_same [] c h = absurd (h refl)
-round_same (s ∷ ss) c h = built_paired (tree_of s.tree) (mon_of s.program.value) (with_steps ss c)
-
-pub round_fewer : (ss : List S.Step) (c : Chain) → (length ss ≡ 0 → ⊥) → links (paired (with_steps ss c)) < links (with_steps ss c)
-round_fewer [] c h = absurd (h refl)
-round_fewer (s ∷ ss) c h = omega (arith, links_paired (tree_of s.tree) (mon_of s.program.value) (with_steps ss c))
+-- no step is left
+pub last_alone : (ss : List S.Step) (t : Tree Rule) → has_links (with_steps ss (single t)) ≡ false → t ≡ built (with_steps ss (single t))
+last_alone [] t h = refl
+last_alone (s ∷ ss) t h = absurd cc

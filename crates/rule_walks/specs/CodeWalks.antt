@@ -1,5 +1,5 @@
 -- What the code's walks stand for.
-use Rattle.std.specs.Prelude.{List, [], ◌∷◌, Option, Some, None, if◌then◌else◌}
+use Rattle.std.specs.Prelude.{Bool, true, false, List, [], ◌∷◌, Option, Some, None, if◌then◌else◌}
 use Rattle.monad_lang.specs.CodeProgram.{mon_of}
 use Rattle.rule_eq.specs.CodeRule.{tree_of}
 use Rattle.rule_walks.specs.Balanced.{Chain, single, before}
@@ -32,3 +32,8 @@ made_in p = walked (mon_of p.program.value) (walk_in p.walk)
 abbrev pub with_waiting : Option S.Step → Chain → Chain
 with_waiting None c = c
 with_waiting (Some s) c = before (tree_of s.tree) (mon_of s.program.value) c
+
+-- whether there is more than one tree
+abbrev pub has_links : Chain → Bool
+has_links (single t) = false
+has_links (before t m c) = true

@@ -8,7 +8,7 @@ ghost use Rattle.rule_eq.specs.Rule as plain;
 ghost use Rattle.rule_eq.specs.CodeRule.{rule_of, tree_of};
 ghost use Rattle.rule_walks.specs.Balanced.{Chain as Links, before, chained, paired, built};
 ghost use Rattle.rule_walks.specs.Walk.{Goes, seconds, second_trees, steps_in, joined_walks, over_bind, over_two, over_one, stays, one_walk, walked, after_before, and_led};
-ghost use Rattle.rule_walks.specs.CodeWalks.{chain_in, walk_in, before_in, made_in};
+ghost use Rattle.rule_walks.specs.CodeWalks.{has_links, chain_in, walk_in, before_in, made_in};
 
 use monad_lang::Mon;
 use rule_eq::Rule;
@@ -132,12 +132,23 @@ fn paired(alloc: Global, chain: Chain) -> Result<Chain, AllocError>
     }
 }
 
-#[tactic(auto, using(crate::proofs::StepLists::round_same, crate::proofs::StepLists::round_fewer))]
+// Whether there is a step before the last one.
+fn has_links(chain: &Chain) -> bool
+    ensures { result ≡ has_links (chain_in chain.now) }
+{
+    match chain.steps.split_first() {
+        Some(_) => true,
+        None => false,
+    }
+}
+
+// The steps in pairs, until there is one.
+#[tactic(auto, using(crate::proofs::Rounds::round_same, crate::proofs::Rounds::round_fewer, crate::proofs::StepLists::last_alone))]
 fn as_one(alloc: Global, chain: Chain) -> Result<Tree<Rule>, AllocError>
     ensures { IfOk result (λ t. tree_of t ≡ built (chain_in chain)) }
 {
     let mut rest = chain;
-    'rounds: while !rest.steps.is_empty() {
+    'rounds: while has_links(&rest) {
         rest = paired(alloc, rest)?;
     }
     let Chain { steps: _, last } = rest;
