@@ -1,5 +1,5 @@
 -- A choice and a loop after their steps, and what is done in them.
-use Rattle.std.proofs.Common.{◌≡◌, Bool, true, false, List, [], ◌∷◌, Option, Some, None, refl, sym, ap, ap₂, ◌∙◌, subst}
+use Rattle.std.proofs.Common.{◌≡◌, suc, ◌+◌, true, false, List, [], ◌∷◌, Option, Some, None, refl, sym, ap, ap₂, ◌∙◌, subst}
 use Rattle.expression_lang.specs.Expression.{Exp, TruthLit}
 use Rattle.ac_expr.specs.Fact.{Whole, NotTrue}
 use Rattle.monad_lang.specs.Program as M
@@ -11,7 +11,8 @@ use Rattle.rule_walks.specs.Walk.{walk_of, stays, one_walk, over_one, over_two, 
 use Rattle.expression_steps.specs.Rewritten.{direct_nodes}
 use Rattle.expression_steps.specs.Shortened.{shortened}
 use Rattle.polish.specs.Polished.{Polished, leaf, unchanged, and_then, shortened_in, if_tree, loop_tree, chosen, turning, in_choice, in_loop, polished}
-use Rattle.polish.specs.Parts.{IsIf, IsLoop}
+use Rattle.polish.specs.Parts.{IsIf, IsLoop, IsSimple}
+use Rattle.polish.specs.Weight.{weight}
 use Rattle.polish.specs.Branches.{test_in, chosen_in, Turn, turn_in}
 use Rattle.polish.specs.Seen.{seen}
 use Rattle.polish.proofs.Alike.{IsLeaf, steps_alike}
@@ -96,35 +97,57 @@ module _ (at : Point) (m : Mon) (f : Point → Polished) where
 
 -- Programs that are no sequences, after their steps
 
+pub choice_weight : (a b x : Mon) → IsIf a b x → weight x ≡ suc (weight a + weight b)
+choice_weight a b (M.If e m n) h = ap₂ (λ p q. suc (weight p + weight q)) h.0 h.1
+choice_weight a b x h = absurd h
+
+pub loop_weight : (a x : Mon) → IsLoop a x → weight x ≡ suc (weight a)
+loop_weight a (M.Loop starts guard test m) h = ap (λ p. suc (weight p)) h
+loop_weight a x h = absurd h
+
 module _ (at : Point) (r : Walked) where
-  pub choice_left : (e : Exp) (m n : Mon) → r ≡ seen (shortened_in at (M.If e m n)) → IsIf m n r.program
-  choice_left e m n h =
-      subst (λ q. IsIf m n q) (sym (ap (λ q. q.program) h))
-      (steps_alike shortened at (direct_nodes (M.If e m n)) (M.If e m n))
+  pub choice_left : (a b x : Mon) → IsIf a b x → r ≡ seen (shortened_in at x) → IsIf a b r.program
+  choice_left a b (M.If e m n) i h =
+      subst (λ q. IsIf a b q) (sym (ap (λ q. q.program) h))
+      (subst (λ p. IsIf p b (shortened_in at (M.If e m n)).program) i.0
+      (subst (λ p. IsIf m p (shortened_in at (M.If e m n)).program) i.1
+      (steps_alike shortened at (direct_nodes (M.If e m n)) (M.If e m n))))
+  choice_left a b x i h = absurd i
 
-  pub loop_left : (starts : List Start) (guard test : Exp) (m : Mon) → r ≡ seen (shortened_in at (M.Loop starts guard test m)) →
-      IsLoop m r.program
-  loop_left starts guard test m h =
-      subst (λ q. IsLoop m q) (sym (ap (λ q. q.program) h))
-      (steps_alike shortened at (direct_nodes (M.Loop starts guard test m)) (M.Loop starts guard test m))
+  pub loop_left : (a x : Mon) → IsLoop a x → r ≡ seen (shortened_in at x) → IsLoop a r.program
+  loop_left a (M.Loop starts guard test m) i h =
+      subst (λ q. IsLoop a q) (sym (ap (λ q. q.program) h))
+      (subst (λ p. IsLoop p (shortened_in at (M.Loop starts guard test m)).program) i
+      (steps_alike shortened at (direct_nodes (M.Loop starts guard test m)) (M.Loop starts guard test m)))
+  loop_left a x i h = absurd i
 
-  pub choice_made : (e : Exp) (m n : Mon) → r ≡ seen (shortened_in at (M.If e m n)) →
-      then_walked r.walk r.program (seen (chosen at r.program (λ a. polished a m) (λ a. polished a n)))
-      ≡ seen (polished at (M.If e m n))
-  choice_made e m n h =
+  pub choice_made : (a b x : Mon) → IsIf a b x → r ≡ seen (shortened_in at x) →
+      then_walked r.walk r.program (seen (chosen at r.program (λ c. polished c a) (λ c. polished c b)))
+      ≡ seen (polished at x)
+  choice_made a b (M.If e m n) i h =
       let f = shortened_in at (M.If e m n) in
-      ap (λ q. then_walked q.walk q.program (seen (chosen at q.program (λ a. polished a m) (λ a. polished a n)))) h
-      ∙ sym (seen_then f.tree f.program (chosen at f.program (λ a. polished a m) (λ a. polished a n)))
+      ap (λ q. then_walked q.walk q.program (seen (chosen at q.program (λ c. polished c a) (λ c. polished c b)))) h
+      ∙ ap₂ (λ p q. then_walked (walk_of f.tree) f.program (seen (chosen at f.program (λ c. polished c p) (λ c. polished c q))))
+      (sym i.0) (sym i.1)
+      ∙ sym (seen_then f.tree f.program (chosen at f.program (λ c. polished c m) (λ c. polished c n)))
       ∙ sym (ap seen (of_choice at e m n))
+  choice_made a b x i h = absurd i
 
-  pub loop_made : (starts : List Start) (guard test : Exp) (m : Mon) → r ≡ seen (shortened_in at (M.Loop starts guard test m)) →
-      then_walked r.walk r.program (seen (turning at r.program (λ a. polished a m)))
-      ≡ seen (polished at (M.Loop starts guard test m))
-  loop_made starts guard test m h =
+  pub loop_made : (a x : Mon) → IsLoop a x → r ≡ seen (shortened_in at x) →
+      then_walked r.walk r.program (seen (turning at r.program (λ c. polished c a))) ≡ seen (polished at x)
+  loop_made a (M.Loop starts guard test m) i h =
       let f = shortened_in at (M.Loop starts guard test m) in
-      ap (λ q. then_walked q.walk q.program (seen (turning at q.program (λ a. polished a m)))) h
-      ∙ sym (seen_then f.tree f.program (turning at f.program (λ a. polished a m)))
+      ap (λ q. then_walked q.walk q.program (seen (turning at q.program (λ c. polished c a)))) h
+      ∙ ap (λ p. then_walked (walk_of f.tree) f.program (seen (turning at f.program (λ c. polished c p)))) (sym i)
+      ∙ sym (seen_then f.tree f.program (turning at f.program (λ c. polished c m)))
       ∙ sym (ap seen (of_loop at starts guard test m))
+  loop_made a x i h = absurd i
 
-  pub leaf_made : (m : Mon) → IsLeaf m → r ≡ seen (shortened_in at m) → r ≡ seen (polished at m)
-  leaf_made m h i = i ∙ sym (ap seen (of_leaf at m h))
+  pub leaf_made : (m : Mon) → IsSimple m → r ≡ seen (shortened_in at m) → r ≡ seen (polished at m)
+  leaf_made m h i = i ∙ sym (ap seen (of_leaf at m (is_leaf m h)))
+    where
+      is_leaf : (m : Mon) → IsSimple m → IsLeaf m
+      is_leaf (M.Bind m xs n) h = absurd h
+      is_leaf (M.If e m n) h = absurd h
+      is_leaf (M.Loop starts guard test m) h = absurd h
+      is_leaf m h = tt

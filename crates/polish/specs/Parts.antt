@@ -10,3 +10,10 @@ IsIf m n r = ⊥
 abbrev pub IsLoop : Mon → Mon → Type 0
 IsLoop m (M.Loop starts guard test a) = a ≡ m
 IsLoop m r = ⊥
+
+-- no program is a part of it
+abbrev pub IsSimple : Mon → Type 0
+IsSimple (M.Bind m xs n) = ⊥
+IsSimple (M.If e m n) = ⊥
+IsSimple (M.Loop starts guard test m) = ⊥
+IsSimple m = Unit {0}

@@ -14,9 +14,9 @@ ghost use Rattle.rule_eq.specs.Rule as rules;
 ghost use Rattle.rule_walks.specs.Walk.{walked, over_one, over_two};
 ghost use Rattle.rule_walks.specs.CodeWalks.{walk_in, made_in};
 ghost use Rattle.expression_steps.specs.CodePoint.{names_of, scalars_of};
-ghost use Rattle.given_scalars.specs.CodeScalars.{setting_in};
+ghost use Rattle.given_scalars.specs.CodeScalars.{setting_in, IsNoBind};
 ghost use Rattle.polish.specs.Branches.{test_in, chosen_in, turn_in};
-ghost use Rattle.polish.specs.CodeBranches.{turn_of};
+ghost use Rattle.polish.specs.CodeBranches.{turn_of, Holds};
 
 use expression_lang::Exp;
 use expression_steps::{Binding, Context, Scoped, bindings_of};
@@ -24,6 +24,31 @@ use given_scalars::Unit;
 use monad_lang::{Front, Mon, Start, boxed, whole};
 use rule_walks::{Walked, in_body, in_branches};
 use std::alloc::{AllocError, Global};
+
+/// The programs that a program which is no sequence holds.
+#[derive(Clone, Copy)]
+pub(crate) enum Inside<'a> {
+    /// The branches of a choice.
+    Branches(&'a Mon, &'a Mon),
+    /// The body of a loop.
+    Body(&'a Mon),
+    Nothing,
+}
+
+/// What a program holds.
+pub(crate) fn inside(m: &Mon) -> Inside<'_>
+    requires { IsNoBind (mon_of m.now) }
+    ensures { Holds result (mon_of m.now) }
+{
+    match m {
+        Mon::If(_, first, last) => Inside::Branches(first, last),
+        Mon::Loop(_, _, _, body) => Inside::Body(body),
+        Mon::Ret(_) | Mon::Guard(_) | Mon::Write(_, _) | Mon::Call(_, _) | Mon::Pick(_) => {
+            Inside::Nothing
+        }
+        Mon::Bind(_, _, _) => unreachable!(),
+    }
+}
 
 /// The test of a choice.
 pub(crate) fn test_of(m: &Mon) -> Option<&Exp>

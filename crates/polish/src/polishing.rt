@@ -22,7 +22,9 @@ ghost use Rattle.polish.specs.CodeNext.{Puts, stepped};
 ghost use Rattle.polish.specs.CodeNextView.{next_in, settling_in};
 ghost use Rattle.polish.specs.Followed.{heavy, ending, IsFollowed};
 
-use crate::branches::{chosen_by, started, test_of, turn_of, with_body, with_branches};
+use crate::branches::{
+    Inside, chosen_by, inside, started, test_of, turn_of, with_body, with_branches,
+};
 use crate::descent::{Descent, Level, copied, led_to, with_part};
 use crate::entering::Next;
 use crate::following::{Bottom, Followed, Here, first_alone, led_past, led_whole, to_bottom};
@@ -99,7 +101,7 @@ fn polished_behind<'x>(
 
 // The same of a program that is no sequence.
 #[cycle(polishing)]
-#[tactic(auto, using(crate::proofs::Choices::choice_left, crate::proofs::Choices::choice_made, crate::proofs::Choices::loop_left, crate::proofs::Choices::loop_made, crate::proofs::Choices::leaf_made))]
+#[tactic(auto, using(crate::proofs::Choices::choice_left, crate::proofs::Choices::choice_made, crate::proofs::Choices::choice_weight, crate::proofs::Choices::loop_left, crate::proofs::Choices::loop_made, crate::proofs::Choices::loop_weight, crate::proofs::Choices::leaf_made))]
 fn single<'x>(
     alloc: Global,
     unit: Unit<'_>,
@@ -115,24 +117,17 @@ fn single<'x>(
     let inner = Scoped::Behind(&*scope, &*parts);
     let known = facts_behind(&*facts, &*parts)?;
     let new = after_all(alloc, unit, &inner, &known, &*m)?;
-    match m {
-        Mon::If(_, first, last) => {
-            let p = choice(
-                alloc,
-                unit,
-                &inner,
-                &known,
-                after_steps(&new, m),
-                first,
-                last,
-            )?;
+    match inside(m) {
+        Inside::Branches(first, last) => {
+            let after = after_steps(&new, m);
+            let p = choice(alloc, unit, &inner, &known, after, first, last)?;
             behind(alloc, new, p)
         }
-        Mon::Loop(_, _, _, body) => {
+        Inside::Body(body) => {
             let p = turning(alloc, unit, &inner, after_steps(&new, m), body)?;
             behind(alloc, new, p)
         }
-        _ => whole(alloc, new, m),
+        Inside::Nothing => whole(alloc, new, m),
     }
 }
 
