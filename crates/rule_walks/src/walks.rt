@@ -214,7 +214,6 @@ pub fn one(alloc: Global, tree: Tree<Rule>) -> Walk
 }
 
 /// A chain, and then another one.
-#[tactic(auto, using(crate::proofs::StepLists::chained_made))]
 pub fn chained(first: Chain, program: Box<Mon>, then: Chain) -> Result<Chain, AllocError>
     ensures { IfOk result (λ new. chain_in new
         ≡ chained (chain_in first) (mon_of program.value) (chain_in then)) }
@@ -223,11 +222,12 @@ pub fn chained(first: Chain, program: Box<Mon>, then: Chain) -> Result<Chain, Al
         mut steps,
         last: tree,
     } = first;
-    let Chain { steps: more, last } = then;
+    let Chain {
+        steps: mut more,
+        last,
+    } = then;
     steps.push(Step { tree, program })?;
-    'more: for step in more {
-        steps.push(step)?;
-    }
+    steps.append(&mut more)?;
     Ok(Chain { steps, last })
 }
 
