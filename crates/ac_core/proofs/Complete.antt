@@ -13,14 +13,14 @@ use Rattle.c_grammar.proofs.Texts.{one_tree}
 use Rattle.c_limits.specs.Limits.{first_limit}
 use Rattle.ac_base.specs.Count.{Rose}
 use Rattle.ac_base.specs.Sink.{grown}
-use Rattle.ac_core.specs.Words.{command_of, plain_show}
+use Rattle.ac_core.specs.Words.{command_of, plain_file, is_printed}
 use Rattle.typing_rules.specs.declared.fault.TypeKind.{TypeKind}
-use Rattle.ac_core.specs.Answer.{source_limit, IsTree, OfTree, IsTokensAnswer, OfTokens, IsTextAnswer, Reads, IsFileAnswer, IsAnswerTo, IsAnswer, EndsWith}
+use Rattle.ac_core.specs.Answer.{text_of, source_limit, IsTree, OfTree, IsTokensAnswer, OfTokens, IsTextAnswer, Reads, IsFileAnswer, IsAnswerTo, IsAnswer, EndsWith}
 use Rattle.ac_core.specs.declared.status.Status.{Status}
 use Rattle.ac_core.specs.declared.status.Status.TheVariants.{Done, No, Words, Source, Text, ReadFault, WriteFault, Limit, Memory, NotYet}
 
 module _ (words : List Name) (contents : Name → Option (List ℕ)) (before after : Name → ℕ) (taken taken' : Option (List ℕ)) (sink_before sink_after : ℕ) where
-  nothing_to : (shown : Option Name) (status : Status) (lines : List ℕ) → IsAnswerTo shown words contents before after status lines → (status ≡ WriteFault → ⊥) × (status ≡ Memory → ⊥)
+  nothing_to : (shown : Option Name) (status : Status) (lines : List ℕ) → IsAnswerTo (text_of (is_printed (command_of words))) shown words contents before after status lines → (status ≡ WriteFault → ⊥) × (status ≡ Memory → ⊥)
   nothing_to (Some file) Done lines h = (λ e. cc, λ e. cc)
   nothing_to (Some file) No lines h = (λ e. cc, λ e. cc)
   nothing_to (Some file) Words lines h = (λ e. cc, λ e. cc)
@@ -55,17 +55,17 @@ module _ (words : List Name) (contents : Name → Option (List ℕ)) (before aft
   written Memory lines h e = absurd ((nothing_to _ Memory lines h).1 refl)
   written NotYet lines h e = record { lines = lines; answer = h; whole = e }
 
-  module _ (file text : List ℕ) (ts : List Lexeme) (tree : List External) (unit : TypedUnit) (shows : plain_show (command_of words) ≡ Some file)
+  module _ (file text : List ℕ) (ts : List Lexeme) (tree : List External) (unit : TypedUnit) (shows : plain_file (command_of words) ≡ Some file)
       (is_text : contents file ≡ Some text) (within : length text ≤ source_limit) (are_tokens : Tokens text ts) (is_tree : IsTree ts tree)
       (typed : IsTyped Ilp32 tree unit) (readable : Rose (before file) (after file) → ⊥) where
-    of_file : (status : Status) (lines : List ℕ) → IsAnswer words contents before after status lines → IsFileAnswer file (Some text) (before file) (after file) status lines
+    of_file : (status : Status) (lines : List ℕ) → IsAnswer words contents before after status lines → IsFileAnswer (text_of (is_printed (command_of words))) file (Some text) (before file) (after file) status lines
     of_file status lines h =
-        subst (λ c. IsFileAnswer file c (before file) (after file) status lines) is_text
-        (subst (λ (s : Option Name). IsAnswerTo s words contents before after status lines) shows h)
+        subst (λ c. IsFileAnswer (text_of (is_printed (command_of words))) file c (before file) (after file) status lines) is_text
+        (subst (λ (s : Option Name). IsAnswerTo (text_of (is_printed (command_of words))) s words contents before after status lines) shows h)
 
     -- the text has no other tokens, and these have no other tree
-    of_tokens : (status : Status) (lines : List ℕ) → OfTokens text status lines → IsTokensAnswer ts status lines
-    of_tokens status lines h = subst (λ us. IsTokensAnswer us status lines) (one_list text h.tokens ts h.are_tokens are_tokens) h.answer
+    of_tokens : (status : Status) (lines : List ℕ) → OfTokens (text_of (is_printed (command_of words))) text status lines → IsTokensAnswer (text_of (is_printed (command_of words))) ts status lines
+    of_tokens status lines h = subst (λ us. IsTokensAnswer (text_of (is_printed (command_of words))) us status lines) (one_list text h.tokens ts h.are_tokens are_tokens) h.answer
 
     -- a tree of these tokens is this one
     this_tree : (other : List External) → IsTree ts other → other ≡ tree
@@ -78,30 +78,30 @@ module _ (words : List Name) (contents : Name → Option (List ℕ)) (before aft
     same_unit : (c : Checked TypedUnit) (other : TypedUnit) → c ≡ Good other → c ≡ Good unit → other ≡ unit
     same_unit c other h k = cc
 
-    not_untyped : (lines : List ℕ) → OfTree ts Source lines → ⊥
+    not_untyped : (lines : List ℕ) → OfTree (text_of (is_printed (command_of words))) ts Source lines → ⊥
     not_untyped lines h =
         not_bad (checked Ilp32 tree) h.answer.at h.answer.kind typed
         (subst (λ t. checked Ilp32 t ≡ Bad h.answer.at h.answer.kind) (this_tree h.tree h.is_tree) h.answer.first_bad)
 
-    not_source : (lines : List ℕ) → IsTokensAnswer ts Source lines → ⊥
+    not_source : (lines : List ℕ) → IsTokensAnswer (text_of (is_printed (command_of words))) ts Source lines → ⊥
     not_source lines (inl h) = h.no_tree tree is_tree.spells
     not_source lines (inr h) = not_untyped lines h
 
-    not_refused : (lines : List ℕ) → IsTextAnswer text Source lines → ⊥
+    not_refused : (lines : List ℕ) → IsTextAnswer (text_of (is_printed (command_of words))) text Source lines → ⊥
     not_refused lines (inl h) = tokens_or_fault text ts h.cause h.at are_tokens h.fault
     not_refused lines (inr h) = not_source lines (of_tokens Source lines h)
 
-    not_past : (lines : List ℕ) → OfTokens text Limit lines → ⊥
+    not_past : (lines : List ℕ) → OfTokens (text_of (is_printed (command_of words))) text Limit lines → ⊥
     not_past lines h =
         let past = of_tokens Limit lines h in
         let e = one_tree past.passes.tree tree ts past.passes.spells is_tree.spells in
         let first = subst (λ t. first_limit t ≡ Some (past.limit, past.at)) e past.passes.first in
         absurd cc
 
-    read : (status : Status) (lines : List ℕ) → (h : Reads (Some text) status lines) → IsTextAnswer text status lines
-    read status lines h = subst (λ t. IsTextAnswer t status lines) h.is_text h.answer
+    read : (status : Status) (lines : List ℕ) → (h : Reads (text_of (is_printed (command_of words))) (Some text) status lines) → IsTextAnswer (text_of (is_printed (command_of words))) text status lines
+    read status lines h = subst (λ t. IsTextAnswer (text_of (is_printed (command_of words))) t status lines) h.is_text h.answer
 
-    is_done : (status : Status) (lines : List ℕ) → IsFileAnswer file (Some text) (before file) (after file) status lines → status ≡ Done
+    is_done : (status : Status) (lines : List ℕ) → IsFileAnswer (text_of (is_printed (command_of words))) file (Some text) (before file) (after file) status lines → status ≡ Done
     is_done Done lines h = refl
     is_done No lines h = absurd h.answer.answer.answer.answer
     is_done Words lines h = absurd h.answer.answer.answer.answer

@@ -1,6 +1,7 @@
 pub mod ProgramText
 pub mod Spelled
 pub mod Words
+pub mod CodeWriting
 pub mod Sum
 pub mod CodeSum
 pub mod Refusal

@@ -96,7 +96,12 @@ command_of (w ∷ ws) =
     (if same_name w (codes "sample") then sample_of ws else
     (if same_name w (codes "trial") then trial_of ws else None)))))))
 
--- the file of `show FILE` without options
-abbrev pub plain_show : Option Command → Option Name
-plain_show (Some (Show file [])) = Some file
-plain_show _ = None
+-- the file of `show FILE` or `print FILE` without options
+abbrev pub plain_file : Option Command → Option Name
+plain_file (Some (Show file [])) = Some file
+plain_file (Some (Print file [])) = Some file
+plain_file _ = None
+
+abbrev pub is_printed : Option Command → Bool
+is_printed (Some (Print file ws)) = true
+is_printed _ = false

@@ -5,7 +5,7 @@ ghost use Rattle.ac_base.specs.Count.{Rose};
 ghost use Rattle.c_lex.specs.Lexeme.{Lexeme};
 ghost use Rattle.c_lex.specs.Tokens.{Tokens};
 ghost use Rattle.c_grammar.specs.Tree.{External};
-ghost use Rattle.ac_core.specs.Words.{command_of, plain_show};
+ghost use Rattle.ac_core.specs.Words.{command_of, plain_file};
 ghost use Rattle.c_values.specs.Types.{Ilp32};
 ghost use Rattle.c_lang.specs.Typed.{TypedUnit};
 ghost use Rattle.typing_rules.specs.Unit.{IsTyped};
@@ -19,7 +19,7 @@ use std::alloc::Global;
 /// Does what the words ask for: reads the files that they name from the shelf, and writes the
 /// answer, or the line of a fault, to the sink.
 ///
-/// So far `show FILE` is built. A text without globals that has at most one function, of unsigned
+/// So far `show FILE` and `print FILE` are built. A text without globals that has at most one function, of unsigned
 /// parameters, which returns a sum of them and of constants, is shown as tidy programs; of any other
 /// text the programs aren't made tidy yet.
 pub fn autocorres<H: Shelf, K: Sink>(
@@ -38,7 +38,7 @@ pub fn autocorres<H: Shelf, K: Sink>(
     // runs out.
     ensures complete { (file text : List ℕ) (ts : List Lexeme) (tree : List External)
         (unit : TypedUnit) →
-        plain_show (command_of (map string_bytes words.now)) ≡ Some file →
+        plain_file (command_of (map string_bytes words.now)) ≡ Some file →
         H.contents shelf.old file ≡ Some text → length text ≤ source_limit →
         Tokens text ts → IsTree ts tree → IsTyped Ilp32 tree unit →
         ¬ Rose (H.faults shelf.old file) (H.faults shelf.new file) →
@@ -46,7 +46,7 @@ pub fn autocorres<H: Shelf, K: Sink>(
         (result ≡ Status.Done) ⊎ (result ≡ Status.Memory) }
 
     // The shelf isn't asked for anything where nothing is to be shown.
-    ensures unasked { plain_show (command_of (map string_bytes words.now)) ≡ None →
+    ensures unasked { plain_file (command_of (map string_bytes words.now)) ≡ None →
         shelf.new ≡ shelf.old }
     ensures contents { (name : List ℕ) → H.contents shelf.new name ≡ H.contents shelf.old name }
     ensures counts { (name : List ℕ) → H.faults shelf.old name ≤ H.faults shelf.new name }

@@ -2,21 +2,34 @@
 
 ghost use Rattle.std.specs.Prelude.{◌≡◌, None, Some, IfSome, IfNone, List, map, is_some, string_bytes, ◌&&◌};
 ghost use Rattle.c_values.specs.Name.{is_among};
-ghost use Rattle.ac_core.specs.Words.{command_of, plain_show, ilp32_word, lp64_word, is_option, are_options, is_target, has_options, has_files, has_count, is_last_target, is_count};
+ghost use Rattle.ac_core.specs.CodeWriting.{is_notation};
+ghost use Rattle.ac_core.specs.Words.{command_of, plain_file, is_printed, ilp32_word, lp64_word, is_option, are_options, is_target, has_options, has_files, has_count, is_last_target, is_count};
 
-/// The file of `show FILE`, where the words are of that form and have no option.
-pub(crate) fn shown_file(words: &[String]) -> Option<&str>
-    ensures shown { IfSome result (λ file. plain_show (command_of (map string_bytes words.now))
-        ≡ Some file.now) }
-    ensures other { IfNone result (plain_show (command_of (map string_bytes words.now)) ≡ None) }
+/// How programs are written.
+#[derive(Clone, Copy)]
+pub(crate) enum Writing {
+    /// As a tree.
+    Tree,
+    /// In do-notation, for readers.
+    Notation,
+}
+
+/// The file of `show FILE` or `print FILE`, where the words are of such a form and have no option,
+/// and how its programs are to be written.
+pub(crate) fn asked_file(words: &[String]) -> Option<(&str, Writing)>
+    ensures file { IfSome result (λ (file, writing).
+        plain_file (command_of (map string_bytes words.now)) ≡ Some file.now) }
+    ensures writing { IfSome result (λ (file, writing).
+        is_printed (command_of (map string_bytes words.now)) ≡ is_notation writing) }
+    ensures other { IfNone result (plain_file (command_of (map string_bytes words.now)) ≡ None) }
 {
     let [command, file] = words else {
         return None;
     };
-    if command.as_str() == "show" {
-        Some(file.as_str())
-    } else {
-        None
+    match command.as_str() {
+        "show" => Some((file.as_str(), Writing::Tree)),
+        "print" => Some((file.as_str(), Writing::Notation)),
+        _ => None,
     }
 }
 

@@ -144,7 +144,7 @@ fn shows_plain_files(rt: HostRuntime) -> Result<(), Fail> {
         ("show target=lp64", "read fault: target=lp64\n"),
         ("show ", "read fault: \n"),
         ("show f.c bytes=f", "not yet\n"),
-        ("print f.c", "not yet\n"),
+        ("print f.c", "read fault: f.c\n"),
         ("sample 7", "not yet\n"),
         ("show f.c g.c", "words: no command of this form\n"),
         ("show", "words: no command of this form\n"),

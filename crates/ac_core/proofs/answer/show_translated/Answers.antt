@@ -35,5 +35,5 @@ returns c =
       exact = c.in_ok-programs.ensures.exact levels are calls;
       well_formed = (c.in_ok-programs.ensures.formed levels are calls).0;
       formed = (c.in_ok-programs.ensures.formed levels are calls).1;
-      written = c.in_ok-write_program.ensures;
+      written = c.in_ok-written.ensures;
     })

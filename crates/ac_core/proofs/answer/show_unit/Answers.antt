@@ -16,8 +16,8 @@ use Rattle.ac_core.proofs.ExactSum.{sum_exact, all_numbers, sum_programs}
 use Rattle.ac_core.proofs.TextNames.{text_well_formed, text_spelled}
 use Rattle.ac_core.proofs.answer.show_unit.Goals as goal
 
-pub returns-in_ok-write_program-in-Some : goal.returns-in_ok-write_program-in-Some
-returns-in_ok-write_program-in-Some c =
+pub returns-in_ok-written-in-Some : goal.returns-in_ok-written-in-Some
+returns-in_ok-written-in-Some c =
     let unit = unit_of c.args.unit in
     let functions = map function_of c.deref.result.now in
     let of_class : class_of unit ≡ Some functions =
@@ -34,5 +34,5 @@ returns-in_ok-write_program-in-Some c =
       well_formed = subst IsWellFormed (sym c.in_ok-programs-in-Some.ensures) (text_well_formed c.requires.0 unit functions c.requires.1 c.requires.2 of_class);
       spelled = subst IsSpelled (sym c.in_ok-programs-in-Some.ensures) (text_spelled c.requires.0 unit functions c.requires.1 c.requires.2 of_class);
       numbers = subst (λ (programs : FinalUnit). AreInNumbers programs.functions) (sym c.in_ok-programs-in-Some.ensures) (all_numbers functions);
-      written = c.in_ok-write_program-in-Some.ensures;
+      written = c.in_ok-written-in-Some.ensures;
     })

@@ -3,7 +3,7 @@ use Rattle.expression_lang.specs.CodeExpression.{kind_of}
 use Rattle.expression_lang.specs.declared.sort.Kind.TheVariants as K
 use Rattle.ac_core.specs.ProgramText.{kind_text}
 use Rattle.ac_core.proofs.Spaced.{spaced_next_seen, written_more}
-use Rattle.ac_core.proofs.program_text.push_more_kinds.Goals as goal
+use Rattle.ac_core.proofs.shown_programs.push_more_kinds.Goals as goal
 
 pub loop-kind-preserved : goal.loop-kind-preserved
 loop-kind-preserved c =

@@ -2,7 +2,7 @@ use Rattle.std.proofs.Common.{◌++◌, sym, ap, ◌∙◌}
 use Rattle.monad_lang.specs.CodeProgram.{start_of}
 use Rattle.ac_core.specs.ProgramText.{start_text}
 use Rattle.ac_core.proofs.Spaced.{spaced_more_seen, written_more}
-use Rattle.ac_core.proofs.program_text.push_more_starts.Goals as goal
+use Rattle.ac_core.proofs.shown_programs.push_more_starts.Goals as goal
 
 pub loop-start-preserved : goal.loop-start-preserved
 loop-start-preserved c =

@@ -3,7 +3,7 @@ use Rattle.std.specs.Prelude.{codes}
 use Rattle.monad_lang.specs.CodeProgram.{final_fn_of}
 use Rattle.ac_core.specs.ProgramText.{spaced, function_text}
 use Rattle.ac_core.proofs.Spaced.{spaced_more_seen, written_more}
-use Rattle.ac_core.proofs.program_text.write_program.Goals as goal
+use Rattle.ac_core.proofs.shown_programs.write_program.Goals as goal
 
 pub loop-function-preserved : goal.loop-function-preserved
 loop-function-preserved c =

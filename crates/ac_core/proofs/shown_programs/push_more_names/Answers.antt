@@ -1,7 +1,7 @@
 use Rattle.std.proofs.Common.{◌++◌, sym, ap, ◌∙◌}
 use Rattle.std.specs.Prelude.{string_bytes}
 use Rattle.ac_core.proofs.Spaced.{spaced_more, written_more}
-use Rattle.ac_core.proofs.program_text.push_more_names.Goals as goal
+use Rattle.ac_core.proofs.shown_programs.push_more_names.Goals as goal
 
 pub loop-name-preserved : goal.loop-name-preserved
 loop-name-preserved c =

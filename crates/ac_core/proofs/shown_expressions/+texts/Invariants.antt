@@ -3,7 +3,7 @@ use Rattle.std.proofs.Common.{◌≡◌, ◌≤◌, ◌++◌}
 use Rattle.expression_lang.specs.declared.paths.Path.{size-Path}
 use Rattle.expression_lang.specs.CodeExpression.{path_of}
 use Rattle.ac_core.specs.ProgramText.{spaced, step_texts}
-use Rattle.ac_core.proofs.expression_text.+texts.Given as goal
+use Rattle.ac_core.proofs.shown_expressions.+texts.Given as goal
 
 abbrev pub invariant-push_steps-steps : goal.invariant-push_steps-steps
 invariant-push_steps-steps l = record {

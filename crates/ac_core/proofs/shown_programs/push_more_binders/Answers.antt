@@ -2,7 +2,7 @@ use Rattle.std.proofs.Common.{◌++◌, sym, ap, ◌∙◌}
 use Rattle.expression_lang.specs.CodeSignature.{binder_of}
 use Rattle.ac_core.specs.ProgramText.{binder_text}
 use Rattle.ac_core.proofs.Spaced.{spaced_more_seen, written_more}
-use Rattle.ac_core.proofs.program_text.push_more_binders.Goals as goal
+use Rattle.ac_core.proofs.shown_programs.push_more_binders.Goals as goal
 
 pub loop-binder-preserved : goal.loop-binder-preserved
 loop-binder-preserved c =

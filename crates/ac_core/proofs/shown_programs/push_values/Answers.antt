@@ -2,7 +2,7 @@ use Rattle.std.proofs.Common.{◌++◌, sym, ap, ◌∙◌}
 use Rattle.expression_lang.specs.CodeExpression.{exp_of}
 use Rattle.ac_core.specs.ProgramText.{exp_text}
 use Rattle.ac_core.proofs.Spaced.{spaced_more_seen, written_more}
-use Rattle.ac_core.proofs.program_text.push_values.Goals as goal
+use Rattle.ac_core.proofs.shown_programs.push_values.Goals as goal
 
 pub loop-value-preserved : goal.loop-value-preserved
 loop-value-preserved c =

@@ -6,7 +6,7 @@ ghost use Rattle.expression_lang.specs.CodeSignature.{binder_of};
 ghost use Rattle.monad_lang.specs.CodeProgram.{place_of, start_of, mon_of, final_fn_of, final_unit_of};
 ghost use Rattle.ac_core.specs.ProgramText.{exp_text, spaced, row, kind_text, level_text, binder_text, start_text, write_text, program_text, then_texts, signature_text, function_text, unit_text};
 
-use crate::expression_text::{
+use crate::shown_expressions::{
     push, push_count, push_exp, push_first, push_last, push_name, push_next, push_path, push_typed,
 };
 use expression_lang::{Binder, Exp, Kind, Level};
