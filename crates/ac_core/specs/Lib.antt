@@ -7,5 +7,6 @@ pub mod CodeSum
 pub mod Refusal
 pub mod Class
 pub mod Answer
+pub mod CodeAsked
 pub mod Status
 pub mod CodeHeads

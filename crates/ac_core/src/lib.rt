@@ -3,7 +3,9 @@
 
 mod answer;
 mod class;
+mod commands;
 mod generation_laws;
+mod programs;
 mod refusal;
 mod shown_expressions;
 mod shown_programs;
