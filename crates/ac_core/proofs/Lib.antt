@@ -13,3 +13,4 @@ pub mod LongFunctions
 pub mod UnknownNames
 pub mod Complete
 pub mod Told
+pub mod Shown
