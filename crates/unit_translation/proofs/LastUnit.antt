@@ -14,14 +14,14 @@ use Rattle.generation.specs.Generate.{generated}
 use Rattle.exactness.specs.Exact.{IsExact}
 use Rattle.heap_ready.specs.Ready.{CallsLifted}
 use Rattle.acceptance.specs.Accepted.{IsAccepted}
-use Rattle.acceptance_laws.specs.Made.{all_steps_made, certificate_made}
+use Rattle.acceptance_laws.specs.Made.{unchanged_last, all_steps_with, certificate_made}
 use Rattle.acceptance_laws.specs.Units.{on_numbers, functions_with, last_unit}
 use Rattle.acceptance_laws.proofs.AcceptedExact.{accepted_is_exact}
 use Rattle.acceptance_laws.proofs.MadeAccepted.{certificates_are_there}
 use Rattle.unit_translation.specs.CodeTranslated.{last_program, last_functions}
 
 functions_are : (u : SimplUnit) (fs : List SimplFn) (ss : List Signature) →
-    functions_with on_numbers (λ c. c.equal.program) ss (all_steps_made same_exp u fs ss) ≡ last_functions u fs ss
+    functions_with on_numbers (λ c. c.equal.program) ss (all_steps_with unchanged_last same_exp u fs ss) ≡ last_functions u fs ss
 functions_are u [] [] = refl
 functions_are u [] (s ∷ ss) = refl
 functions_are u (f ∷ fs) [] = refl

@@ -11,7 +11,7 @@ use Rattle.rule_local.specs.Units.{context_of, outputs_of}
 use Rattle.local_lift.specs.Ready.{IsReady}
 use Rattle.rule_heap.specs.HeapLifted.{on_heaps}
 use Rattle.c_lang.specs.Typed.{TypedFn}
-use Rattle.acceptance_laws.specs.Made.{local_made, steps_made}
+use Rattle.acceptance_laws.specs.Made.{local_made, unchanged_last, steps_with}
 use Rattle.acceptance_laws.specs.Units.{on_numbers}
 
 abbrev pub lifted_program : SimplFn → Signature → Mon
@@ -21,7 +21,7 @@ abbrev pub heap_program : SimplFn → Signature → Mon
 heap_program f s = if is_lifted f.level then on_heaps (lifted_program f s) else lifted_program f s
 
 abbrev pub last_program : SimplUnit → SimplFn → Signature → Mon
-last_program u f s = (steps_made same_exp u f s).equal.program
+last_program u f s = (steps_with unchanged_last same_exp u f s).equal.program
 
 abbrev pub last_functions : SimplUnit → List SimplFn → List Signature → List FinalFn
 last_functions u (f ∷ fs) (s ∷ ss) = on_numbers s (last_program u f s) ∷ last_functions u fs ss
