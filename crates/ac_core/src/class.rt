@@ -1,5 +1,5 @@
-//! Which typed texts are shown by tidy programs: those without globals that have at most one function,
-//! which returns a sum of its unsigned parameters and of constants.
+//! Which typed texts are shown by tidy programs: those without globals that have at most one
+//! function, which returns a sum of its unsigned parameters and of constants.
 
 ghost use Rattle.std.specs.Prelude.{◌≡◌, map, IfOk, option_map, string_bytes};
 ghost use Rattle.c_values.specs.CodeTypes.{target_of, type_of};
