@@ -41,6 +41,8 @@ impl Sequence for Parts<'_> {
 
     ghost changes = { λ it. changes_at it };
 
+    // Walks over facts call it for each part, and what it gives is large.
+    #[inline(always)]
     fn split(&self) -> Option<Split<'_, Self>> {
         match self {
             Parts::None => None,

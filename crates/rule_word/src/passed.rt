@@ -38,6 +38,8 @@ impl Sequence for Passed<'_> {
 
     ghost changes = { λ it. changes_at it };
 
+    // Walks over facts call it for each part, and what it gives is large.
+    #[inline(always)]
     fn split(&self) -> Option<Split<'_, Self>> {
         match self {
             Passed::Program(parts) => match parts.split() {
