@@ -35,9 +35,15 @@ class File:
         self.imported = {}  # a word -> the file and the name that it stands for
         self.modules = {}  # a short name -> the file that it stands for
         is_mutual = False
+        depth = 0  # of modules with parameters, whose definitions stand further in
         for line in open(path, encoding="utf-8"):
             text = re.sub(r"(^|\s)--.*$", "", line.rstrip())
             if not text.strip():
+                continue
+            depth = min(depth, (len(text) - len(text.lstrip())) // 2)
+            text = text[2 * depth :]
+            if text.startswith("module "):
+                depth += 1
                 continue
             if re.match(r"(pub )?use ", text):
                 self.take_import(text)

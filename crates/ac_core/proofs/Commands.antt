@@ -4,11 +4,16 @@ use Rattle.std.specs.Prelude.{codes}
 use Rattle.std.specs.List.{list_any, list_all}
 use Rattle.std.proofs.lemmas.List.{drop-map, length-map}
 use Rattle.std.proofs.Math.Bool.{and-true}
-use Rattle.std.proofs.lemmas.Bool.{le-leb, ne_eqb}
+use Rattle.std.proofs.Math.ListN.{get_or}
+use Rattle.std.proofs.lemmas.Bool.{le-leb, ne_eqb, true≢false, false_from_ne_true}
 use Rattle.std.proofs.lemmas.Bool.Decides.{nat_tests}
 use Rattle.std.proofs.lemmas.Grind.{common_steps}
 use Rattle.c_values.specs.Name.{Name, same_name}
-use Rattle.ac_core.specs.Words.{Command, Show, Print, Translate, Check, Run, Prove, Sample, Trial, are_options, is_last_target, is_count, is_digit, has_files, has_count, where_holds, with_options, check_of, of_three, sample_of, trial_of, command_of, plain_show}
+use Rattle.c_values.proofs.Laid.{name_is}
+use Rattle.ac_core.specs.Words.{Command, Show, Print, Translate, Check, Run, Prove, Sample, Trial, are_options, is_last_target, is_count, is_digit, has_files, has_count, where_holds, with_options, check_of, of_three, sample_of, trial_of, command_of, asked_of, is_printed}
+use Rattle.ac_core.specs.CodeWriting.{is_notation, word_of}
+use Rattle.ac_core.specs.declared.words.Writing.{Writing}
+use Rattle.ac_core.specs.declared.words.Writing.TheVariants.{Tree, Notation}
 
 pub list_any-map : {X : Type 0} (p : X → Bool) → {Y : Type 0} (h : Y → X) (ys : List Y) → list_any p (map h ys) ≡ list_any (λ y. p (h y)) ys
 list_any-map p h [] = refl
@@ -49,44 +54,51 @@ pub is_some-trial_of : (ws : List Name) → is_some (trial_of ws) ≡ has_count 
 is_some-trial_of [] = refl
 is_some-trial_of (n ∷ ws) = is_some-where_holds (is_count n && is_last_target ws) (Trial n ws)
 
--- only `show` with a file and no more is a plain one
+-- only `show` and `print` ask for the programs of a C text
 
-not_where_holds : (b : Bool) (c : Command) → plain_show (Some c) ≡ None → plain_show (where_holds b c) ≡ None
+not_where_holds : (b : Bool) (c : Command) → asked_of (Some c) ≡ None → asked_of (where_holds b c) ≡ None
 not_where_holds true c h = h
 not_where_holds false c h = refl
 
-not_either : (b : Bool) (c d : Option Command) → plain_show c ≡ None → plain_show d ≡ None → plain_show (cond b c d) ≡ None
+not_either : (b : Bool) (c d : Option Command) → asked_of c ≡ None → asked_of d ≡ None → asked_of (cond b c d) ≡ None
 not_either true c d g h = g
 not_either false c d g h = h
 
-not_with_options : (make : Name → List Name → Command) → ((file : Name) (ws : List Name) → plain_show (Some (make file ws)) ≡ None) → (ws : List Name) → plain_show (with_options make ws) ≡ None
+not_with_options : (make : Name → List Name → Command) → ((file : Name) (ws : List Name) → asked_of (Some (make file ws)) ≡ None) → (ws : List Name) → asked_of (with_options make ws) ≡ None
 not_with_options make h [] = refl
 not_with_options make h (file ∷ ws) = not_where_holds (are_options ws) (make file ws) (h file ws)
 
-not_check_of : (ws : List Name) → plain_show (check_of ws) ≡ None
+not_check_of : (ws : List Name) → asked_of (check_of ws) ≡ None
 not_check_of [] = refl
 not_check_of (w ∷ []) = refl
 not_check_of (w ∷ x ∷ ws) = not_where_holds (is_last_target ws) (Check w x ws) refl
 
-not_of_three : (make : Name → Name → Name → List Name → Command) → ((w x y : Name) (ws : List Name) → plain_show (Some (make w x y ws)) ≡ None) → (ws : List Name) → plain_show (of_three make ws) ≡ None
+not_of_three : (make : Name → Name → Name → List Name → Command) → ((w x y : Name) (ws : List Name) → asked_of (Some (make w x y ws)) ≡ None) → (ws : List Name) → asked_of (of_three make ws) ≡ None
 not_of_three make h [] = refl
 not_of_three make h (w ∷ []) = refl
 not_of_three make h (w ∷ x ∷ []) = refl
 not_of_three make h (w ∷ x ∷ y ∷ ws) = not_where_holds (is_last_target ws) (make w x y ws) (h w x y ws)
 
-not_sample_of : (ws : List Name) → plain_show (sample_of ws) ≡ None
+not_sample_of : (ws : List Name) → asked_of (sample_of ws) ≡ None
 not_sample_of [] = refl
 not_sample_of (n ∷ []) = not_where_holds (is_count n) (Sample n) refl
 not_sample_of (n ∷ w ∷ ws) = refl
 
-not_trial_of : (ws : List Name) → plain_show (trial_of ws) ≡ None
+not_trial_of : (ws : List Name) → asked_of (trial_of ws) ≡ None
 not_trial_of [] = refl
 not_trial_of (n ∷ ws) = not_where_holds (is_count n && is_last_target ws) (Trial n ws) refl
 
-not_shown : (w : Name) (ws : List Name) → plain_show (with_options Show ws) ≡ None → plain_show (command_of (w ∷ ws)) ≡ None
-not_shown w ws h =
-    not_either (same_name w (codes "show")) _ _ h
-    (not_either (same_name w (codes "print")) _ _ (not_with_options Print (λ _ _. refl) ws)
+where_false : (b : Bool) (c d : Option Command) → b ≡ false → asked_of d ≡ None → asked_of (cond b c d) ≡ None
+where_false true c d e h = absurd (true≢false e)
+where_false false c d e h = h
+
+apart : (w v : Name) → (w ≡ v → ⊥) → same_name w v ≡ false
+apart w v h = false_from_ne_true (same_name w v) (λ e. h (name_is w v e))
+
+other_word : (w : Name) (ws : List Name) → (w ≡ codes "show" → ⊥) → (w ≡ codes "print" → ⊥) → asked_of (command_of (w ∷ ws)) ≡ None
+other_word w ws h k =
+    where_false (same_name w (codes "show")) _ _ (apart w (codes "show") h)
+    (where_false (same_name w (codes "print")) _ _ (apart w (codes "print") k)
     (not_either (same_name w (codes "translate")) _ _ (not_with_options Translate (λ _ _. refl) ws)
     (not_either (same_name w (codes "check")) _ _ (not_check_of ws)
     (not_either (same_name w (codes "run")) _ _ (not_of_three Run (λ _ _ _ _. refl) ws)
@@ -94,15 +106,48 @@ not_shown w ws h =
     (not_either (same_name w (codes "sample")) _ _ (not_sample_of ws)
     (not_either (same_name w (codes "trial")) _ _ (not_trial_of ws) refl)))))))
 
--- fewer than two words, or more
-shows_none-words : (ws : List Name) → (length ws ≡ 2 → ⊥) → plain_show (command_of ws) ≡ None
-shows_none-words [] h = refl
-shows_none-words (w ∷ []) h = not_shown w [] refl
-shows_none-words (w ∷ x ∷ []) h = absurd (h refl)
-shows_none-words (w ∷ x ∷ y ∷ ws) h = not_shown w (x ∷ y ∷ ws) (not_where_holds (are_options (y ∷ ws)) (Show x (y ∷ ws)) refl)
+-- no word, or another first one
+pub asks_nothing : {X : Type 0} (f : X → Name) (xs : List X) (x : X) (rest : List X) → xs ≡ x ∷ rest → (f x ≡ codes "show" → ⊥) →
+    (f x ≡ codes "print" → ⊥) → asked_of (command_of (map f xs)) ≡ None
+asks_nothing f xs x rest e h k = ap (λ ys. asked_of (command_of (map f ys))) e ∙ other_word (f x) (map f rest) h k
 
-pub shows_none : {X : Type 0} (f : X → Name) (xs : List X) → (length xs ≡ 2 → ⊥) → plain_show (command_of (map f xs)) ≡ None
-shows_none f xs h = shows_none-words (map f xs) (λ e. h (sym (length-map xs f) ∙ e))
+-- a word that asks for programs, and no file
+bare_word : (w : Writing) → asked_of (command_of (word_of w ∷ [])) ≡ None
+bare_word Tree = refl
+bare_word Notation = refl
+
+pub asks_no_file : {X : Type 0} (f : X → Name) (xs : List X) (x : X) (rest : List X) (w : Writing) → xs ≡ x ∷ rest → f x ≡ word_of w → rest ≡ [] →
+    asked_of (command_of (map f xs)) ≡ None
+asks_no_file f xs x rest w e h k =
+    ap (λ ys. asked_of (command_of (map f ys))) e ∙ ap (λ ys. asked_of (command_of (f x ∷ map f ys))) k ∙ ap (λ v. asked_of (command_of (v ∷ []))) h ∙ bare_word w
+
+-- a file, and words behind it that are options or not
+with_file : (w : Writing) (file : Name) (ws : List Name) → asked_of (command_of (word_of w ∷ file ∷ ws)) ≡ cond (are_options ws) (Some (file, ws)) None
+with_file Tree file ws = by (are_options ws) where
+  by : (b : Bool) → asked_of (where_holds b (Show file ws)) ≡ cond b (Some (file, ws)) None
+  by true = refl
+  by false = refl
+with_file Notation file ws = by (are_options ws) where
+  by : (b : Bool) → asked_of (where_holds b (Print file ws)) ≡ cond b (Some (file, ws)) None
+  by true = refl
+  by false = refl
+
+written_with : (w : Writing) (file : Name) (ws : List Name) → are_options ws ≡ true → is_printed (command_of (word_of w ∷ file ∷ ws)) ≡ is_notation w
+written_with Tree file ws h = ap (λ b. is_printed (where_holds b (Show file ws))) h
+written_with Notation file ws h = ap (λ b. is_printed (where_holds b (Print file ws))) h
+
+module _ {X : Type 0} (f : X → Name) (xs : List X) (x : X) (rest : List X) (file : X) (ws : List X) (w : Writing) (e : xs ≡ x ∷ rest) (h : f x ≡ word_of w) (k : rest ≡ file ∷ ws) where
+  words_are : map f xs ≡ word_of w ∷ f file ∷ map f ws
+  words_are = ap (map f) e ∙ ap (λ ys. f x ∷ map f ys) k ∙ ap (λ v. v ∷ f file ∷ map f ws) h
+
+  pub asks_for : are_options (map f ws) ≡ true → asked_of (command_of (map f xs)) ≡ Some (f file, map f ws)
+  asks_for o = ap (λ ys. asked_of (command_of ys)) words_are ∙ with_file w (f file) (map f ws) ∙ ap (λ b. cond b (Some (f file, map f ws)) None) o
+
+  pub asks_other : are_options (map f ws) ≡ false → asked_of (command_of (map f xs)) ≡ None
+  asks_other o = ap (λ ys. asked_of (command_of ys)) words_are ∙ with_file w (f file) (map f ws) ∙ ap (λ b. cond b (Some (f file, map f ws)) None) o
+
+  pub asks_written : are_options (map f ws) ≡ true → is_printed (command_of (map f xs)) ≡ is_notation w
+  asks_written o = ap (λ ys. is_printed (command_of ys)) words_are ∙ written_with w (f file) (map f ws) o
 
 -- a form is told by the first word
 pub is_form_of : {X : Type 0} (f : X → Name) (xs : List X) (x : X) (rest : List X) (w : Name) (form : List Name → Bool) (answer : Bool) →

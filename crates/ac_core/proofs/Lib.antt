@@ -8,5 +8,9 @@ pub mod SumForm
 pub mod TextNames
 pub mod ParameterNames
 pub mod Commands
+pub mod Options
+pub mod LongFunctions
+pub mod UnknownNames
 pub mod Complete
 pub mod Told
+pub mod Shown

@@ -9,7 +9,7 @@ use Rattle.std.proofs.Math.Nat.{mod-lt}
 use Rattle.std.proofs.lemmas.List.Sums.{count_by-le-length}
 use Rattle.c_lex.specs.Bytes.{is_letter, is_word}
 use Rattle.c_values.specs.Name.{Name, same_name, are_distinct}
-use Rattle.c_values.specs.Types.{Ilp32}
+use Rattle.c_values.specs.Types.{Target}
 use Rattle.c_values.specs.Layout.{StructDef}
 use Rattle.c_grammar.specs.Tree.{External}
 use Rattle.typing_rules.specs.Progress.{numbered}
@@ -116,15 +116,15 @@ sums_apart structs (u ∷ []) is h =
 sums_apart structs (u ∷ v ∷ us) is h = absurd is
 
 -- so the programs that are shown of a typed text are well-formed and can be read
-module _ (tree : List External) (u : C.TypedUnit) (us : List SumFunction) (written : W.AreWritten tree) (typed : IsTyped Ilp32 tree u) (of_class : class_of u ≡ Some us) where
+module _ (t : Target) (tree : List External) (u : C.TypedUnit) (us : List SumFunction) (written : W.AreWritten tree) (typed : IsTyped t tree u) (of_class : class_of u ≡ Some us) where
   found : (typed_unit_of u.layout.structs us ≡ u) × IsOneSum us
   found = found_is_sum u us of_class
 
   well_typed : IsWellTyped (typed_unit_of u.layout.structs us)
-  well_typed = subst IsWellTyped (sym found.0) (typed_units_are_well_typed Ilp32 tree u written typed)
+  well_typed = subst IsWellTyped (sym found.0) (typed_units_are_well_typed t tree u written typed)
 
   pub text_well_formed : IsWellFormed (final_unit_of u.layout.structs us)
   text_well_formed = sums_well_formed u.layout.structs us well_typed.layout found.1 (sums_apart u.layout.structs us found.1 well_typed)
 
   pub text_spelled : IsSpelled (final_unit_of u.layout.structs us)
-  text_spelled = sums_spelled u.layout.structs us found.1 (sums_named us (subst (λ v. W.Each IsNamed v.functions) (sym found.0) (functions_named Ilp32 tree u written typed)))
+  text_spelled = sums_spelled u.layout.structs us found.1 (sums_named us (subst (λ v. W.Each IsNamed v.functions) (sym found.0) (functions_named t tree u written typed)))

@@ -1,11 +1,15 @@
 -- The lines that refuse a C text.
-use Rattle.std.specs.Prelude.{ℕ, List, ◌++◌, codes}
+use Rattle.std.specs.Prelude.{◌≡◌, ℕ, List, ◌++◌, codes}
 use Rattle.std.specs.Fmt.{decimal}
 use Rattle.c_lex.specs.Front.{Cause, bad_byte, bad_number, open_comment, unsupported, long_name}
 use Rattle.c_lex.specs.Unsupported.{unsupported_text}
 use Rattle.typing_rules.specs.declared.fault.TypeKind.{TypeKind}
 use Rattle.typing_rules.specs.declared.fault.TypeKind.TheVariants as kind
 use Rattle.c_limits.specs.declared.limits.Limit.{Limit}
+use Rattle.c_parse.specs.declared.fault.ParseFault.{ParseFault}
+use Rattle.c_parse.specs.declared.fault.ParseFault.TheVariants as parse
+use Rattle.ac_core.specs.declared.status.Status.{Status}
+use Rattle.ac_core.specs.declared.status.Status.TheVariants as ends
 use Rattle.c_limits.specs.declared.limits.Limit.TheVariants.{Functions, Statements, Blocks, Depth, Nodes}
 
 -- why no token stands at a place
@@ -42,3 +46,9 @@ limit_text Nodes = codes "nodes"
 
 abbrev pub limit_line : Limit → List ℕ
 limit_line limit = codes "limit: " ++ (limit_text limit ++ codes "\n")
+
+-- the status and the line for what the parser refuses
+abbrev pub IsParseRefusal : ParseFault → Status → List ℕ → Type 0
+IsParseRefusal (parse.Syntax at) status lines = (status ≡ ends.Source) × (lines ≡ source_line (codes "syntax") at)
+IsParseRefusal (parse.Limit limit at) status lines = (status ≡ ends.Limit) × (lines ≡ limit_line limit)
+IsParseRefusal parse.Memory status lines = ⊥

@@ -3,6 +3,7 @@
 use Rattle.std.specs.Prelude.{ℕ, Bool, true, false, not, ◌&&◌, ◌||◌, List, [], ◌∷◌, length, drop, nat_le, nat_eq, Option, Some, None, if◌then◌else◌, codes}
 use Rattle.std.specs.List.{list_all, starts_with}
 use Rattle.c_values.specs.Name.{Name, same_name, is_among}
+use Rattle.c_values.specs.Types.{Target, Ilp32, Lp64}
 
 -- what is asked for; options and the target word stand as they are
 pub data Command : Type 0 where
@@ -96,7 +97,45 @@ command_of (w ∷ ws) =
     (if same_name w (codes "sample") then sample_of ws else
     (if same_name w (codes "trial") then trial_of ws else None)))))))
 
--- the file of `show FILE` without options
-abbrev pub plain_show : Option Command → Option Name
-plain_show (Some (Show file [])) = Some file
-plain_show _ = None
+-- what is asked of a C text: the file and the options of `show` or `print`
+abbrev pub asked_of : Option Command → Option (Name × List Name)
+asked_of (Some (Show file ws)) = Some (file, ws)
+asked_of (Some (Print file ws)) = Some (file, ws)
+asked_of _ = None
+
+abbrev pub is_printed : Option Command → Bool
+is_printed (Some (Print file ws)) = true
+is_printed _ = false
+
+-- the target that options choose
+abbrev pub target_of : List Name → Target
+target_of ws = if is_among lp64_word ws then Lp64 else Ilp32
+
+-- what follows such a beginning, of the words that have it
+abbrev pub after_start : List ℕ → List Name → List Name
+after_start start [] = []
+after_start start (w ∷ ws) = if starts_with nat_eq w start then drop (length start) w ∷ after_start start ws else after_start start ws
+
+-- the functions that options name for the level `bytes`, and for `words`
+abbrev pub bytes_names : List Name → List Name
+bytes_names ws = after_start (codes "bytes=") ws
+
+abbrev pub words_names : List Name → List Name
+words_names ws = after_start (codes "words=") ws
+
+-- no option names a function
+abbrev pub names_none : List Name → Bool
+names_none ws = list_all is_target ws
+
+-- the function that an option names
+abbrev pub named : Name → Option Name
+named w = if starts_with nat_eq w (codes "bytes=") || starts_with nat_eq w (codes "words=") then Some (drop 6 w) else None
+
+abbrev pub or_unknown : (Name → Bool) → Option Name → Option Name → Option Name
+or_unknown is_there None later = later
+or_unknown is_there (Some x) later = if is_there x then later else Some x
+
+-- the first function that an option names, in the order of the words, which isn't there
+abbrev pub first_unknown : (Name → Bool) → List Name → Option Name
+first_unknown is_there [] = None
+first_unknown is_there (w ∷ ws) = or_unknown is_there (named w) (first_unknown is_there ws)

@@ -2,34 +2,25 @@
 //! byte is written.
 
 ghost use Rattle.std.specs.Prelude.{◌≡◌, ◌<◌, ◌≤◌, ◌^◌, ℕ, List, map, length, IfOk, None, Some, codes, string_bytes, ◌++◌};
-ghost use Rattle.ac_core.specs.Words.{command_of, plain_show};
+ghost use Rattle.ac_core.specs.Words.{command_of, asked_of};
 ghost use Rattle.c_lex.specs.Lexeme.{lexemes_of};
 ghost use Rattle.c_lex.specs.Tokens.{Tokens};
-ghost use Rattle.c_grammar.specs.Tree.{External};
 ghost use Rattle.c_grammar.specs.CodeTree.{unit_of as tree_of};
-ghost use Rattle.c_values.specs.Types.{Ilp32};
-ghost use Rattle.typing_rules.specs.Unit.{IsTyped};
 ghost use Rattle.typing_laws.specs.Written.{AreWritten};
-ghost use Rattle.c_lang.specs.CodeTyped.{unit_of};
-ghost use Rattle.ac_core.specs.Class.{class_of};
-ghost use Rattle.ac_core.specs.Answer.{IsAnswer, IsUnshown, IsFileAnswer, IsTextAnswer, IsTokensAnswer, IsTreeAnswer, IsUnitAnswer};
+ghost use Rattle.ac_core.specs.CodeAsked.{writing_of, options_of};
+ghost use Rattle.ac_core.specs.Answer.{IsAnswer, IsUnshown, IsFileAnswer, IsTextAnswer, IsTokensAnswer, IsTreeAnswer};
 ghost use Rattle.ac_core.specs.declared.status.Status.{Status};
 
 use crate::Status;
-use crate::class::class_of;
-use crate::program_text::write_program;
-use crate::refusal::{lex_refusal, past, syntax, untyped};
-use crate::sum::translate;
-use crate::words::{is_form, shown_file};
+use crate::programs::show_unit;
+use crate::refusal::{lex_refusal, parse_refusal, untyped};
+use crate::words::{Asked, asked_file, is_form, target_of};
 use ac_base::{ReadTrouble, Shelf, read_whole};
 use c_grammar::tree::Unit;
-use c_levels::default_modes;
 use c_lex::{Token, tokens};
-use c_parse::{ParseFault, parse};
-use c_types::{TypeFault, TypedUnit, check_unit};
-use c_values::Target;
+use c_parse::parse;
+use c_types::{TypeFault, check_unit};
 use std::alloc::{AllocError, Global};
-use unit_translation::translate_unit;
 
 /// A status with the lines of the answer.
 #[derive(Drop)]
@@ -41,7 +32,7 @@ pub(crate) struct Answer {
 /// Bytes of C text that are read.
 const SOURCE_LIMIT: u64 = 262_144;
 
-/// The answer to words. The shelf is asked for the file of `show FILE` alone.
+/// The answer to words. The shelf is asked for the file of `show` and of `print` alone.
 pub(crate) fn answer_to<H: Shelf>(
     alloc: Global,
     words: &[String],
@@ -52,18 +43,18 @@ pub(crate) fn answer_to<H: Shelf>(
         (H.faults shelf.new) a.status a.lines.items) }
     ensures contents { (name : List ℕ) → H.contents shelf.new name ≡ H.contents shelf.old name }
     ensures counts { (name : List ℕ) → H.faults shelf.old name ≤ H.faults shelf.new name }
-    ensures unasked { plain_show (command_of (map string_bytes words.now)) ≡ None →
+    ensures unasked { asked_of (command_of (map string_bytes words.now)) ≡ None →
         shelf.new ≡ shelf.old }
 {
-    match shown_file(words) {
-        Some(file) => show(alloc, file, shelf),
+    match asked_file(words) {
+        Some((file, asked)) => show(alloc, file, asked, shelf),
         None => unshown(alloc, words),
     }
 }
 
 // Words that don't ask for what is built.
 fn unshown(alloc: Global, words: &[String]) -> Result<Answer, AllocError>
-    requires { plain_show (command_of (map string_bytes words.now)) ≡ None }
+    requires { asked_of (command_of (map string_bytes words.now)) ≡ None }
     ensures { IfOk result (λ a. IsUnshown (map string_bytes words.now) a.status a.lines.items) }
 {
     if is_form(words) {
@@ -74,15 +65,20 @@ fn unshown(alloc: Global, words: &[String]) -> Result<Answer, AllocError>
 }
 
 // What is shown of a file.
-fn show<H: Shelf>(alloc: Global, file: &str, shelf: &mut H) -> Result<Answer, AllocError>
-    ensures answer { IfOk result
-        (λ a. IsFileAnswer file.now (H.contents shelf.old file.now) (H.faults shelf.old file.now)
+fn show<H: Shelf>(
+    alloc: Global,
+    file: &str,
+    asked: Asked<'_>,
+    shelf: &mut H,
+) -> Result<Answer, AllocError>
+    ensures answer { IfOk result (λ a. IsFileAnswer (writing_of asked) (options_of asked) file.now
+        (H.contents shelf.old file.now) (H.faults shelf.old file.now)
         (H.faults shelf.new file.now) a.status a.lines.items) }
     ensures contents { (name : List ℕ) → H.contents shelf.new name ≡ H.contents shelf.old name }
     ensures counts { (name : List ℕ) → H.faults shelf.old name ≤ H.faults shelf.new name }
 {
     match read_whole(alloc, shelf, file, SOURCE_LIMIT) {
-        Ok(text) => show_text(alloc, &text),
+        Ok(text) => show_text(alloc, &text, asked),
         Err(ReadTrouble::ReadFault) => read_fault(alloc, file),
         Err(ReadTrouble::Limit) => line(alloc, Status::Limit, "limit: source\n"),
         Err(ReadTrouble::Memory) => Err(AllocError),
@@ -90,69 +86,39 @@ fn show<H: Shelf>(alloc: Global, file: &str, shelf: &mut H) -> Result<Answer, Al
 }
 
 // What is shown of a text.
-fn show_text(alloc: Global, text: &[u8]) -> Result<Answer, AllocError>
-    ensures { IfOk result (λ a. IsTextAnswer text.now a.status a.lines.items) }
+fn show_text(alloc: Global, text: &[u8], asked: Asked<'_>) -> Result<Answer, AllocError>
+    ensures { IfOk result (λ a.
+        IsTextAnswer (writing_of asked) (options_of asked) text.now a.status a.lines.items) }
 {
     match tokens(alloc, text) {
-        Ok(tokens) => show_tokens(alloc, &tokens),
+        Ok(tokens) => show_tokens(alloc, &tokens, asked),
         Err(fault) => lex_refusal(alloc, fault),
     }
 }
 
 // What is shown of the tokens of a text.
-fn show_tokens(alloc: Global, tokens: &[Token]) -> Result<Answer, AllocError>
+fn show_tokens(alloc: Global, tokens: &[Token], asked: Asked<'_>) -> Result<Answer, AllocError>
     requires { (text : List ℕ) × (length text < 2 ^ 64) × Tokens text (lexemes_of tokens.now) }
-    ensures { IfOk result (λ a. IsTokensAnswer (lexemes_of tokens.now) a.status a.lines.items) }
+    ensures { IfOk result (λ a. IsTokensAnswer (writing_of asked) (options_of asked)
+        (lexemes_of tokens.now) a.status a.lines.items) }
 {
     match parse(alloc, tokens) {
-        Ok(tree) => show_tree(alloc, &tree),
-        Err(ParseFault::Syntax(at)) => syntax(alloc, at),
-        Err(ParseFault::Limit(limit, _at)) => past(alloc, limit),
-        Err(ParseFault::Memory) => Err(AllocError),
+        Ok(tree) => show_tree(alloc, &tree, asked),
+        Err(fault) => parse_refusal(alloc, fault),
     }
 }
 
 // What is shown of a tree.
-fn show_tree(alloc: Global, tree: &Unit) -> Result<Answer, AllocError>
+fn show_tree(alloc: Global, tree: &Unit, asked: Asked<'_>) -> Result<Answer, AllocError>
     requires { AreWritten (tree_of tree.now) }
-    ensures { IfOk result (λ a. IsTreeAnswer (tree_of tree.now) a.status a.lines.items) }
+    ensures { IfOk result (λ a. IsTreeAnswer (writing_of asked) (options_of asked)
+        (tree_of tree.now) a.status a.lines.items) }
 {
-    match check_unit(alloc, Target::Ilp32, tree) {
-        Ok(unit) => show_unit(alloc, unit),
+    match check_unit(alloc, target_of(asked.options), tree) {
+        Ok(unit) => show_unit(alloc, unit, asked),
         Err(TypeFault::Bad { at, kind }) => untyped(alloc, at, kind),
         Err(TypeFault::Memory) => Err(AllocError),
     }
-}
-
-// What is shown of a typed text.
-fn show_unit(alloc: Global, unit: TypedUnit) -> Result<Answer, AllocError>
-    requires { (tree : List External) × AreWritten tree × IsTyped Ilp32 tree (unit_of unit) }
-    ensures { IfOk result (λ a. IsUnitAnswer (unit_of unit) a.status a.lines.items) }
-{
-    match class_of(alloc, &unit)? {
-        None => show_translated(alloc, &unit),
-        Some(functions) => {
-            let programs = translate(alloc, unit.layout, &functions)?;
-            Ok(Answer {
-                status: Status::Done,
-                lines: write_program(alloc, &programs)?,
-            })
-        }
-    }
-}
-
-// What is shown of a typed text of no class that is shown shorter.
-fn show_translated(alloc: Global, unit: &TypedUnit) -> Result<Answer, AllocError>
-    requires typed { (tree : List External) × AreWritten tree × IsTyped Ilp32 tree (unit_of unit.now) }
-    requires of_no_class { class_of (unit_of unit.now) ≡ None }
-    ensures { IfOk result (λ a. IsUnitAnswer (unit_of unit.now) a.status a.lines.items) }
-{
-    let modes = default_modes(alloc, unit, &[], &[])?;
-    let programs = translate_unit(alloc, unit, &modes)?;
-    Ok(Answer {
-        status: Status::Done,
-        lines: write_program(alloc, &programs)?,
-    })
 }
 
 fn read_fault(alloc: Global, file: &str) -> Result<Answer, AllocError>

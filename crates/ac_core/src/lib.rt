@@ -3,10 +3,12 @@
 
 mod answer;
 mod class;
-mod expression_text;
+mod commands;
 mod generation_laws;
-mod program_text;
+mod programs;
 mod refusal;
+mod shown_expressions;
+mod shown_programs;
 mod spelling_laws;
 mod status;
 mod sum;

@@ -4,13 +4,13 @@ ghost use Rattle.std.specs.Prelude.{◌≡◌, ◌++◌, OnOk, IfOk, IsOk, codes
 ghost use Rattle.std.specs.Fmt.{decimal};
 ghost use Rattle.c_lex.specs.Answer.{Tells};
 ghost use Rattle.c_lex.specs.Unsupported.{unsupported_text};
-ghost use Rattle.ac_core.specs.Refusal.{cause_text, kind_text, limit_line, limit_text, source_line};
+ghost use Rattle.ac_core.specs.Refusal.{cause_text, kind_text, limit_line, limit_text, source_line, IsParseRefusal};
 ghost use Rattle.ac_core.specs.declared.status.Status.{Status};
 
 use crate::Status;
 use crate::answer::Answer;
 use c_lex::{LexFault, Unsupported};
-use c_parse::Limit;
+use c_parse::{Limit, ParseFault};
 use c_types::TypeKind;
 use itoa::Buffer;
 use std::alloc::{AllocError, Global};
@@ -32,12 +32,30 @@ pub(crate) fn lex_refusal(alloc: Global, fault: LexFault) -> Result<Answer, Allo
     }
 }
 
-/// The answer to tokens that no tree spells.
-pub(crate) fn syntax(alloc: Global, at: usize) -> Result<Answer, AllocError>
-    ensures { IfOk result
-        (λ a. (a.status ≡ Status.Source) × (a.lines.items ≡ source_line (codes "syntax") at)) }
+/// The answer to tokens that no tree spells, or whose tree passes a limit.
+pub(crate) fn parse_refusal(alloc: Global, fault: ParseFault) -> Result<Answer, AllocError>
+    ensures { IfOk result (λ a. IsParseRefusal fault a.status a.lines.items) }
 {
-    source(alloc, "syntax", at)
+    match fault {
+        ParseFault::Syntax(at) => source(alloc, "syntax", at),
+        ParseFault::Limit(limit, _at) => past(alloc, limit),
+        ParseFault::Memory => Err(AllocError),
+    }
+}
+
+/// The answer to an option that names no function.
+pub(crate) fn unknown_name(alloc: Global, name: &str) -> Result<Answer, AllocError>
+    ensures { IfOk result
+        (λ a. (a.status ≡ Status.Words)
+        × (a.lines.items ≡ codes "words: unknown " ++ (name.now ++ codes "\n"))) }
+{
+    let mut lines = Vec::from_slice(alloc, b"words: unknown ")?;
+    push(&mut lines, name)?;
+    push(&mut lines, "\n")?;
+    Ok(Answer {
+        status: Status::Words,
+        lines,
+    })
 }
 
 /// The answer to a text whose first bad node is this.
@@ -65,8 +83,8 @@ fn kind_name(kind: TypeKind) -> &'static str
     }
 }
 
-/// The answer to a text that passes a limit.
-pub(crate) fn past(alloc: Global, limit: Limit) -> Result<Answer, AllocError>
+// The answer to a text that passes a limit.
+fn past(alloc: Global, limit: Limit) -> Result<Answer, AllocError>
     ensures { IfOk result (λ a. (a.status ≡ Status.Limit) × (a.lines.items ≡ limit_line limit)) }
 {
     let mut lines = Vec::from_slice(alloc, b"limit: ")?;

@@ -5,11 +5,10 @@ ghost use Rattle.ac_base.specs.Count.{Rose};
 ghost use Rattle.c_lex.specs.Lexeme.{Lexeme};
 ghost use Rattle.c_lex.specs.Tokens.{Tokens};
 ghost use Rattle.c_grammar.specs.Tree.{External};
-ghost use Rattle.ac_core.specs.Words.{command_of, plain_show};
-ghost use Rattle.c_values.specs.Types.{Ilp32};
+ghost use Rattle.ac_core.specs.Words.{command_of, asked_of, target_of, first_unknown};
 ghost use Rattle.c_lang.specs.Typed.{TypedUnit};
 ghost use Rattle.typing_rules.specs.Unit.{IsTyped};
-ghost use Rattle.ac_core.specs.Answer.{EndsWith, IsTree, source_limit};
+ghost use Rattle.ac_core.specs.Answer.{EndsWith, IsTree, IsWithin, is_function, source_limit};
 
 use crate::Status;
 use crate::answer::answer_to;
@@ -19,9 +18,9 @@ use std::alloc::Global;
 /// Does what the words ask for: reads the files that they name from the shelf, and writes the
 /// answer, or the line of a fault, to the sink.
 ///
-/// So far `show FILE` is built. A text without globals that has at most one function, of unsigned
-/// parameters, which returns a sum of them and of constants, is shown as tidy programs; of any other
-/// text the programs aren't made tidy yet.
+/// So far `show` and `print` are built. A text without globals that has at most one function, of
+/// unsigned parameters, which returns a sum of them and of constants, is shown as tidy programs where
+/// no option names its function; of any other text the programs aren't made tidy yet.
 pub fn autocorres<H: Shelf, K: Sink>(
     alloc: Global,
     words: &[String],
@@ -34,19 +33,20 @@ pub fn autocorres<H: Shelf, K: Sink>(
         (H.faults shelf.new)
         (K.taken sink.old) (K.taken sink.new) (K.faults sink.old) (K.faults sink.new) result }
 
-    // A typed text within the limits is shown, where neither its file nor the sink fails, unless memory
-    // runs out.
-    ensures complete { (file text : List ℕ) (ts : List Lexeme) (tree : List External)
-        (unit : TypedUnit) →
-        plain_show (command_of (map string_bytes words.now)) ≡ Some file →
+    // A typed text within the limits is shown, where each function is there that an option names and
+    // neither its file nor the sink fails, unless memory runs out.
+    ensures complete { (file text : List ℕ) (options : List (List ℕ)) (ts : List Lexeme)
+        (tree : List External) (unit : TypedUnit) →
+        asked_of (command_of (map string_bytes words.now)) ≡ Some (file, options) →
         H.contents shelf.old file ≡ Some text → length text ≤ source_limit →
-        Tokens text ts → IsTree ts tree → IsTyped Ilp32 tree unit →
+        Tokens text ts → IsTree ts tree → IsTyped (target_of options) tree unit →
+        first_unknown (is_function unit) options ≡ None → IsWithin options unit →
         ¬ Rose (H.faults shelf.old file) (H.faults shelf.new file) →
         ¬ Rose (K.faults sink.old) (K.faults sink.new) →
         (result ≡ Status.Done) ⊎ (result ≡ Status.Memory) }
 
     // The shelf isn't asked for anything where nothing is to be shown.
-    ensures unasked { plain_show (command_of (map string_bytes words.now)) ≡ None →
+    ensures unasked { asked_of (command_of (map string_bytes words.now)) ≡ None →
         shelf.new ≡ shelf.old }
     ensures contents { (name : List ℕ) → H.contents shelf.new name ≡ H.contents shelf.old name }
     ensures counts { (name : List ℕ) → H.faults shelf.old name ≤ H.faults shelf.new name }

@@ -1,22 +1,144 @@
 //! The forms of words that the program takes.
 
-ghost use Rattle.std.specs.Prelude.{◌≡◌, None, Some, IfSome, IfNone, List, map, is_some, string_bytes, ◌&&◌};
+ghost use Rattle.std.specs.Prelude.{◌≡◌, None, Some, IfSome, IfNone, IfOk, List, map, length, drop, is_some, true, false, nat_eq, string_bytes, ◌&&◌, codes};
+ghost use Rattle.std.specs.List.{starts_with};
+ghost use Rattle.std.specs.Option.{option_map};
+ghost use Rattle.std.specs.HashSet.{contains_text};
 ghost use Rattle.c_values.specs.Name.{is_among};
-ghost use Rattle.ac_core.specs.Words.{command_of, plain_show, ilp32_word, lp64_word, is_option, are_options, is_target, has_options, has_files, has_count, is_last_target, is_count};
+ghost use Rattle.c_values.specs.CodeTypes as types;
+ghost use Rattle.ac_core.specs.CodeWriting.{is_notation, word_of};
+ghost use Rattle.ac_core.specs.Words.{command_of, asked_of, is_printed, ilp32_word, lp64_word, is_option, are_options, is_target, has_options, has_files, has_count, is_last_target, is_count, target_of, after_start, named, names_none, first_unknown};
 
-/// The file of `show FILE`, where the words are of that form and have no option.
-pub(crate) fn shown_file(words: &[String]) -> Option<&str>
-    ensures shown { IfSome result (λ file. plain_show (command_of (map string_bytes words.now))
-        ≡ Some file.now) }
-    ensures other { IfNone result (plain_show (command_of (map string_bytes words.now)) ≡ None) }
+use c_values::Target;
+use std::alloc::{AllocError, Global};
+use std::collections::HashSet;
+
+/// How programs are written.
+#[derive(Clone, Copy)]
+pub(crate) enum Writing {
+    /// As a tree.
+    Tree,
+    /// In do-notation, for readers.
+    Notation,
+}
+
+/// What is asked of a C text: how its programs are written, by which options.
+#[derive(Clone, Copy)]
+pub(crate) struct Asked<'a> {
+    pub(crate) writing: Writing,
+    pub(crate) options: &'a [String],
+}
+
+/// The file of `show` or `print`, and what is asked of it, where the words are of such a form.
+pub(crate) fn asked_file(words: &[String]) -> Option<(&str, Asked<'_>)>
+    ensures asked { IfSome result (λ (file, asked).
+        asked_of (command_of (map string_bytes words.now))
+        ≡ Some (file.now, map string_bytes asked.options.now)) }
+    ensures printed { IfSome result (λ (file, asked).
+        is_printed (command_of (map string_bytes words.now)) ≡ is_notation asked.writing) }
+    ensures other { IfNone result (asked_of (command_of (map string_bytes words.now)) ≡ None) }
 {
-    let [command, file] = words else {
+    let Some((command, rest)) = words.split_first() else {
         return None;
     };
-    if command.as_str() == "show" {
-        Some(file.as_str())
+    let Some(writing) = writing_of(command.as_str()) else {
+        return None;
+    };
+    let Some((file, options)) = rest.split_first() else {
+        return None;
+    };
+    if !are_options(options) {
+        return None;
+    }
+    Some((file.as_str(), Asked { writing, options }))
+}
+
+// How the programs are written that a command asks for.
+fn writing_of(command: &str) -> Option<Writing>
+    ensures some { IfSome result (λ w. command.now ≡ word_of w) }
+    ensures tree { IfNone result (command.now ≡ codes "show" → ⊥) }
+    ensures notation { IfNone result (command.now ≡ codes "print" → ⊥) }
+{
+    match command {
+        "show" => Some(Writing::Tree),
+        "print" => Some(Writing::Notation),
+        _ => None,
+    }
+}
+
+/// The target that options choose.
+pub(crate) fn target_of(options: &[String]) -> Target
+    ensures { types.target_of result ≡ target_of (map string_bytes options.now) }
+{
+    if is_among("target=lp64", options) {
+        Target::Lp64
     } else {
-        None
+        Target::Ilp32
+    }
+}
+
+/// The names behind a beginning, of the options that have it.
+pub(crate) fn names_after(
+    alloc: Global,
+    start: &str,
+    options: &[String],
+) -> Result<Vec<String>, AllocError>
+    ensures { IfOk result (λ names. map string_bytes names.items
+        ≡ after_start start.now (map string_bytes options.now)) }
+{
+    let mut names = Vec::new(alloc);
+    let mut rest = options;
+    'options: while let Some((option, others)) = rest.split_first() {
+        if let Some(name) = after(start, option.as_str()) {
+            names.push(String::from_str(alloc, name)?)?;
+        }
+        rest = others;
+    }
+    Ok(names)
+}
+
+/// Whether no option names a function.
+pub(crate) fn names_none(options: &[String]) -> bool
+    ensures { result ≡ names_none (map string_bytes options.now) }
+{
+    options.iter().all(|option| is_target(option.as_str()))
+}
+
+// What follows a beginning, where the word has it.
+#[tactic(auto, using(crate::proofs::Options::begins, crate::proofs::Options::what_follows, crate::proofs::Options::begins_otherwise))]
+fn after<'a>(start: &str, word: &'a str) -> Option<&'a str>
+    ensures some { IfSome result (λ name. starts_with nat_eq word.now start.now ≡ true) }
+    ensures rest { IfSome result (λ name. name.now ≡ drop (length start.now) word.now) }
+    ensures none { IfNone result (starts_with nat_eq word.now start.now ≡ false) }
+{
+    word.strip_prefix(start)
+}
+
+/// The first function that an option names, in the order of the words, which isn't one of these.
+pub(crate) fn first_unknown<'a>(
+    functions: &HashSet<String>,
+    options: &'a [String],
+) -> Option<&'a str>
+    ensures { option_map (λ name. name.now) result
+        ≡ first_unknown (λ x. contains_text functions.now x) (map string_bytes options.now) }
+{
+    let mut rest = options;
+    'options: while let Some((option, others)) = rest.split_first() {
+        match named(option.as_str()) {
+            Some(name) if !functions.contains(name) => return Some(name),
+            _ => rest = others,
+        }
+    }
+    None
+}
+
+// The function that an option names.
+fn named(option: &str) -> Option<&str>
+    ensures { option_map (λ name. name.now) result ≡ named option.now }
+{
+    match after("bytes=", option) {
+        Some(name) => Some(name),
+        None => after("words=", option),
     }
 }
 

@@ -11,6 +11,9 @@ const SUM: &[u8] = b"unsigned f(unsigned a, unsigned b){return a+b;}";
 const SUM_SHOWN: &str =
     "(program (f numbers ((a (nat 32)) (b (nat 32))) ((nat 32)) (do () (guard (between 0 (add a b) 4294967295)) (ret (add a b)))))\n";
 
+const SUM_PRINTED: &str =
+    "f (a : nat 32) (b : nat 32) : nat 32\n  guard (0 <= (a + b) <= 4294967295)\n  return (a + b)\n";
+
 const NO_FORM: &str = "words: no command of this form\n";
 
 // How a shelf and a sink behave: the numbers of their calls that fail, and how many bytes a call
@@ -513,12 +516,24 @@ fn texts_are_typed(rt: HostRuntime) -> Result<(), Fail> {
 
 #[test]
 fn words_have_forms(rt: HostRuntime) -> Result<(), Fail> {
-    let all: [(&[&str], Status, &str); 9] = [
+    let all: [(&[&str], Status, &str); 13] = [
         (&[], Status::Words, NO_FORM),
         (&["show"], Status::Words, NO_FORM),
         (&["show", "a.c", "bytes"], Status::Words, NO_FORM),
         (&["--help"], Status::Words, NO_FORM),
-        (&["show", "a.c", "words=f"], Status::NotYet, "not yet\n"),
+        (
+            &["show", "a.c", "words=g"],
+            Status::Words,
+            "words: unknown g\n",
+        ),
+        (
+            &["show", "a.c", "bytes=f", "words=", "bytes=g"],
+            Status::Words,
+            "words: unknown \n",
+        ),
+        (&["show", "a.c", "target=ilp32"], Status::Done, SUM_SHOWN),
+        (&["print", "a.c"], Status::Done, SUM_PRINTED),
+        (&["translate", "a.c"], Status::NotYet, "not yet\n"),
         (&["check", "a.c", "c.cert"], Status::NotYet, "not yet\n"),
         (
             &["trial", "200", "target=lp64"],
@@ -533,6 +548,65 @@ fn words_have_forms(rt: HostRuntime) -> Result<(), Fail> {
         assert!(rt; got == *status);
         assert!(rt; taken.as_slice() == lines.as_bytes());
     }
+    Ok(())
+}
+
+// How the functions begin that options choose a level or the target of.
+#[test]
+fn options_choose_levels_and_the_target(rt: HostRuntime) -> Result<(), Fail> {
+    let long = b"unsigned long f(unsigned long a){return a+a;}";
+    for (options, start) in [
+        ("", "(program (f numbers ((a (nat 32))) ((nat 32)) "),
+        (
+            "target=lp64",
+            "(program (f numbers ((a (nat 64))) ((nat 64)) ",
+        ),
+        ("words=f", "(program (f words ((a (w 32))) ((w 32)) "),
+        (
+            "words=f target=lp64",
+            "(program (f words ((a (w 64))) ((w 64)) ",
+        ),
+        (
+            "bytes=f words=f",
+            "(program (f bytes ((a (w 32))) ((w 32)) ",
+        ),
+    ] {
+        let mut words = vec![in rt.alloc(); "show", "a.c"]?;
+        for option in options.split_ascii_whitespace() {
+            words.push(option)?;
+        }
+        let (status, taken) = run(rt.alloc(), &words, long, &SOUND)?;
+        assert!(rt; status == Status::Done, "{options}");
+        assert!(rt; taken.starts_with(start.as_bytes()), "{options}");
+    }
+    Ok(())
+}
+
+// A function of so many stores, each of which is four commands.
+fn stores(alloc: Global, count: usize) -> Result<Vec<u8>, Fail> {
+    let mut text = Vec::from_slice(alloc, b"void w(unsigned *p){")?;
+    repeat(&mut text, "*p=0;", count)?;
+    text.extend_from_slice(b"}")?;
+    Ok(text)
+}
+
+#[test]
+fn functions_have_a_limit_of_commands(rt: HostRuntime) -> Result<(), Fail> {
+    let fits = stores(rt.alloc(), 199)?;
+    let (status, _) = run(rt.alloc(), &["show", "a.c"], &fits, &SOUND)?;
+    assert!(rt; status == Status::Done);
+    let long = stores(rt.alloc(), 200)?;
+    for command in ["show", "print"] {
+        let (status, taken) = run(rt.alloc(), &[command, "a.c"], &long, &SOUND)?;
+        assert!(rt; status == Status::Limit, "{command}");
+        assert!(rt; taken.as_slice() == b"limit: commands\n", "{command}");
+    }
+    // On bytes no tag is watched, so a store is three commands.
+    let (status, _) = run(rt.alloc(), &["show", "a.c", "bytes=w"], &long, &SOUND)?;
+    assert!(rt; status == Status::Done);
+    // The names in options are asked before.
+    let (status, _) = run(rt.alloc(), &["show", "a.c", "words=v"], &long, &SOUND)?;
+    assert!(rt; status == Status::Words);
     Ok(())
 }
 

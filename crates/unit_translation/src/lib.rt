@@ -4,4 +4,4 @@
 mod functions;
 mod units;
 
-pub use units::translate_unit;
+pub use units::{translate_generated, translate_unit};

@@ -58,13 +58,23 @@ pub fn translate_unit(alloc: Global, u: &TypedUnit, modes: &Modes) -> Result<Fin
         IsExact (unit_of u.now) levels (final_unit_of v)) }
 {
     let generated = generate(alloc, u, modes)?;
-    let functions = functions(alloc, &generated)?;
+    translate_generated(alloc, generated)
+}
+
+/// The same of the Simpl that was generated, where the locals of its functions can be lifted, as
+/// they can be where it was generated for a well-typed unit.
+pub fn translate_generated(alloc: Global, u: SimplUnit) -> Result<FinalUnit, AllocError>
+    requires ready { AllReadyToLift (simpl_unit_of u).functions (simpl_unit_of u).signatures }
+    ensures { IfOk result (λ v. final_unit_of v
+        ≡ last_unit (simpl_unit_of u.entry) (certificate_made same_exp (simpl_unit_of u.entry))) }
+{
+    let functions = functions(alloc, &u)?;
     let SimplUnit {
         layout,
         globals,
         functions: _commands,
         signatures: _signatures,
-    } = generated;
+    } = u;
     Ok(FinalUnit {
         layout,
         globals,

@@ -11,8 +11,8 @@ returns-in-Ok-write_whole-clause-ends g c =
     (c.in-Ok-write_whole.ensures.ok ∙ ap (grown (g.K.Sink.taken c.args.sink.now)) c.deref.ensures.value)
 
 pub returns-in-Ok-write_whole-clause-complete : goal.returns-in-Ok-write_whole-clause-complete
-returns-in-Ok-write_whole-clause-complete g c = λ file text ts tree unit shows is_text within are_tokens is_tree typed readable sound.
+returns-in-Ok-write_whole-clause-complete g c = λ file text options ts tree unit asks is_text within are_tokens is_tree typed named short readable sound.
     let ends : EndsWith (map string_bytes c.args.words.now) (g.H.Shelf.contents c.args.shelf.now) (g.H.Shelf.faults c.args.shelf.now) (g.H.Shelf.faults c.answer_to.new.shelf)
     (g.K.Sink.taken c.args.sink.now) (g.K.Sink.taken c.write_whole.new.sink) (g.K.Sink.faults c.args.sink.now) (g.K.Sink.faults c.write_whole.new.sink) c.in-Ok.answer.status =
     returns-in-Ok-write_whole-clause-ends g c in
-    shown _ _ _ _ _ _ _ _ file text ts tree unit shows is_text within are_tokens is_tree typed readable sound c.in-Ok.answer.status ends
+    shown _ _ _ _ _ _ _ _ file text options ts tree unit asks is_text within are_tokens is_tree typed named short readable sound c.in-Ok.answer.status ends

@@ -1,9 +1,11 @@
 -- The generated functions are ready, and what is made of them is the last unit of an accepted certificate.
 use Rattle.std.proofs.Common.{◌≡◌, sym, subst, ◌∙◌, ap}
+use Rattle.std.specs.Prelude.{Result, Ok, Err, IfOk}
 use Rattle.ac_expr.specs.SameExp.{same_exp}
 use Rattle.simpl_lang.specs.Command.{SimplUnit}
 use Rattle.simpl_lang.specs.CodeCommand.{simpl_unit_of}
 use Rattle.monad_lang.specs.Program.{FinalUnit}
+use Rattle.monad_lang.specs.CodeProgram.{final_unit_of}
 use Rattle.monad_lang.specs.Sorted.{IsWellFormed}
 use Rattle.c_lang.specs.CodeTyped.{unit_of}
 use Rattle.generation.specs.Generate.{generated}
@@ -13,44 +15,56 @@ use Rattle.acceptance_laws.specs.Units.{last_unit}
 use Rattle.unit_translation.specs.CodeTranslated.{AllReadyToLift}
 use Rattle.unit_translation.specs.Forms.{AreOfTheirForms}
 use Rattle.unit_translation.proofs.ReadyToLift.{generated_are_ready}
-use Rattle.unit_translation.proofs.LastUnit.{made_is_last, certificate_is_accepted, made_is_exact}
+use Rattle.unit_translation.proofs.LastUnit.{certificate_is_accepted, made_is_exact}
 use Rattle.unit_translation.proofs.LevelsThere.{levels_of, are_levels}
 use Rattle.unit_translation.proofs.Formed.{last_formed, last_programs, last_forms}
 use Rattle.unit_translation.proofs.units.translate_unit.Goals as goal
 
-pub functions-requires : goal.functions-requires
-functions-requires c =
+on_ok : {T E : Type 0} (r : Result T E) (P Q : T → Type 0) → ((x : T) → P x → Q x) → IfOk r P → IfOk r Q
+on_ok (Ok x) P Q f h = f x h
+on_ok (Err e) P Q f h = tt
+
+pub translate_generated-requires : goal.translate_generated-requires
+translate_generated-requires c =
     let levels = levels_of c.args.u.now c.args.modes.now in
     let is : simpl_unit_of c.in_ok-generated.generated ≡ generated (unit_of c.args.u.now) levels =
     c.in_ok-generated.ensures.generated levels (are_levels c.args.u.now c.args.modes.now c.requires.typed c.requires.one_each) in
     record { ready = subst (λ (g : SimplUnit). AllReadyToLift g.functions g.signatures) (sym is) (generated_are_ready (unit_of c.args.u.now) c.requires.typed levels) }
 
 pub returns-clause-translated : goal.returns-clause-translated
-returns-clause-translated c = λ levels are.
-    let g = simpl_unit_of c.in_ok-generated.generated in
-    let is : g ≡ generated (unit_of c.args.u.now) levels = c.in_ok-generated.ensures.generated levels are in
-    ap (λ fs. let v : FinalUnit = record { layout = g.layout; globals = g.globals; functions = fs } in v) c.in_ok-functions.ensures
-    ∙ made_is_last g ∙ ap (λ h. last_unit h (certificate_made same_exp h)) is
+returns-clause-translated c =
+    on_ok c.translate_generated.result _ _
+    (λ v e levels are. e ∙ ap (λ h. last_unit h (certificate_made same_exp h)) (c.in_ok-generated.ensures.generated levels are))
+    c.translate_generated.ensures
 
 pub returns-clause-accepted : goal.returns-clause-accepted
-returns-clause-accepted c = λ levels are calls. certificate_is_accepted (unit_of c.args.u.now) c.requires.typed levels calls
+returns-clause-accepted c =
+    on_ok c.translate_generated.result _ _ (λ v e levels are calls. certificate_is_accepted (unit_of c.args.u.now) c.requires.typed levels calls) c.translate_generated.ensures
 
 pub returns-clause-of_unit : goal.returns-clause-of_unit
-returns-clause-of_unit c = λ levels are calls.
+returns-clause-of_unit c =
+    on_ok c.translate_generated.result _ _
+    (λ v is levels are calls.
     let u = unit_of c.args.u.now in
     let cs = certificate_made same_exp (generated u levels) in
-    subst (λ (v : FinalUnit). AreProgramsOf u levels v) (sym (returns-clause-translated c levels are))
-    (last_programs u levels cs c.requires.typed (certificate_is_accepted u c.requires.typed levels calls))
+    subst (λ (v : FinalUnit). AreProgramsOf u levels v) (sym (is levels are))
+    (last_programs u levels cs c.requires.typed (certificate_is_accepted u c.requires.typed levels calls)))
+    (returns-clause-translated c)
 
 pub returns-clause-formed : goal.returns-clause-formed
-returns-clause-formed c = λ levels are calls.
+returns-clause-formed c =
+    on_ok c.translate_generated.result _ _
+    (λ v is levels are calls.
     let u = unit_of c.args.u.now in
     let cs = certificate_made same_exp (generated u levels) in
     let accepted = certificate_is_accepted u c.requires.typed levels calls in
-    subst (λ (v : FinalUnit). IsWellFormed v × AreOfTheirForms v.functions) (sym (returns-clause-translated c levels are))
-    (last_formed u levels cs c.requires.typed accepted, last_forms u levels cs c.requires.typed accepted)
+    subst (λ (v : FinalUnit). IsWellFormed v × AreOfTheirForms v.functions) (sym (is levels are))
+    (last_formed u levels cs c.requires.typed accepted, last_forms u levels cs c.requires.typed accepted))
+    (returns-clause-translated c)
 
 pub returns-clause-exact : goal.returns-clause-exact
-returns-clause-exact c = λ levels are calls.
-    let u = unit_of c.args.u.now in
-    subst (λ (v : FinalUnit). IsExact u levels v) (sym (returns-clause-translated c levels are)) (made_is_exact u c.requires.typed levels calls)
+returns-clause-exact c =
+    on_ok c.translate_generated.result _ _
+    (λ v is levels are calls.
+    subst (λ (v : FinalUnit). IsExact (unit_of c.args.u.now) levels v) (sym (is levels are)) (made_is_exact (unit_of c.args.u.now) c.requires.typed levels calls))
+    (returns-clause-translated c)

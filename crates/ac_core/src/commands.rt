@@ -1,0 +1,32 @@
+//! The limit of commands, of generated functions.
+
+ghost use Rattle.std.specs.Prelude.{◌≡◌, map};
+ghost use Rattle.std.specs.List.{list_any};
+ghost use Rattle.simpl_lang.specs.CodeCommand.{simpl_fn_of, simpl_unit_of};
+ghost use Rattle.ac_core.specs.Answer.{has_long_function, is_long};
+
+use simpl_lang::{SimplFn, SimplUnit, commands};
+
+/// The most commands that a generated function may have.
+const COMMANDS_LIMIT: u64 = 800;
+
+/// Whether some function has more commands than it may have.
+pub(crate) fn has_long_function(u: &SimplUnit) -> bool
+    ensures { result ≡ has_long_function (simpl_unit_of u.now) }
+{
+    let mut rest = u.functions.as_slice();
+    'functions: while let Some((f, others)) = rest.split_first() {
+        if is_long(f) {
+            return true;
+        }
+        rest = others;
+    }
+    false
+}
+
+#[tactic(auto, using(crate::proofs::LongFunctions::beyond_limit))]
+fn is_long(f: &SimplFn) -> bool
+    ensures { result ≡ is_long (simpl_fn_of f.now) }
+{
+    commands(&f.body) > COMMANDS_LIMIT
+}
