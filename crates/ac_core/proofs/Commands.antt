@@ -10,7 +10,7 @@ use Rattle.std.proofs.lemmas.Bool.Decides.{nat_tests}
 use Rattle.std.proofs.lemmas.Grind.{common_steps}
 use Rattle.c_values.specs.Name.{Name, same_name}
 use Rattle.c_values.proofs.Laid.{name_is}
-use Rattle.ac_core.specs.Words.{Command, Show, Print, Translate, Check, Run, Prove, Sample, Trial, are_options, is_last_target, is_count, is_digit, has_files, has_count, where_holds, with_options, check_of, of_three, sample_of, trial_of, command_of, asked_of, is_printed}
+use Rattle.ac_core.specs.Words.{Command, Show, Print, Translate, Check, Run, Prove, Sample, Trial, are_options, is_last_target, is_count, is_digit, has_files, has_count, where_holds, with_options, check_of, of_three, sample_of, trial_of, command_of, asked_of, is_printed, sampled_of}
 use Rattle.ac_core.specs.CodeWriting.{is_notation, word_of}
 use Rattle.ac_core.specs.declared.words.Writing.{Writing}
 use Rattle.ac_core.specs.declared.words.Writing.TheVariants.{Tree, Notation}
@@ -148,6 +148,59 @@ module _ {X : Type 0} (f : X → Name) (xs : List X) (x : X) (rest : List X) (fi
 
   pub asks_written : are_options (map f ws) ≡ true → is_printed (command_of (map f xs)) ≡ is_notation w
   asks_written o = ap (λ ys. is_printed (command_of ys)) words_are ∙ written_with w (f file) (map f ws) o
+
+-- only `sample` asks for so many functions
+
+unsampled_where : (b : Bool) (c : Command) → sampled_of (Some c) ≡ None → sampled_of (where_holds b c) ≡ None
+unsampled_where true c h = h
+unsampled_where false c h = refl
+
+unsampled_either : (b : Bool) (c d : Option Command) → sampled_of c ≡ None → sampled_of d ≡ None → sampled_of (cond b c d) ≡ None
+unsampled_either true c d g h = g
+unsampled_either false c d g h = h
+
+unsampled_options : (make : Name → List Name → Command) → ((file : Name) (ws : List Name) → sampled_of (Some (make file ws)) ≡ None) → (ws : List Name) → sampled_of (with_options make ws) ≡ None
+unsampled_options make h [] = refl
+unsampled_options make h (file ∷ ws) = unsampled_where (are_options ws) (make file ws) (h file ws)
+
+unsampled_check : (ws : List Name) → sampled_of (check_of ws) ≡ None
+unsampled_check [] = refl
+unsampled_check (w ∷ []) = refl
+unsampled_check (w ∷ x ∷ ws) = unsampled_where (is_last_target ws) (Check w x ws) refl
+
+unsampled_three : (make : Name → Name → Name → List Name → Command) → ((w x y : Name) (ws : List Name) → sampled_of (Some (make w x y ws)) ≡ None) → (ws : List Name) → sampled_of (of_three make ws) ≡ None
+unsampled_three make h [] = refl
+unsampled_three make h (w ∷ []) = refl
+unsampled_three make h (w ∷ x ∷ []) = refl
+unsampled_three make h (w ∷ x ∷ y ∷ ws) = unsampled_where (is_last_target ws) (make w x y ws) (h w x y ws)
+
+unsampled_trial : (ws : List Name) → sampled_of (trial_of ws) ≡ None
+unsampled_trial [] = refl
+unsampled_trial (n ∷ ws) = unsampled_where (is_count n && is_last_target ws) (Trial n ws) refl
+
+unsampled_false : (b : Bool) (c d : Option Command) → b ≡ false → sampled_of d ≡ None → sampled_of (cond b c d) ≡ None
+unsampled_false true c d e h = absurd (true≢false e)
+unsampled_false false c d e h = h
+
+unsampled_word : (w : Name) (ws : List Name) → (w ≡ codes "sample" → ⊥) → sampled_of (command_of (w ∷ ws)) ≡ None
+unsampled_word w ws h =
+    unsampled_either (same_name w (codes "show")) _ _ (unsampled_options Show (λ _ _. refl) ws)
+    (unsampled_either (same_name w (codes "print")) _ _ (unsampled_options Print (λ _ _. refl) ws)
+    (unsampled_either (same_name w (codes "translate")) _ _ (unsampled_options Translate (λ _ _. refl) ws)
+    (unsampled_either (same_name w (codes "check")) _ _ (unsampled_check ws)
+    (unsampled_either (same_name w (codes "run")) _ _ (unsampled_three Run (λ _ _ _ _. refl) ws)
+    (unsampled_either (same_name w (codes "prove")) _ _ (unsampled_three Prove (λ _ _ _ _. refl) ws)
+    (unsampled_false (same_name w (codes "sample")) _ _ (apart w (codes "sample") h)
+    (unsampled_either (same_name w (codes "trial")) _ _ (unsampled_trial ws) refl)))))))
+
+pub asks_no_sample : {X : Type 0} (f : X → Name) (xs : List X) (x : X) (rest : List X) → xs ≡ x ∷ rest → (f x ≡ codes "sample" → ⊥) → sampled_of (command_of (map f xs)) ≡ None
+asks_no_sample f xs x rest e h = ap (λ ys. sampled_of (command_of (map f ys))) e ∙ unsampled_word (f x) (map f rest) h
+
+-- so many functions, where one count follows
+pub sampled_behind : {X : Type 0} (f : X → Name) (xs : List X) (x : X) (rest : List X) → xs ≡ x ∷ rest → f x ≡ codes "sample" →
+    sampled_of (command_of (map f xs)) ≡ sampled_of (sample_of (map f rest))
+sampled_behind f xs x rest e h =
+    ap (λ ys. sampled_of (command_of (map f ys))) e ∙ ap (λ w. sampled_of (command_of (w ∷ map f rest))) h
 
 -- a form is told by the first word
 pub is_form_of : {X : Type 0} (f : X → Name) (xs : List X) (x : X) (rest : List X) (w : Name) (form : List Name → Bool) (answer : Bool) →

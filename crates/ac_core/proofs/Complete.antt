@@ -1,5 +1,6 @@
 -- What an answer and its sink leave open: a call that ends, and a text that can be shown.
 use Rattle.std.proofs.Common.{◌≡◌, ℕ, ◌≤◌, Bool, true, false, List, length, Option, Some, None, ◌⊎◌, inl, inr, refl, subst, arith}
+use Rattle.std.specs.Option.{option_map}
 use Rattle.c_values.specs.Name.{Name}
 use Rattle.c_lex.specs.Lexeme.{Lexeme}
 use Rattle.c_lex.specs.Tokens.{Tokens}
@@ -15,15 +16,23 @@ use Rattle.c_grammar.proofs.Texts.{one_tree}
 use Rattle.c_limits.specs.Limits.{first_limit}
 use Rattle.ac_base.specs.Count.{Rose}
 use Rattle.ac_base.specs.Sink.{grown}
-use Rattle.ac_core.specs.Words.{command_of, asked_of, is_printed, target_of, bytes_names, words_names, first_unknown}
+use Rattle.ac_core.specs.Words.{command_of, asked_of, is_printed, target_of, bytes_names, words_names, first_unknown, sampled_of, number_of}
 use Rattle.typing_rules.specs.declared.fault.TypeKind.{TypeKind}
-use Rattle.ac_core.specs.Answer.{text_of, source_limit, is_function, has_long_function, IsWithin, IsTree, OfTree, IsTokensAnswer, OfTokens, IsTextAnswer, Reads, IsFileAnswer, IsAnswerTo, IsAnswer, EndsWith}
+use Rattle.ac_core.specs.Answer.{text_of, source_limit, is_function, has_long_function, IsWithin, IsTree, OfTree, IsTokensAnswer, OfTokens, IsTextAnswer, Reads, IsFileAnswer, IsUnread, IsAnswerTo, IsAnswer, EndsWith}
 use Rattle.ac_core.specs.declared.status.Status.{Status}
 use Rattle.ac_core.specs.declared.status.Status.TheVariants.{Done, No, Words, Source, Text, ReadFault, WriteFault, Limit, Memory, NotYet}
 
 module _ (words : List Name) (contents : Name → Option (List ℕ)) (before after : Name → ℕ) (taken taken' : Option (List ℕ)) (sink_before sink_after : ℕ) where
   abbrev writing : FinalUnit → List ℕ
   writing = text_of (is_printed (command_of words))
+
+  nothing_unread : (asked : Option ℕ) (status : Status) (lines : List ℕ) → IsUnread asked words status lines → (status ≡ WriteFault → ⊥) × (status ≡ Memory → ⊥)
+  nothing_unread (Some n) Done lines h = (λ e. cc, λ e. cc)
+  nothing_unread (Some n) Limit lines h = (λ e. cc, λ e. cc)
+  nothing_unread (Some n) _ lines h = absurd h
+  nothing_unread None Words lines h = (λ e. cc, λ e. cc)
+  nothing_unread None NotYet lines h = (λ e. cc, λ e. cc)
+  nothing_unread None _ lines h = absurd h
 
   nothing_to : (asked : Option (Name × List Name)) (status : Status) (lines : List ℕ) → IsAnswerTo writing asked words contents before after status lines → (status ≡ WriteFault → ⊥) × (status ≡ Memory → ⊥)
   nothing_to (Some (file, options)) Done lines h = (λ e. cc, λ e. cc)
@@ -36,16 +45,7 @@ module _ (words : List Name) (contents : Name → Option (List ℕ)) (before aft
   nothing_to (Some (file, options)) Limit lines h = (λ e. cc, λ e. cc)
   nothing_to (Some (file, options)) Memory lines h = absurd h.answer.answer.answer.answer
   nothing_to (Some (file, options)) NotYet lines h = (λ e. cc, λ e. cc)
-  nothing_to None Done lines h = absurd h
-  nothing_to None No lines h = absurd h
-  nothing_to None Words lines h = (λ e. cc, λ e. cc)
-  nothing_to None Source lines h = absurd h
-  nothing_to None Text lines h = absurd h
-  nothing_to None ReadFault lines h = absurd h
-  nothing_to None WriteFault lines h = absurd h
-  nothing_to None Limit lines h = absurd h
-  nothing_to None Memory lines h = absurd h
-  nothing_to None NotYet lines h = (λ e. cc, λ e. cc)
+  nothing_to None status lines h = nothing_unread (option_map number_of (sampled_of (command_of words))) status lines h
 
   -- an answer whose lines were all taken
   pub written : (status : Status) (lines : List ℕ) → IsAnswer words contents before after status lines → taken' ≡ grown taken lines → EndsWith words contents before after taken taken' sink_before sink_after status

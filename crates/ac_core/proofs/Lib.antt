@@ -9,6 +9,7 @@ pub mod TextNames
 pub mod ParameterNames
 pub mod Commands
 pub mod Options
+pub mod Counts
 pub mod LongFunctions
 pub mod UnknownNames
 pub mod Complete

@@ -1,7 +1,8 @@
 -- What the program answers: the status that it ends with, and the lines that it writes where the sink doesn't fail, each
 -- with its cause. The order of work decides: the words, the file read whole, and then its text.
-use Rattle.std.specs.Prelude.{◌≡◌, ℕ, ◌≤◌, Bool, true, false, if◌then◌else◌, nat_lt, List, [], ◌∷◌, ◌++◌, length, map, Option, Some, None, is_some, true, codes, ◌⊎◌}
+use Rattle.std.specs.Prelude.{◌≡◌, ℕ, ◌≤◌, ◌<◌, Bool, true, false, if◌then◌else◌, nat_lt, List, [], ◌∷◌, ◌++◌, length, map, Option, Some, None, is_some, true, codes, ◌⊎◌}
 use Rattle.std.specs.List.{list_any}
+use Rattle.std.specs.Option.{option_map}
 use Rattle.c_values.specs.Name.{Name, is_among}
 use Rattle.c_lex.specs.Lexeme.{Lexeme}
 use Rattle.c_lex.specs.Front.{Cause}
@@ -21,7 +22,7 @@ use Rattle.monad_lang.specs.Sorted.{IsWellFormed}
 use Rattle.ac_base.specs.Count.{Rose}
 use Rattle.ac_base.specs.Shelf.{AreWhole, IsLonger}
 use Rattle.ac_base.specs.Sink.{grown, TakesPart}
-use Rattle.ac_core.specs.Words.{command_of, asked_of, is_printed, target_of, bytes_names, words_names, names_none, first_unknown}
+use Rattle.ac_core.specs.Words.{command_of, asked_of, is_printed, target_of, bytes_names, words_names, names_none, first_unknown, sampled_of, number_of}
 use Rattle.c_lang.specs.Typed.{TypedUnit}
 use Rattle.typing_rules.specs.Unit.{IsTyped, IsFirstBad}
 use Rattle.typing_rules.specs.declared.fault.TypeKind.{TypeKind}
@@ -33,6 +34,7 @@ use Rattle.ac_core.specs.Class.{class_of}
 use Rattle.ac_core.specs.Refusal.{cause_text, kind_text, source_line, limit_line}
 use Rattle.exactness.specs.Exact.{AreProgramsOf, IsExact}
 use Rattle.ac_core.specs.ProgramText.{unit_text}
+use Rattle.sample_text.specs.Sample.{sample_text}
 use Rattle.abs_print.specs.Programs.{unit_text as unit_lines}
 use Rattle.ac_core.specs.Spelled.{IsSpelled}
 use Rattle.ac_core.specs.declared.status.Status.{Status}
@@ -214,10 +216,25 @@ IsUnshown words NotYet lines = (is_some (command_of words) ≡ true) × (lines �
 IsUnshown words Words lines = (command_of words ≡ None) × (lines ≡ codes "words: no command of this form\n")
 IsUnshown words _ lines = ⊥
 
--- the answer to words: of the file whose programs they ask for, or of words that don't ask for what is built
+-- the most functions of a sample
+abbrev pub count_limit : ℕ
+count_limit = 200
+
+-- the answer to a number of functions
+abbrev pub IsSampled : ℕ → Status → List ℕ → Type 0
+IsSampled n Done lines = (n ≤ count_limit) × (lines ≡ sample_text n)
+IsSampled n Limit lines = (count_limit < n) × (lines ≡ codes "limit: count\n")
+IsSampled n _ lines = ⊥
+
+-- the answer to words that ask for no file: a sample, or none that is built
+abbrev pub IsUnread : Option ℕ → List Name → Status → List ℕ → Type 0
+IsUnread (Some n) words status lines = IsSampled n status lines
+IsUnread None words status lines = IsUnshown words status lines
+
+-- the answer to words: of the file whose programs they ask for, or of words that ask for none
 abbrev pub IsAnswerTo : (FinalUnit → List ℕ) → Option (Name × List Name) → List Name → (Name → Option (List ℕ)) → (Name → ℕ) → (Name → ℕ) → Status → List ℕ → Type 0
 IsAnswerTo text (Some (file, options)) words contents before after status lines = IsFileAnswer text options file (contents file) (before file) (after file) status lines
-IsAnswerTo text None words contents before after status lines = IsUnshown words status lines
+IsAnswerTo text None words contents before after status lines = IsUnread (option_map number_of (sampled_of (command_of words))) words status lines
 
 -- The answer where the sink doesn't fail. `before` and `after` are a name's counts of faults.
 abbrev pub IsAnswer : List Name → (Name → Option (List ℕ)) → (Name → ℕ) → (Name → ℕ) → Status → List ℕ → Type 0

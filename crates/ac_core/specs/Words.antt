@@ -1,6 +1,6 @@
 -- The forms of words. A form is told by its first word and the number of words after it: file names are any words, so
 -- `show target=lp64` shows the file of that name. Words of any other form are refused.
-use Rattle.std.specs.Prelude.{ℕ, Bool, true, false, not, ◌&&◌, ◌||◌, List, [], ◌∷◌, length, drop, nat_le, nat_eq, Option, Some, None, if◌then◌else◌, codes}
+use Rattle.std.specs.Prelude.{ℕ, ◌+◌, ◌-◌, ◌*◌, Bool, true, false, not, ◌&&◌, ◌||◌, List, [], ◌∷◌, length, drop, nat_le, nat_eq, Option, Some, None, if◌then◌else◌, codes}
 use Rattle.std.specs.List.{list_all, starts_with}
 use Rattle.c_values.specs.Name.{Name, same_name, is_among}
 use Rattle.c_values.specs.Types.{Target, Ilp32, Lp64}
@@ -106,6 +106,19 @@ asked_of _ = None
 abbrev pub is_printed : Option Command → Bool
 is_printed (Some (Print file ws)) = true
 is_printed _ = false
+
+-- the word of `sample`'s number
+abbrev pub sampled_of : Option Command → Option Name
+sampled_of (Some (Sample n)) = Some n
+sampled_of _ = None
+
+-- the number that decimal digits write behind those of another one
+abbrev pub with_digits : ℕ → List ℕ → ℕ
+with_digits n [] = n
+with_digits n (c ∷ cs) = with_digits (n * 10 + (c - 48)) cs
+
+abbrev pub number_of : Name → ℕ
+number_of w = with_digits 0 w
 
 -- the target that options choose
 abbrev pub target_of : List Name → Target

@@ -2,24 +2,26 @@
 //! byte is written.
 
 ghost use Rattle.std.specs.Prelude.{◌≡◌, ◌<◌, ◌≤◌, ◌^◌, ℕ, List, map, length, IfOk, None, Some, codes, string_bytes, ◌++◌};
-ghost use Rattle.ac_core.specs.Words.{command_of, asked_of};
+ghost use Rattle.std.specs.Option.{option_map};
+ghost use Rattle.ac_core.specs.Words.{command_of, asked_of, sampled_of, number_of};
 ghost use Rattle.c_lex.specs.Lexeme.{lexemes_of};
 ghost use Rattle.c_lex.specs.Tokens.{Tokens};
 ghost use Rattle.c_grammar.specs.CodeTree.{unit_of as tree_of};
 ghost use Rattle.typing_laws.specs.Written.{AreWritten};
 ghost use Rattle.ac_core.specs.CodeAsked.{writing_of, options_of};
-ghost use Rattle.ac_core.specs.Answer.{IsAnswer, IsUnshown, IsFileAnswer, IsTextAnswer, IsTokensAnswer, IsTreeAnswer};
+ghost use Rattle.ac_core.specs.Answer.{IsAnswer, IsUnread, IsSampled, IsUnshown, IsFileAnswer, IsTextAnswer, IsTokensAnswer, IsTreeAnswer};
 ghost use Rattle.ac_core.specs.declared.status.Status.{Status};
 
 use crate::Status;
 use crate::programs::show_unit;
 use crate::refusal::{lex_refusal, parse_refusal, untyped};
-use crate::words::{Asked, asked_file, is_form, target_of};
+use crate::words::{Asked, asked_count, asked_file, is_form, target_of};
 use ac_base::{ReadTrouble, Shelf, read_whole};
 use c_grammar::tree::Unit;
 use c_lex::{Token, tokens};
 use c_parse::parse;
 use c_types::{TypeFault, check_unit};
+use sample_text::sample_text;
 use std::alloc::{AllocError, Global};
 
 /// A status with the lines of the answer.
@@ -31,6 +33,9 @@ pub(crate) struct Answer {
 
 /// Bytes of C text that are read.
 const SOURCE_LIMIT: u64 = 262_144;
+
+/// The most functions of a sample.
+const COUNT_LIMIT: u8 = 200;
 
 /// The answer to words. The shelf is asked for the file of `show` and of `print` alone.
 pub(crate) fn answer_to<H: Shelf>(
@@ -48,7 +53,33 @@ pub(crate) fn answer_to<H: Shelf>(
 {
     match asked_file(words) {
         Some((file, asked)) => show(alloc, file, asked, shelf),
+        None => unread(alloc, words),
+    }
+}
+
+// Words that ask for no file.
+fn unread(alloc: Global, words: &[String]) -> Result<Answer, AllocError>
+    requires { asked_of (command_of (map string_bytes words.now)) ≡ None }
+    ensures { IfOk result (λ a.
+        IsUnread (option_map number_of (sampled_of (command_of (map string_bytes words.now))))
+        (map string_bytes words.now) a.status a.lines.items) }
+{
+    match asked_count(words) {
+        Some(count) => sampled(alloc, count),
         None => unshown(alloc, words),
+    }
+}
+
+// A sample of so many functions.
+fn sampled(alloc: Global, count: u32) -> Result<Answer, AllocError>
+    ensures { IfOk result (λ a. IsSampled count a.status a.lines.items) }
+{
+    match u8::try_from(count) {
+        Ok(few) if few <= COUNT_LIMIT => Ok(Answer {
+            status: Status::Done,
+            lines: sample_text(alloc, few)?,
+        }),
+        _ => line(alloc, Status::Limit, "limit: count\n"),
     }
 }
 

@@ -1,13 +1,13 @@
 //! The forms of words that the program takes.
 
-ghost use Rattle.std.specs.Prelude.{◌≡◌, None, Some, IfSome, IfNone, IfOk, List, map, length, drop, is_some, true, false, nat_eq, string_bytes, ◌&&◌, codes};
+ghost use Rattle.std.specs.Prelude.{◌≡◌, ◌↔◌, IsTrue, None, Some, IfSome, IfNone, IfOk, List, map, length, drop, is_some, true, false, nat_eq, string_bytes, ◌&&◌, codes};
 ghost use Rattle.std.specs.List.{starts_with};
 ghost use Rattle.std.specs.Option.{option_map};
 ghost use Rattle.std.specs.HashSet.{contains_text};
 ghost use Rattle.c_values.specs.Name.{is_among};
 ghost use Rattle.c_values.specs.CodeTypes as types;
 ghost use Rattle.ac_core.specs.CodeWriting.{is_notation, word_of};
-ghost use Rattle.ac_core.specs.Words.{command_of, asked_of, is_printed, ilp32_word, lp64_word, is_option, are_options, is_target, has_options, has_files, has_count, is_last_target, is_count, target_of, after_start, named, names_none, first_unknown};
+ghost use Rattle.ac_core.specs.Words.{command_of, asked_of, is_printed, ilp32_word, lp64_word, is_option, are_options, is_target, has_options, has_files, has_count, is_last_target, is_count, target_of, after_start, named, names_none, first_unknown, sampled_of, sample_of, number_of};
 
 use c_values::Target;
 use std::alloc::{AllocError, Global};
@@ -51,6 +51,50 @@ pub(crate) fn asked_file(words: &[String]) -> Option<(&str, Asked<'_>)>
         return None;
     }
     Some((file.as_str(), Asked { writing, options }))
+}
+
+/// The number of functions that `sample` is asked for.
+pub(crate) fn asked_count(words: &[String]) -> Option<u32>
+    ensures { result ≡ option_map number_of (sampled_of (command_of (map string_bytes words.now))) }
+{
+    let Some((command, rest)) = words.split_first() else {
+        return None;
+    };
+    if is_sample(command.as_str()) {
+        count_in(rest)
+    } else {
+        None
+    }
+}
+
+fn is_sample(command: &str) -> bool
+    ensures { IsTrue result ↔ (command.now ≡ codes "sample") }
+{
+    command == "sample"
+}
+
+// The number, where it is one and stands alone.
+fn count_in(words: &[String]) -> Option<u32>
+    ensures { result ≡ option_map number_of (sampled_of (sample_of (map string_bytes words.now))) }
+{
+    match words {
+        [count] if is_count(count.as_bytes()) => Some(number_of(count.as_bytes())),
+        _ => None,
+    }
+}
+
+// The number that digits write.
+fn number_of(word: &[u8]) -> u32
+    requires { is_count word.now ≡ true }
+    ensures { result ≡ number_of word.now }
+{
+    let mut number = 0;
+    let mut rest = word;
+    'digits: while let Some((digit, others)) = rest.split_first() {
+        number = number * 10 + u32::from(*digit - b'0');
+        rest = others;
+    }
+    number
 }
 
 // How the programs are written that a command asks for.
