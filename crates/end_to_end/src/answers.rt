@@ -514,6 +514,15 @@ fn texts_are_typed(rt: HostRuntime) -> Result<(), Fail> {
     Ok(())
 }
 
+const SAMPLE: &str = "struct node { unsigned v; struct node *next; };
+unsigned f0(unsigned a, unsigned b) { return a + b * 3u; }
+int f1(int a, int b) { if (b == 0) return 11; return a / b; }
+unsigned f2(struct node *p) { unsigned n = 0; while (p) { n = n + p->v; p = p->next; } return n; }
+void f3(unsigned *p, unsigned *q) { unsigned t = *p; *p = *q; *q = t + 33u; }
+unsigned f4(unsigned a, unsigned b) { unsigned r; r = f0(a, b); return r; }
+unsigned f5(unsigned a, unsigned b) { return a + b * 63u; }
+";
+
 #[test]
 fn words_have_forms(rt: HostRuntime) -> Result<(), Fail> {
     let all: [(&[&str], Status, &str); 13] = [
@@ -548,6 +557,20 @@ fn words_have_forms(rt: HostRuntime) -> Result<(), Fail> {
         assert!(rt; got == *status);
         assert!(rt; taken.as_slice() == lines.as_bytes());
     }
+    Ok(())
+}
+
+// A sample's first functions, of each shape, and that the largest one is shown.
+#[test]
+fn samples_are_shown(rt: HostRuntime) -> Result<(), Fail> {
+    let (status, sample) = run(rt.alloc(), &["sample", "6"], b"", &SOUND)?;
+    assert!(rt; status == Status::Done);
+    assert!(rt; sample.as_slice() == SAMPLE.as_bytes());
+    let (status, sample) = run(rt.alloc(), &["sample", "200"], b"", &SOUND)?;
+    assert!(rt; status == Status::Done);
+    let (status, programs) = run(rt.alloc(), &["show", "a.c"], &sample, &SOUND)?;
+    assert!(rt; status == Status::Done);
+    assert!(rt; programs.starts_with(b"(program (f0 numbers "));
     Ok(())
 }
 

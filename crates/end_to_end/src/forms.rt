@@ -146,7 +146,11 @@ fn shows_plain_files(rt: HostRuntime) -> Result<(), Fail> {
         ("show f.c bytes=f target=lp64", "read fault: f.c\n"),
         ("print f.c words=f", "read fault: f.c\n"),
         ("translate f.c", "not yet\n"),
-        ("sample 7", "not yet\n"),
+        (
+            "sample 0",
+            "struct node { unsigned v; struct node *next; };\n",
+        ),
+        ("sample 201", "limit: count\n"),
         ("show f.c g.c", "words: no command of this form\n"),
         ("show", "words: no command of this form\n"),
     ] {
