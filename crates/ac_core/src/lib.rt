@@ -3,8 +3,8 @@
 
 mod answer;
 mod class;
-mod commands;
 mod generation_laws;
+mod limits;
 mod programs;
 mod refusal;
 mod shown_expressions;

@@ -21,7 +21,7 @@ ghost use Rattle.ac_core.specs.Answer.{text_of, is_function, shown_class, AreSum
 use crate::Status;
 use crate::answer::{Answer, line};
 use crate::class::class_of;
-use crate::commands::has_long_function;
+use crate::limits::has_long_function;
 use crate::refusal::unknown_name;
 use crate::shown_programs::write_program;
 use crate::sum::{SumFunction, translate};
@@ -45,7 +45,7 @@ pub(crate) fn show_unit(
 ) -> Result<Answer, AllocError>
     requires { (tree : List External) × AreWritten tree
         × IsTyped (target_of (options_of asked)) tree (unit_of unit) }
-    ensures { IfOk result (λ a. IsUnitAnswer (writing_of asked) (options_of asked)
+    ensures { IfOk result (λ a. IsUnitAnswer (writing_of asked.entry) (options_of asked.entry)
         (unit_of unit) a.status a.lines.items) }
 {
     let functions = function_names(alloc, &unit.functions)?;
@@ -74,7 +74,7 @@ fn show_named(alloc: Global, unit: TypedUnit, asked: Asked<'_>) -> Result<Answer
     requires typed { (tree : List External) × AreWritten tree
         × IsTyped (target_of (options_of asked)) tree (unit_of unit) }
     requires named { first_unknown (is_function (unit_of unit)) (options_of asked) ≡ None }
-    ensures { IfOk result (λ a. IsUnitAnswer (writing_of asked) (options_of asked)
+    ensures { IfOk result (λ a. IsUnitAnswer (writing_of asked.entry) (options_of asked.entry)
         (unit_of unit) a.status a.lines.items) }
 {
     let bytes = names_after(alloc, "bytes=", asked.options)?;

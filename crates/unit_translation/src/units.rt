@@ -66,7 +66,7 @@ pub fn translate_unit(alloc: Global, u: &TypedUnit, modes: &Modes) -> Result<Fin
 pub fn translate_generated(alloc: Global, u: SimplUnit) -> Result<FinalUnit, AllocError>
     requires ready { AllReadyToLift (simpl_unit_of u).functions (simpl_unit_of u).signatures }
     ensures { IfOk result (λ v. final_unit_of v
-        ≡ last_unit (simpl_unit_of u.entry) (certificate_made same_exp (simpl_unit_of u.entry))) }
+        ≡ last_unit (simpl_unit_of u) (certificate_made same_exp (simpl_unit_of u))) }
 {
     let functions = functions(alloc, &u)?;
     let SimplUnit {
