@@ -15,3 +15,4 @@ pub mod UnknownNames
 pub mod Complete
 pub mod Told
 pub mod Shown
+pub mod NamedLevels

@@ -10,6 +10,8 @@ use Rattle.acceptance_laws.specs.Made.{certificate_made}
 use Rattle.acceptance_laws.specs.Units.{last_unit}
 use Rattle.unit_translation.specs.CodeTranslated.{AllReadyToLift}
 use Rattle.unit_translation.proofs.ReadyToLift.{generated_are_ready}
+use Rattle.std.specs.Option.{option_map}
+use Rattle.ac_core.specs.Sum as sums
 use Rattle.ac_core.specs.CodeSum.{function_of}
 use Rattle.ac_core.specs.Words.{target_of}
 use Rattle.ac_core.specs.Answer.{shown_class}
@@ -28,5 +30,20 @@ pub returns-in-None : goal.returns-in-None
 returns-in-None c =
     of_result c.translate_generated.result _ _
     (λ v e levels default' is. inr (translated_shown (target_of (map string_bytes c.args.options.now)) c.requires.typed.0 (map string_bytes c.args.options.now) (unit_of c.args.unit)
-    c.requires.typed.1 c.requires.typed.2 (final_unit_of v) _ levels default' (e ∙ ap (λ g. last_unit g (certificate_made same_exp g)) is)))
+    c.requires.typed.1 c.requires.typed.2 (final_unit_of v) (sym c.in_ok-functions.ensures ∙ ap (option_map (λ us. map function_of us.items)) c.in-None.is) levels default'
+    (e ∙ ap (λ g. last_unit g (certificate_made same_exp g)) is)))
     c.translate_generated.ensures
+
+pub translate-requires : goal.translate-requires
+translate-requires c =
+    on_ilp32 (map string_bytes c.args.options.now) (unit_of c.args.unit) (map function_of c.in-Some.functions.items)
+    (sym c.in_ok-functions.ensures ∙ ap (option_map (λ us. map function_of us.items)) c.in-Some.is)
+
+pub returns-in-Some : goal.returns-in-Some
+returns-in-Some c =
+    of_result c.translate.result _ _
+    (λ v e levels default' is. inl (sums_shown (target_of (map string_bytes c.args.options.now)) c.requires.typed.0 (map string_bytes c.args.options.now) (unit_of c.args.unit)
+    c.requires.typed.1 c.requires.typed.2 (final_unit_of v) (map function_of c.in-Some.functions.items)
+    (sym c.in_ok-functions.ensures ∙ ap (option_map (λ us. map function_of us.items)) c.in-Some.is)
+    (e ∙ ap (λ fs. sums.final_unit_of c.args.unit.layout.structs (map function_of fs)) c.deref.ensures.value)))
+    c.translate.ensures
