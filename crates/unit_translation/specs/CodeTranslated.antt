@@ -1,7 +1,7 @@
--- The programs of a function after each step, and those of a unit, as the code makes them.
-use Rattle.std.specs.Prelude.{List, [], ◌∷◌, if◌then◌else◌}
+-- The last program of a function, and those of a unit, as the code makes them.
+use Rattle.std.specs.Prelude.{List, [], ◌∷◌, Option, Some, None, if◌then◌else◌}
 use Rattle.c_values.specs.Name.{Name, same_name}
-use Rattle.expression_lang.specs.Sort.{Level, Bytes, is_lifted}
+use Rattle.expression_lang.specs.Sort.{Level, Bytes}
 use Rattle.expression_lang.specs.Signature.{Signature}
 use Rattle.ac_expr.specs.SameExp.{same_exp}
 use Rattle.simpl_lang.specs.Command.{SimplFn, SimplUnit}
@@ -9,16 +9,17 @@ use Rattle.monad_lang.specs.Program.{Mon, FinalFn}
 use Rattle.rule_exn.specs.Eliminated.{exceptions_eliminated}
 use Rattle.rule_local.specs.Units.{context_of, outputs_of}
 use Rattle.local_lift.specs.Ready.{IsReady}
-use Rattle.rule_heap.specs.HeapLifted.{on_heaps}
+use Rattle.rule_local.specs.Rule as Locals
+use Rattle.rule_heap.specs.Rule as Heaps
+use Rattle.acceptance.specs.Certificate.{Step}
 use Rattle.c_lang.specs.Typed.{TypedFn}
-use Rattle.acceptance_laws.specs.Made.{local_made, steps_made}
+use Rattle.acceptance_laws.specs.Made.{steps_made}
 use Rattle.acceptance_laws.specs.Units.{on_numbers}
 
-abbrev pub lifted_program : SimplFn → Signature → Mon
-lifted_program f s = (local_made f s).program
-
-abbrev pub heap_program : SimplFn → Signature → Mon
-heap_program f s = if is_lifted f.level then on_heaps (lifted_program f s) else lifted_program f s
+-- the program before words become numbers
+abbrev pub program_before : Step Mon Locals.Rule → Option (Step Mon Heaps.Rule) → Mon
+program_before local None = local.program
+program_before local (Some heap) = heap.program
 
 abbrev pub last_program : SimplUnit → SimplFn → Signature → Mon
 last_program u f s = (steps_made same_exp u f s).equal.program

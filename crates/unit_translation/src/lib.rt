@@ -1,7 +1,8 @@
-//! The last programs of a C unit: each function translated step by step.
+//! A C unit translated: the steps of each function, and its last programs.
 #![tactic(auto)]
 
 mod functions;
+mod steps;
 mod units;
 
-pub use units::{translate_generated, translate_unit};
+pub use units::{translate_functions, translate_generated, translate_unit};

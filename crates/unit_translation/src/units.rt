@@ -14,6 +14,7 @@ ghost use Rattle.generation.specs.Generate.{generated};
 ghost use Rattle.exactness.specs.Exact.{AreProgramsOf, IsExact};
 ghost use Rattle.heap_ready.specs.Ready.{CallsLifted};
 ghost use Rattle.acceptance.specs.Accepted.{IsAccepted};
+ghost use Rattle.acceptance.specs.CodeCertificate.{steps_of};
 ghost use Rattle.acceptance_laws.specs.Made.{certificate_made};
 ghost use Rattle.acceptance_laws.specs.Units.{last_unit};
 ghost use Rattle.c_levels.specs.CodeModes.{AreLevels};
@@ -21,6 +22,8 @@ ghost use Rattle.unit_translation.specs.CodeTranslated.{AllReadyToLift, last_fun
 ghost use Rattle.unit_translation.specs.Forms.{AreOfTheirForms};
 
 use crate::functions::translated;
+use crate::steps::steps;
+use acceptance::Steps;
 use c_lang::tree::TypedUnit;
 use c_levels::Modes;
 use monad_lang::{FinalFn, FinalUnit};
@@ -80,6 +83,27 @@ pub fn translate_generated(alloc: Global, u: SimplUnit) -> Result<FinalUnit, All
         globals,
         functions,
     })
+}
+
+/// The steps of each function, where the locals of these can be lifted: what a certificate has for
+/// them.
+pub fn translate_functions(alloc: Global, u: &SimplUnit) -> Result<Vec<Steps>, AllocError>
+    requires ready { AllReadyToLift (simpl_unit_of u.now).functions (simpl_unit_of u.now).signatures }
+    ensures { IfOk result (λ steps. map steps_of steps.items
+        ≡ certificate_made same_exp (simpl_unit_of u.now)) }
+{
+    let mut made = Vec::new(alloc);
+    let mut functions = u.functions.as_slice();
+    let mut signatures = u.signatures.as_slice();
+    'functions: while let Some((f, others)) = functions.split_first() {
+        let Some((s, behind)) = signatures.split_first() else {
+            break;
+        };
+        made.push(steps(alloc, u, f, s)?)?;
+        functions = others;
+        signatures = behind;
+    }
+    Ok(made)
 }
 
 // Each function with its last program.
