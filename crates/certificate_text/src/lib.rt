@@ -1,0 +1,6 @@
+//! The texts of certificates.
+#![tactic(auto)]
+
+mod writing;
+
+pub use writing::{certificate_tree, write};

@@ -1,0 +1,48 @@
+//! Trees of the rules that lift locals.
+
+ghost use Rattle.std.specs.Prelude.{◌≡◌, IfOk};
+ghost use Rattle.ac_sx.specs.CodeSx.{tree_of};
+ghost use Rattle.rule_local.specs.CodeRule as code;
+ghost use Rattle.rule_text.specs.LocalText.{word, data_of, text_of};
+
+use crate::writing::{RuleText, rule_tree};
+use ac_sx::Sx;
+use rule_local::Rule;
+use rule_trees::Tree;
+use std::alloc::{AllocError, Global};
+
+impl RuleText for Rule {
+    ghost its_word = { λ r. word (code.rule_of r) };
+
+    ghost its_data = { λ r. data_of (code.rule_of r) };
+
+    fn word(&self) -> &'static str {
+        match self {
+            Rule::Skip => "skip",
+            Rule::Set => "set",
+            Rule::Dead => "dead",
+            Rule::Global => "global",
+            Rule::Memory => "memory",
+            Rule::Pick => "pick",
+            Rule::Seq => "seq",
+            Rule::Cond => "cond",
+            Rule::Guard => "guard",
+            Rule::While => "while",
+            Rule::Call => "call",
+            Rule::Void => "void",
+            Rule::Start => "start",
+        }
+    }
+
+    fn data(&self, alloc: Global) -> Result<Vec<Sx>, AllocError> {
+        Ok(Vec::new(alloc))
+    }
+}
+
+/// The text of a tree of the rules that lift locals.
+#[tactic(auto, using(crate::proofs::Mapped::mapped))]
+pub fn local_tree(alloc: Global, tree: &Tree<Rule>) -> Result<Sx, AllocError>
+    ensures { IfOk result (λ text. tree_of text ≡ text_of (code.tree_of tree.now)) }
+{
+    rule_tree(alloc, tree)
+}
