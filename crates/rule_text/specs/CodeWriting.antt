@@ -1,8 +1,7 @@
 -- The code's trees as texts, by what is told of the code's rules.
 use Rattle.std.specs.Prelude.{List}
-use Rattle.ac_sx.specs.Tree.{Tree, Trees, Atom, more}
+use Rattle.ac_sx.specs.Tree.{Tree, Trees}
 use Rattle.c_values.specs.Name.{Name}
-use Rattle.expression_text.specs.CodeAround.{joined}
 use Rattle.rule_trees.specs.declared.tree.Tree as T
 use Rattle.rule_trees.specs.CodeTree as code
 use Rattle.rule_text.specs.RuleText.{rule_tree, rule_trees}
@@ -13,7 +12,3 @@ module _ {R : Type 0} (word : R → Name) (data' : R → Trees) where
 
   abbrev pub texts_in : List (T.Tree R) → Trees
   texts_in ts = rule_trees word data' (code.trees_in (λ r. r) ts)
-
-  -- a node's word and data, and the texts of parts
-  abbrev pub front_in : R → List (T.Tree R) → Trees
-  front_in r ts = more (Atom (word r)) (joined (data' r) (texts_in ts))

@@ -6,7 +6,7 @@ ghost use Rattle.ac_sx.specs.CodeSx.{tree_of, trees_in};
 ghost use Rattle.c_values.specs.Name.{Name};
 ghost use Rattle.expression_text.specs.CodeAround.{joined};
 ghost use Rattle.rule_text.specs.RuleText.{word_with};
-ghost use Rattle.rule_text.specs.CodeWriting.{text_in, front_in};
+ghost use Rattle.rule_text.specs.CodeWriting.{text_in};
 
 use ac_sx::Sx;
 use expression_text::{Around, all_filled, atom, begun, with_parts};
@@ -30,8 +30,6 @@ pub(crate) trait RuleText: Drop {
 
 /// The text of a tree. It goes along the last parts by a loop, since a tree may be as deep as a
 /// program is long.
-#[cycle(written)]
-#[tactic(auto, using(expression_text::proofs::Filling::all_filled_push))]
 pub(crate) fn rule_tree<R: RuleText>(alloc: Global, tree: &Tree<R>) -> Result<Sx, AllocError>
     ensures { IfOk result (λ text. tree_of text ≡ text_in (R.its_word) (R.its_data) tree.now) }
 {
@@ -41,26 +39,15 @@ pub(crate) fn rule_tree<R: RuleText>(alloc: Global, tree: &Tree<R>) -> Result<Sx
         let Some((last, others)) = rest.parts.split_last() else {
             return all_filled(lists, leaf(alloc, &rest.rule)?);
         };
-        let before = front(alloc, &rest.rule, others)?;
+        let mut before = headed(alloc, &rest.rule)?;
+        let mut left = others;
+        'parts: while let Some((part, behind)) = left.split_first() {
+            before.push(rule_tree(alloc, part)?)?;
+            left = behind;
+        }
         lists.push(Around::ending(alloc, before))?;
         rest = last;
     }
-}
-
-// A node's word and data, and the texts of all its parts but the last.
-#[cycle(written)]
-#[tactic(auto, using(expression_text::proofs::Filling::joined_push))]
-fn front<R: RuleText>(alloc: Global, rule: &R, others: &[Tree<R>]) -> Result<Vec<Sx>, AllocError>
-    ensures { IfOk result (λ parts.
-        trees_in parts.items ≡ front_in (R.its_word) (R.its_data) rule.now others.now) }
-{
-    let mut parts = headed(alloc, rule)?;
-    let mut rest = others;
-    'parts: while let Some((part, behind)) = rest.split_first() {
-        parts.push(rule_tree(alloc, part)?)?;
-        rest = behind;
-    }
-    Ok(parts)
 }
 
 // A rule's word and data.
