@@ -1,2 +1,4 @@
 pub mod Written
 pub mod Mapped
+pub mod NodesRead
+pub mod RuleLaws
