@@ -2,3 +2,10 @@ pub mod Written
 pub mod Mapped
 pub mod NodesRead
 pub mod RuleLaws
+pub mod PlainFound
+pub mod GivenLaws
+pub mod ExceptionLaws
+pub mod LocalLaws
+pub mod HeapLaws
+pub mod WordLaws
+pub mod EqualityLaws

@@ -1,5 +1,5 @@
 -- The texts of the rules of equality: some have a program between, or a position.
-use Rattle.std.specs.Prelude.{ℕ, ◌^◌, nat_lt, Bool, true, List, [], ◌∷◌, Option, Some, None, codes, if◌then◌else◌}
+use Rattle.std.specs.Prelude.{ℕ, ◌^◌, nat_lt, Bool, true, false, List, [], ◌∷◌, Option, Some, None, codes, if◌then◌else◌}
 use Rattle.ac_sx.specs.Tree.{Tree, Trees, Atom, no_trees, more}
 use Rattle.c_values.specs.Name.{Name, same_name}
 use Rattle.expression_text.specs.Reading.{Read, made}
@@ -56,6 +56,11 @@ abbrev pub is_tree : rules.Tree R.Rule → Bool
 is_tree = text.is_tree arity has_text
 
 -- trees read as these
+abbrev pub is_plain : R.Rule → Bool
+is_plain (R.Trans m) = false
+is_plain (R.RetOne i) = false
+is_plain _ = true
+
 abbrev pub plain_rules : List R.Rule
 plain_rules =
     R.Refl ∷ R.Bind ∷ R.If ∷ R.Loop ∷ R.BindRet ∷ R.Assoc ∷ R.IfConst ∷ R.GuardKnown ∷ R.Exp ∷ []

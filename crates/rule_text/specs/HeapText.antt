@@ -1,5 +1,5 @@
 -- The texts of the rules of typed heaps: some have an address.
-use Rattle.std.specs.Prelude.{ℕ, Bool, true, List, [], ◌∷◌, Option, Some, None, codes, if◌then◌else◌}
+use Rattle.std.specs.Prelude.{ℕ, Bool, true, false, List, [], ◌∷◌, Option, Some, None, codes, if◌then◌else◌}
 use Rattle.ac_sx.specs.Tree.{Tree, Trees, no_trees, more}
 use Rattle.c_values.specs.Name.{Name, same_name}
 use Rattle.expression_text.specs.Reading.{Read, made}
@@ -82,6 +82,11 @@ abbrev pub is_tree : rules.Tree R.Rule → Bool
 is_tree = text.is_tree arity has_text
 
 -- trees read as these
+abbrev pub is_plain : R.Rule → Bool
+is_plain (R.Drop a) = false
+is_plain (R.Known a) = false
+is_plain _ = true
+
 abbrev pub plain_rules : List R.Rule
 plain_rules =
     R.Ret ∷ R.Bind ∷ R.Guard ∷ R.If ∷ R.Global ∷ R.Loop ∷ R.Call ∷ R.Pick ∷ R.Write ∷ R.Pointer ∷ R.Same ∷

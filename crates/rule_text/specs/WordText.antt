@@ -1,5 +1,5 @@
 -- The texts of the rules of numbers: some have the kinds of names, or a kind.
-use Rattle.std.specs.Prelude.{ℕ, Bool, true, List, [], ◌∷◌, Option, Some, None, Err, codes, if◌then◌else◌}
+use Rattle.std.specs.Prelude.{ℕ, Bool, true, false, List, [], ◌∷◌, Option, Some, None, Err, codes, if◌then◌else◌}
 use Rattle.ac_sx.specs.Tree.{Tree, Trees, Atom, Node, no_trees, more}
 use Rattle.c_values.specs.Name.{Name, same_name}
 use Rattle.expression_text.specs.Reading.{Read, made, next}
@@ -117,6 +117,14 @@ abbrev pub is_tree : rules.Tree R.Rule → Bool
 is_tree = text.is_tree arity has_text
 
 -- trees read as these
+abbrev pub is_plain : R.Rule → Bool
+is_plain (R.Bind ks) = false
+is_plain (R.Loop ks) = false
+is_plain (R.Recast ks) = false
+is_plain (R.Word k) = false
+is_plain (R.Eq k) = false
+is_plain _ = true
+
 abbrev pub plain_rules : List R.Rule
 plain_rules =
     R.Ret ∷ R.Guard ∷ R.If ∷ R.Global ∷ R.Pick ∷ R.Write ∷ R.Call ∷ R.PickNat ∷ R.PickInt ∷ R.Var ∷ R.Const ∷ R.Nat ∷ R.Int ∷ R.Unat ∷ R.Sint ∷

@@ -1,15 +1,17 @@
-//! The texts of trees of rules, as trees of words and lists.
+//! The texts of trees of rules, as trees of words and lists, both ways.
 #![tactic(auto)]
 
+mod arity;
 mod equality;
 mod exceptions;
 mod heaps;
 mod locals;
 mod numbers;
+mod reading;
 mod writing;
 
-pub use equality::equality_tree;
-pub use exceptions::exception_tree;
-pub use heaps::heap_tree;
-pub use locals::local_tree;
-pub use numbers::word_tree;
+pub use equality::{equality_tree, equality_tree_at};
+pub use exceptions::{exception_tree, exception_tree_at};
+pub use heaps::{heap_tree, heap_tree_at};
+pub use locals::{local_tree, local_tree_at};
+pub use numbers::{word_tree, word_tree_at};
