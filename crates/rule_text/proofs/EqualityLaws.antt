@@ -51,7 +51,7 @@ transes = record {
   fine = λ x. refl;
   arity = λ x. refl;
   reads = mon_reads;
-  spells = mon_spells;
+  spells = λ t at m n e. let p = mon_spells t at m n e in (p.0, p.1);
 }
 
 ret_ones : IsForm word data_of has_text words (λ i. R.RetOne i) (natural_at (2 ^ 32)) (λ j. Atom (decimal j)) (λ j. nat_lt j (2 ^ 32)) (codes "ret_one") (exactly 0)

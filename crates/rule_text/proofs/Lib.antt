@@ -9,3 +9,6 @@ pub mod LocalLaws
 pub mod HeapLaws
 pub mod WordLaws
 pub mod EqualityLaws
+pub mod Positions
+pub mod ReadBack
+pub mod Rows

@@ -119,6 +119,12 @@ module _ {Rule : Type 0} (word : Rule → Name) (data' : Rule → Trees) (has_te
     counts : (ts : Trees) (xs : rules.Trees Rule) → ts ≡ rule_trees word data' xs → count ts ≡ rules.count xs
     counts ts xs e = ap count e ∙ counted xs
 
+    fits_counted : (a : Arity) (ts : Trees) (xs : rules.Trees Rule) → ts ≡ rule_trees word data' xs → fits a (suc (count ts)) ≡ true → fits a (suc (rules.count xs)) ≡ true
+    fits_counted a ts xs e fit = ap (λ m. fits a (suc m)) (sym (counts ts xs e)) ∙ fit
+
+    paired : (t : Tree) (ts : Trees) (x : rules.Tree Rule) (xs : rules.Trees Rule) → IsText t x → AreTexts ts xs → AreTexts (more t ts) (rules.tree x xs)
+    paired t ts x xs u us = (ap₂ more u.0 us.0, and_from (is_tree words.arity has_text x) (are_trees words.arity has_text xs) u.1 us.1)
+
     -- of a rule with its word, its data and its parts
     spelled : (w : Name) (ds : Trees) (r : Rule) (ts : Trees) (xs : rules.Trees Rule) → IsOf w ds r → fits (words.arity r) (rules.count xs) ≡ true → AreTexts ts xs → IsText (word_with w (joined ds ts)) (rules.node r xs)
     spelled w ds r ts xs d fit is = (
@@ -156,10 +162,7 @@ module _ {Rule : Type 0} (word : Rule → Name) (data' : Rule → Trees) (has_te
         let u = first inner y.0 y.1 h in
         let us = others y.1 z.0 z.1 k in
         moved (Node (more (Atom w) (more t ts))) (rules.node r (rules.tree y.0 z.0)) x (value_ok (rules.node r (rules.tree y.0 z.0)) z.1 x n last)
-        (spelled w no_trees r (more t ts) (rules.tree y.0 z.0) (are.plain w r e) (ap (λ m. fits (words.arity r) (suc m)) (sym (counts ts z.0 us.0)) ∙ fit) (
-          ap₂ more u.0 us.0,
-          and_from (is_tree words.arity has_text y.0) (are_trees words.arity has_text z.0) u.1 us.1,
-        ))
+        (spelled w no_trees r (more t ts) (rules.tree y.0 z.0) (are.plain w r e) (fits_counted (words.arity r) ts z.0 us.0 fit) (paired t ts y.0 z.0 u us))
 
     mutual
       pub spells : (t : Tree) (at : ℕ) (x : rules.Tree Rule) (n : ℕ) → tree_at words at t ≡ Ok (x, n) → IsText t x
@@ -177,7 +180,4 @@ module _ {Rule : Type 0} (word : Rule → Name) (data' : Rule → Trees) (has_te
           let (z, k, last) = bind_ok (trees_at words y.1 ts) (λ z. Ok (rules.tree y.0 z.0, z.1)) (xs, n) behind in
           let u = spells t at y.0 y.1 h in
           let us = all_spell ts y.1 z.0 z.1 k in
-          subst (λ ys. AreTexts (more t ts) ys) (value_ok (rules.tree y.0 z.0) z.1 xs n last) (
-            ap₂ more u.0 us.0,
-            and_from (is_tree words.arity has_text y.0) (are_trees words.arity has_text z.0) u.1 us.1,
-          )
+          subst (λ ys. AreTexts (more t ts) ys) (value_ok (rules.tree y.0 z.0) z.1 xs n last) (paired t ts y.0 z.0 u us)

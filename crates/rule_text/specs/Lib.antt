@@ -8,3 +8,4 @@ pub mod WordText
 pub mod EqualityText
 pub mod CodeWriting
 pub mod CodeReading
+pub mod Answer

@@ -62,7 +62,13 @@ impl RuleReading for Rule {
 
     fn arity(&self) -> Arity {
         match self {
-            Rule::Refl | Rule::RetOne(_) | Rule::BindRet | Rule::Assoc | Rule::IfConst | Rule::GuardKnown | Rule::Exp => Arity::exactly(0),
+            Rule::Refl
+            | Rule::RetOne(_)
+            | Rule::BindRet
+            | Rule::Assoc
+            | Rule::IfConst
+            | Rule::GuardKnown
+            | Rule::Exp => Arity::exactly(0),
             Rule::Trans(_) | Rule::Bind | Rule::If => Arity::exactly(2),
             Rule::Loop => Arity::exactly(1),
         }
@@ -78,12 +84,7 @@ impl RuleReading for Rule {
         }
     }
 
-    fn read_given(
-        alloc: Global,
-        word: &str,
-        part: &Sx,
-        at: u32,
-    ) -> Result<(Rule, u32), TextFault> {
+    fn read_given(alloc: Global, word: &str, part: &Sx, at: u32) -> Result<(Rule, u32), TextFault> {
         if word == "trans" {
             let (middle, behind) = mon_at(alloc, part, at)?;
             Ok((Rule::Trans(middle), behind))

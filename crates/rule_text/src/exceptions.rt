@@ -61,7 +61,8 @@ impl RuleReading for Rule {
         match self {
             Rule::Skip | Rule::Set | Rule::Pick | Rule::Call | Rule::Throw => Arity::exactly(0),
             Rule::SeqPlain | Rule::SeqTest | Rule::Cond | Rule::CatchTest => Arity::exactly(2),
-            Rule::Guard | Rule::WhilePlain | Rule::WhileTest | Rule::CatchPlain | Rule::CatchSkip => Arity::exactly(1),
+            Rule::Guard | Rule::WhilePlain | Rule::WhileTest | Rule::CatchPlain | Rule::CatchSkip =>
+                Arity::exactly(1),
         }
     }
 

@@ -72,7 +72,8 @@ impl RuleReading for Rule {
     fn arity(&self) -> Arity {
         match self {
             Rule::Ret | Rule::Call => Arity::at_least(0),
-            Rule::Bind | Rule::Pointer | Rule::Drop(_) | Rule::And | Rule::Or | Rule::Imp => Arity::exactly(2),
+            Rule::Bind | Rule::Pointer | Rule::Drop(_) | Rule::And | Rule::Or | Rule::Imp =>
+                Arity::exactly(2),
             Rule::Guard | Rule::Tagged | Rule::PtrOk | Rule::Known(_) => Arity::exactly(1),
             Rule::If | Rule::Cond => Arity::exactly(3),
             Rule::Global | Rule::Load | Rule::Op => Arity::at_least(1),
@@ -92,12 +93,7 @@ impl RuleReading for Rule {
         }
     }
 
-    fn read_given(
-        alloc: Global,
-        word: &str,
-        part: &Sx,
-        at: u32,
-    ) -> Result<(Rule, u32), TextFault> {
+    fn read_given(alloc: Global, word: &str, part: &Sx, at: u32) -> Result<(Rule, u32), TextFault> {
         let (address, behind) = boxed_exp_at(alloc, part, at)?;
         if word == "drop" {
             Ok((Rule::Drop(address), behind))

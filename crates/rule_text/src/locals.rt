@@ -58,7 +58,14 @@ impl RuleReading for Rule {
 
     fn arity(&self) -> Arity {
         match self {
-            Rule::Skip | Rule::Set | Rule::Dead | Rule::Global | Rule::Memory | Rule::Pick | Rule::Call | Rule::Void => Arity::exactly(0),
+            Rule::Skip
+            | Rule::Set
+            | Rule::Dead
+            | Rule::Global
+            | Rule::Memory
+            | Rule::Pick
+            | Rule::Call
+            | Rule::Void => Arity::exactly(0),
             Rule::Seq | Rule::Cond => Arity::exactly(2),
             Rule::Guard | Rule::While | Rule::Start => Arity::exactly(1),
         }

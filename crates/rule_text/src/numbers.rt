@@ -91,12 +91,32 @@ impl RuleReading for Rule {
     fn arity(&self) -> Arity {
         match self {
             Rule::Ret | Rule::Call | Rule::Op => Arity::at_least(0),
-            Rule::Guard | Rule::Recast(_) | Rule::Nat | Rule::Int | Rule::Word(_) | Rule::Unat | Rule::Sint | Rule::Neg | Rule::Zext | Rule::Sext => Arity::exactly(1),
+            Rule::Guard
+            | Rule::Recast(_)
+            | Rule::Nat
+            | Rule::Int
+            | Rule::Word(_)
+            | Rule::Unat
+            | Rule::Sint
+            | Rule::Neg
+            | Rule::Zext
+            | Rule::Sext => Arity::exactly(1),
             Rule::If | Rule::Cond => Arity::exactly(3),
             Rule::Global => Arity::at_least(1),
-            Rule::Pick | Rule::PickNat | Rule::PickInt | Rule::Var | Rule::Const => Arity::exactly(0),
+            Rule::Pick | Rule::PickNat | Rule::PickInt | Rule::Var | Rule::Const => Arity::exactly(
+                0,
+            ),
             Rule::Write => Arity::at_least(2),
-            Rule::Bind(_) | Rule::Add | Rule::Sub | Rule::Mul | Rule::Udiv | Rule::Umod | Rule::Sdiv | Rule::Smod | Rule::Order | Rule::Eq(_) => Arity::exactly(2),
+            Rule::Bind(_)
+            | Rule::Add
+            | Rule::Sub
+            | Rule::Mul
+            | Rule::Udiv
+            | Rule::Umod
+            | Rule::Sdiv
+            | Rule::Smod
+            | Rule::Order
+            | Rule::Eq(_) => Arity::exactly(2),
             Rule::Loop(_) => Arity::at_least(3),
             Rule::Logic => Arity::between(1, 2),
         }
@@ -118,12 +138,7 @@ impl RuleReading for Rule {
         }
     }
 
-    fn read_given(
-        alloc: Global,
-        word: &str,
-        part: &Sx,
-        at: u32,
-    ) -> Result<(Rule, u32), TextFault> {
+    fn read_given(alloc: Global, word: &str, part: &Sx, at: u32) -> Result<(Rule, u32), TextFault> {
         if word == "bind" {
             let (kinds, behind) = kinds_at(alloc, part, at)?;
             Ok((Rule::Bind(kinds), behind))
