@@ -1,1 +1,3 @@
 pub mod CertificateText
+pub mod CertificateReading
+pub mod CodeCertificate

@@ -1,6 +1,12 @@
-//! The texts of certificates.
+//! The texts of certificates, both ways.
 #![tactic(auto)]
 
+mod certificate;
+mod certificate_reading;
+mod function_reading;
 mod writing;
 
+pub use certificate::{Certificate, Version};
+pub use certificate_reading::certificate_at;
+pub use function_reading::function_at;
 pub use writing::{certificate_tree, write};

@@ -3,11 +3,13 @@
 ghost use Rattle.std.specs.Prelude.{◌≡◌, IfOk, codes, map};
 ghost use Rattle.c_values.specs.CodeTypes.{target_of};
 ghost use Rattle.expression_lang.specs.CodeExpression.{level_of};
-ghost use Rattle.ac_sx.specs.Tree.{no_trees, more};
+ghost use Rattle.ac_sx.specs.Tree.{Atom, no_trees, more};
 ghost use Rattle.ac_sx.specs.CodeSx.{tree_of, trees_in};
 ghost use Rattle.acceptance.specs.CodeCertificate.{steps_of};
-ghost use Rattle.certificate_text.specs.CertificateText.{target_word, level_word, step_tree, steps_trees, function_tree, certificate_tree, certificate_text};
+ghost use Rattle.certificate_text.specs.CertificateText.{target_word, level_word, step_tree, function_tree, version_trees, certificate_tree, certificate_text};
+ghost use Rattle.certificate_text.specs.CodeCertificate.{version_of, certificate_of};
 
+use crate::certificate::{Certificate, Version};
 use ac_sx::Sx;
 use acceptance::Steps;
 use c_values::Target;
@@ -19,33 +21,42 @@ use rule_text::{equality_tree, exception_tree, heap_tree, local_tree, word_tree}
 use std::alloc::{AllocError, Global};
 
 /// The text of a certificate, with the line's end behind it.
-pub fn write(alloc: Global, target: Target, functions: &[Steps]) -> Result<Vec<u8>, AllocError>
-    ensures { IfOk result (λ text. text.items
-        ≡ certificate_text (target_of target) (map steps_of functions.now)) }
+pub fn write(alloc: Global, certificate: &Certificate) -> Result<Vec<u8>, AllocError>
+    ensures { IfOk result (λ text.
+        text.items ≡ certificate_text (certificate_of certificate.now)) }
 {
-    let tree = certificate_tree(alloc, target, functions)?;
+    let tree = certificate_tree(alloc, certificate)?;
     ac_sx::write(alloc, &tree)
 }
 
 /// The tree of a certificate.
 #[tactic(auto, using(expression_text::proofs::Filling::joined_push))]
-pub fn certificate_tree(
-    alloc: Global,
-    target: Target,
-    functions: &[Steps],
-) -> Result<Sx, AllocError>
-    ensures { IfOk result (λ tree. tree_of tree
-        ≡ certificate_tree (target_of target) (map steps_of functions.now)) }
+pub fn certificate_tree(alloc: Global, certificate: &Certificate) -> Result<Sx, AllocError>
+    ensures { IfOk result (λ tree.
+        tree_of tree ≡ certificate_tree (certificate_of certificate.now)) }
 {
-    let parts = begun(alloc, "cert")?;
-    let parts = with_part(parts, atom(alloc, "2")?)?;
-    let mut parts = with_part(parts, atom(alloc, target_word(target))?)?;
-    let mut rest = functions;
+    let mut parts = versioned(alloc, certificate.version)?;
+    let mut rest = certificate.functions.as_slice();
     'functions: while let Some((steps, others)) = rest.split_first() {
         parts.push(function_tree(alloc, steps)?)?;
         rest = others;
     }
     Ok(Sx::list(parts))
+}
+
+// What a certificate begins with.
+fn versioned(alloc: Global, version: Version) -> Result<Vec<Sx>, AllocError>
+    ensures { IfOk result (λ parts. trees_in parts.items
+        ≡ more (Atom (codes "cert")) (version_trees (version_of version) no_trees)) }
+{
+    let parts = begun(alloc, "cert")?;
+    match version {
+        Version::One => with_part(parts, atom(alloc, "1")?),
+        Version::Two(target) => {
+            let parts = with_part(parts, atom(alloc, "2")?)?;
+            with_part(parts, atom(alloc, target_word(target))?)
+        }
+    }
 }
 
 fn target_word(target: Target) -> &'static str
