@@ -1,2 +1,6 @@
 pub mod Written
 pub mod Parted
+pub mod StepLaws
+pub mod FunctionLaws
+pub mod CertificateLaws
+pub mod ReadBack
