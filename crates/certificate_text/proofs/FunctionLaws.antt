@@ -252,6 +252,9 @@ written c = by c.heap
     by None = refl
     by (Some s) = refl
 
+parts_moved : (p : Parts) (c d : Steps) → c ≡ d → p.exception ≡ exception_tree c.exception → p.local ≡ local_tree c.local → p.heap ≡ heap_part c.heap → p.word ≡ word_tree c.word → p.equal ≡ equal_tree c.equal → parts_trees p ≡ steps_trees d
+parts_moved p c d same e l h w q = rewritten p (function_parts c) e l h w q ∙ written c ∙ ap steps_trees same
+
 all_fine : (c : Steps) → (is_name c.name && is_heap c.level c.heap) ≡ true → (is_command c.exception.program && exceptions.is_tree c.exception.tree) ≡ true → (is_mon c.local.program && locals.is_tree c.local.tree) ≡ true →
     (is_mon c.word.program && words.is_tree c.word.tree) ≡ true → (is_mon c.equal.program && equality.is_tree c.equal.tree) ≡ true → is_function c ≡ true
 all_fine c n e l w q =
@@ -259,6 +262,13 @@ all_fine c n e l w q =
     let three = and_from (is_mon c.local.program && locals.is_tree c.local.tree) ((is_mon c.word.program && words.is_tree c.word.tree) && (is_mon c.equal.program && equality.is_tree c.equal.tree)) l last in
     and_from (is_name c.name && is_heap c.level c.heap) ((is_command c.exception.program && exceptions.is_tree c.exception.tree) && ((is_mon c.local.program && locals.is_tree c.local.tree) && ((is_mon c.word.program && words.is_tree c.word.tree) && (is_mon c.equal.program && equality.is_tree c.equal.tree)))) n
     (and_from (is_command c.exception.program && exceptions.is_tree c.exception.tree) ((is_mon c.local.program && locals.is_tree c.local.tree) && ((is_mon c.word.program && words.is_tree c.word.tree) && (is_mon c.equal.program && equality.is_tree c.equal.tree))) e three)
+
+fine_moved : (c d : Steps) → c ≡ d → is_function c ≡ true → is_function d ≡ true
+fine_moved c d same is = ap is_function (sym same) ∙ is
+
+spelled : (p : Parts) (c d : Steps) → c ≡ d → p.exception ≡ exception_tree c.exception → p.local ≡ local_tree c.local → p.heap ≡ heap_part c.heap → p.word ≡ word_tree c.word → p.equal ≡ equal_tree c.equal → is_function c ≡ true →
+    (c.name ≡ d.name) × (c.level ≡ d.level) × (parts_trees p ≡ steps_trees d) × (is_function d ≡ true)
+spelled p c d same e l h w q is = (ap (λ (s : Steps). s.name) same, ap (λ (s : Steps). s.level) same, parts_moved p c d same e l h w q, fine_moved c d same is)
 
 steps_spell : (name : Name) (level : Level) (at : ℕ) (p : Parts) (c : Steps) (n : ℕ) → is_name name ≡ true → fits (Some level) p.heap ≡ true → steps_at name level at p ≡ Ok (c, n) →
     (name ≡ c.name) × (level ≡ c.level) × (parts_trees p ≡ steps_trees c) × (is_function c ≡ true)
@@ -274,12 +284,8 @@ steps_spell name level at p c n is fit read =
     let l' = local_spells p.local e.1 l.0 l.1 read1 in
     let h' = heap_part_spells level p.heap l.1 h.0 h.1 fit read2 in
     let w' = word_spells p.word h.1 w.0 w.1 read3 in
-    let q' = equal_spells p.equal w.1 q.0 q.1 read4 in (
-      ap (λ (s : Steps). s.name) same,
-      ap (λ (s : Steps). s.level) same,
-      rewritten p (function_parts d) e'.0 l'.0 h'.0 w'.0 q'.0 ∙ written d ∙ ap steps_trees same,
-      ap is_function (sym same) ∙ all_fine d (and_from (is_name name) (is_heap level h.0) is h'.1) e'.1 l'.1 w'.1 q'.1,
-    )
+    let q' = equal_spells p.equal w.1 q.0 q.1 read4 in
+    spelled p d c same e'.0 l'.0 h'.0 w'.0 q'.0 (all_fine d (and_from (is_name name) (is_heap level h.0) is h'.1) e'.1 l'.1 w'.1 q'.1)
 
 kept : (b : Bool) (r : Read Steps) (at : ℕ) (c : Steps) (n : ℕ) → cond {A = Read Steps} b r (Err at) ≡ Ok (c, n) → (b ≡ true) × (r ≡ Ok (c, n))
 kept true r at c n e = (refl, e)
@@ -295,7 +301,7 @@ from_spells at name level ts (Some p) c n e read =
     let k = named level x.1 y.0 y.1 (word_in level) refl read1 in
     let s = steps_spell x.0 y.0 y.1 p c n h.1 (ap (λ o. fits o p.heap) (sym k.1) ∙ fit) last in (
       ap₂ (λ a b. Node (more (Atom (codes "fun")) (more a (more b ts)))) (h.0 ∙ ap Atom s.0) (k.0 ∙ ap (λ l. Atom (level_word l)) s.1)
-      ∙ ap (λ us. Node (more (Atom (codes "fun")) (more (Atom c.name) (more (Atom (level_word c.level)) us)))) (parts_are ts p e ∙ s.2),
+          ∙ ap (λ us. Node (more (Atom (codes "fun")) (more (Atom c.name) (more (Atom (level_word c.level)) us)))) (parts_are ts p e ∙ s.2),
       s.3,
     )
 

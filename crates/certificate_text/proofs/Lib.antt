@@ -4,3 +4,5 @@ pub mod StepLaws
 pub mod FunctionLaws
 pub mod CertificateLaws
 pub mod ReadBack
+pub mod Rows
+pub mod TextRead

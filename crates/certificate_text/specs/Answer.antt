@@ -14,7 +14,7 @@ IsCertificateTree t c = (t ≡ certificate_tree c) × (is_certificate c ≡ true
 -- the text of a tree that isn't too deep
 pub record IsTextOf (text : List ℕ) (t : Tree) : Type 0 where
   pub atoms : IsTree t
-  pub text : text ≡ file t
+  pub spelled : text ≡ file t
   pub depth : depth t ≤ deepest
 
 abbrev pub IsCertificateText : List ℕ → Certificate → Type 0

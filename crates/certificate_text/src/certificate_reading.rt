@@ -34,11 +34,7 @@ pub fn certificate_at(alloc: Global, tree: &Sx, at: u32) -> Result<(Certificate,
 }
 
 // The certificate of a list at a number, behind its head.
-fn certificate_row(
-    alloc: Global,
-    parts: &[Sx],
-    at: u32,
-) -> Result<(Certificate, u32), TextFault>
+fn certificate_row(alloc: Global, parts: &[Sx], at: u32) -> Result<(Certificate, u32), TextFault>
     ensures { Gives certificate_of result
         (reading.certificate_row at (first_of (trees_in parts.now))) }
 {
@@ -127,11 +123,7 @@ fn functions_at(
     Ok((Certificate { version, functions }, behind))
 }
 
-fn each_function_at(
-    alloc: Global,
-    parts: &[Sx],
-    at: u32,
-) -> Result<(Vec<Steps>, u32), TextFault>
+fn each_function_at(alloc: Global, parts: &[Sx], at: u32) -> Result<(Vec<Steps>, u32), TextFault>
     ensures { Gives (λ functions. map steps_of functions.items) result
         (list_at reading.function_at at (trees_in parts.now)) }
 {

@@ -25,9 +25,7 @@ use expression_lang::Level;
 use expression_text::{TextFault, name_at, next};
 use monad_lang::Mon;
 use program_text::{four, mon_at};
-use rule_text::{
-    equality_tree_at, exception_tree_at, heap_tree_at, local_tree_at, word_tree_at,
-};
+use rule_text::{equality_tree_at, exception_tree_at, heap_tree_at, local_tree_at, word_tree_at};
 use simpl_lang::Simpl;
 use std::alloc::Global;
 
@@ -263,11 +261,7 @@ fn word_at(
     Ok((Step { program, tree }, here))
 }
 
-fn equal_at(
-    alloc: Global,
-    tree: &Sx,
-    at: u32,
-) -> Result<(Step<Mon, rule_eq::Rule>, u32), TextFault>
+fn equal_at(alloc: Global, tree: &Sx, at: u32) -> Result<(Step<Mon, rule_eq::Rule>, u32), TextFault>
     ensures { Gives (step_of mon_of equality.rule_of) result
         (reading.equal_at at (tree_of tree.now)) }
 {
