@@ -1,0 +1,4 @@
+pub mod CertificateText
+pub mod CertificateReading
+pub mod CodeCertificate
+pub mod Answer

@@ -1,0 +1,14 @@
+pub mod Written
+pub mod Mapped
+pub mod NodesRead
+pub mod RuleLaws
+pub mod PlainFound
+pub mod GivenLaws
+pub mod ExceptionLaws
+pub mod LocalLaws
+pub mod HeapLaws
+pub mod WordLaws
+pub mod EqualityLaws
+pub mod Positions
+pub mod ReadBack
+pub mod Rows

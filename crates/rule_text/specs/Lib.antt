@@ -1,0 +1,11 @@
+pub mod Arities
+pub mod RuleText
+pub mod RuleReading
+pub mod ExceptionText
+pub mod LocalText
+pub mod HeapText
+pub mod WordText
+pub mod EqualityText
+pub mod CodeWriting
+pub mod CodeReading
+pub mod Answer
