@@ -1,0 +1,2 @@
+pub mod LocalsLaws
+pub mod Steps
