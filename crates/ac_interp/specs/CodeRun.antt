@@ -26,10 +26,10 @@ use Rattle.expression_lang.specs.CodeState.{Bindings, env_of, state_of, AreOfTyp
 use Rattle.simpl_lang.specs.declared.command.Simpl.{size-Simpl}
 use Rattle.simpl_lang.specs.declared.units.SimplFn as F
 use Rattle.simpl_lang.specs.declared.units.SimplUnit as U
-use Rattle.simpl_lang.specs.Command.{Simpl, simpl_fn}
+use Rattle.simpl_lang.specs.Command.{Condition, Simpl, simpl_fn}
 use Rattle.simpl_lang.specs.Exec as E
 use Rattle.simpl_lang.specs.Exec.{execs, functions_below}
-use Rattle.simpl_lang.specs.Sorted.{IsWellFormed, is_sorted, scope_among}
+use Rattle.simpl_lang.specs.Sorted.{IsWellFormed, is_sorted, are_conditions, scope_among}
 use Rattle.simpl_lang.specs.CodeCommand.{guard_kind_of, simpl_of, simpl_fn_of, simpl_unit_of}
 use Rattle.simpl_lang.specs.CodeForms.{signatures_in}
 use Rattle.ac_interp.specs.declared.outcome.CState as C
@@ -37,7 +37,7 @@ use Rattle.ac_interp.specs.declared.outcome.COutcome as O
 use Rattle.ac_interp.specs.declared.ends.Flow as W
 use Rattle.ac_interp.specs.declared.ends.Stop as P
 use Rattle.ac_interp.specs.declared.frame.Frame as R
-use Rattle.ac_interp.specs.Narrow.{IsNarrow, IsNarrowAlong, AreNarrow, IsCommandNarrow, IsUnitNarrow}
+use Rattle.ac_interp.specs.Narrow.{IsNarrow, IsNarrowAlong, AreNarrow, AreConditionsNarrow, IsCommandNarrow, IsUnitNarrow}
 use Rattle.ac_interp.specs.Locals.{Table, AreOfSorts, AreLocals}
 
 abbrev pub table_of : Bindings → Table
@@ -124,10 +124,19 @@ pub record HaveSortsIn (f : R.Frame) (es : List Exp) (cs : List Scalar) : Type 0
   pub sorted : scalars_of (scope_for f) es ≡ Some cs
   pub narrow : AreNarrow (scope_for f) (globals_for f) es
 
+-- conditions that may be evaluated
+pub record HaveTruthsIn (f : R.Frame) (cs : List Condition) : Type 0 where
+  pub sorted : are_conditions (scope_for f) cs ≡ true
+  pub narrow : AreConditionsNarrow (scope_for f) (globals_for f) cs
+
 -- a command that may be run
 pub record CanRunIn (f : R.Frame) (c : Simpl) : Type 0 where
   pub sorted : is_sorted (scope_for f) (signatures_in f.unit.now) c ≡ true
   pub narrow : IsCommandNarrow (scope_for f) (globals_for f) c
+
+-- a command that asks no turn and no call, and ends normally on this machine
+abbrev pub Reaches : R.Frame → Simpl → Machine → Machine → Type 0
+Reaches f c m n = (turns : ℕ) → ends_in f c turns m (Done (E.Normal n))
 
 -- how deep the bodies of functions are, in all
 abbrev pub depth_of : List F.SimplFn → ℕ

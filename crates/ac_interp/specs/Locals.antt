@@ -1,5 +1,5 @@
 -- Locals as a list of names with values, in the order of the function's locals.
-use Rattle.std.specs.Prelude.{◌≡◌, List, [], ◌∷◌, map, if◌then◌else◌}
+use Rattle.std.specs.Prelude.{◌≡◌, List, [], ◌∷◌, map, Option, Some, None, if◌then◌else◌}
 use Rattle.c_values.specs.Name.{Name, same_name, with_name}
 use Rattle.c_values.specs.Value.{Value}
 use Rattle.expression_lang.specs.Sort.{Scalar, word_sort_of}
@@ -43,3 +43,13 @@ AreOfSorts [] [] = Unit {0}
 AreOfSorts (c ∷ cs) (v ∷ vs) = IsOfSort c v × AreOfSorts cs vs
 AreOfSorts [] (v ∷ vs) = ⊥
 AreOfSorts (c ∷ cs) [] = ⊥
+
+-- a target takes what is given
+abbrev pub given_in : Option Name → Option Value → Table → Table
+given_in (Some x) (Some v) ps = put_in x v ps
+given_in _ _ ps = ps
+
+-- where there is a target, something is given
+abbrev pub IsTaken : Option Name → Option Value → Type 0
+IsTaken (Some x) None = ⊥
+IsTaken _ _ = Unit {0}

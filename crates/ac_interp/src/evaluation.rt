@@ -1,6 +1,7 @@
 //! Values, tests, steps and arguments.
 
-ghost use Rattle.std.specs.Prelude.{◌≡◌, List, map, IfOk};
+ghost use Rattle.std.specs.Prelude.{◌≡◌, List, map, None, IfOk};
+ghost use Rattle.std.specs.Option.{option_map};
 ghost use Rattle.c_values.specs.Layout.{Shape};
 ghost use Rattle.c_values.specs.Value.{number_in, truth_in};
 ghost use Rattle.c_values.specs.Path.{Index};
@@ -11,13 +12,17 @@ ghost use Rattle.expression_lang.specs.Evaluation.{value, steps, holds};
 ghost use Rattle.expression_lang.specs.Signature.{values_of};
 ghost use Rattle.expression_lang.specs.CodeExpression.{exp_of, path_of};
 ghost use Rattle.expression_lang.specs.CodeState.{env_of};
-ghost use Rattle.ac_interp.specs.CodeRun.{state_in, IsFrame, Fits, HasSortIn, LeadsIn, HaveSortsIn};
+ghost use Rattle.expression_lang.specs.CodeFault.{IsFault};
+ghost use Rattle.simpl_lang.specs.CodeCommand.{condition_of, guard_kind_of};
+ghost use Rattle.ac_interp.specs.Guarded.{first_broken};
+ghost use Rattle.ac_interp.specs.CodeRun.{state_in, machine_in, IsFrame, Fits, HasSortIn, LeadsIn, HaveSortsIn, HaveTruthsIn};
 
 use crate::frame::Frame;
 use crate::outcome::CState;
 use c_memory::Step;
 use c_values::{Number, Value};
 use expression_lang::{Env, EvalFault, Exp, Path, eval};
+use simpl_lang::{Condition, GuardKind};
 use std::alloc::AllocError;
 
 impl Frame<'_> {
@@ -41,8 +46,7 @@ impl Frame<'_> {
         );
         match evaluated {
             Ok(value) => Ok(value),
-            Err(EvalFault::Memory) => Err(AllocError),
-            Err(EvalFault::Wide(_, _, _)) => unreachable!(),
+            Err(fault) => Err(want_of_memory(fault)),
         }
     }
 
@@ -92,6 +96,30 @@ impl Frame<'_> {
         }
     }
 
+    /// The kind of the first condition that doesn't hold.
+    pub(crate) fn broken(
+        &self,
+        conditions: &[Condition],
+        locals: &Env,
+        state: &CState,
+    ) -> Result<Option<GuardKind>, AllocError>
+        requires frame { IsFrame self.now }
+        requires fits { Fits self.now locals.now.items state.now }
+        requires sorted { HaveTruthsIn self.now (map condition_of conditions.now) }
+        ensures { IfOk result (λ kind. option_map guard_kind_of kind
+            ≡ first_broken self.now.unit.now.layout (machine_in self.now locals.now.items state.now)
+            (map condition_of conditions.now)) }
+    {
+        let mut rest = conditions;
+        'conditions: while let Some((first, others)) = rest.split_first() {
+            if !self.test(&first.exp, locals, state)? {
+                return Ok(Some(first.kind));
+            }
+            rest = others;
+        }
+        Ok(None)
+    }
+
     /// The values of arguments, in order.
     pub(crate) fn arguments(
         &self,
@@ -113,6 +141,16 @@ impl Frame<'_> {
             rest = others;
         }
         Ok(values)
+    }
+}
+
+// The fault is want of memory, where no operation is wide.
+fn want_of_memory(fault: EvalFault) -> AllocError
+    requires { IsFault fault None }
+{
+    match fault {
+        EvalFault::Memory => AllocError,
+        EvalFault::Wide(_op, _a, _b) => unreachable!(),
     }
 }
 

@@ -1,9 +1,12 @@
 //! Interpreters: what a function of a unit does under a fill number, at a bound of turns.
 #![tactic(auto)]
 
+mod assignments;
+mod commands;
 mod ends;
 mod evaluation;
 mod frame;
+mod functions;
 mod kinds;
 mod locals;
 mod outcome;

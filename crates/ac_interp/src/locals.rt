@@ -1,12 +1,14 @@
 //! Locals, as names with values.
 
-ghost use Rattle.std.specs.Prelude.{◌≡◌, true, map, IfOk};
+ghost use Rattle.std.specs.Prelude.{◌≡◌, true, map, string_bytes, IfOk};
+ghost use Rattle.std.specs.Option.{option_map};
+ghost use Rattle.c_values.specs.Value.{nothing};
 ghost use Rattle.c_values.specs.CodeValue.{value_of};
 ghost use Rattle.expression_lang.specs.Sort.{are_kinds};
 ghost use Rattle.expression_lang.specs.Signature.{kinds_of};
 ghost use Rattle.expression_lang.specs.CodeSignature.{binder_of};
 ghost use Rattle.expression_lang.specs.CodeState.{env_of};
-ghost use Rattle.ac_interp.specs.Locals.{put_in, started};
+ghost use Rattle.ac_interp.specs.Locals.{put_in, started, given_in, IsTaken};
 ghost use Rattle.ac_interp.specs.CodeRun.{table_of};
 
 use crate::kinds::zero;
@@ -57,6 +59,20 @@ pub(crate) fn put(locals: &mut Env, name: &str, value: Value)
     }
 }
 
+/// What a call gives goes to its target.
+pub(crate) fn give(target: &Option<String>, given: Option<Value>, locals: &mut Env)
+    requires { IsTaken (option_map string_bytes target.now) (option_map value_of given) }
+    ensures { table_of locals.new.items
+        ≡ given_in (option_map string_bytes target.now) (option_map value_of given)
+        (table_of locals.old.items) }
+{
+    match (target, given) {
+        (Some(name), Some(value)) => put(locals, name.as_str(), value),
+        (Some(_), None) => unreachable!(),
+        (None, _) => {}
+    }
+}
+
 /// The value of the last local of the name.
 pub(crate) fn taken(alloc: Global, locals: Env, name: &str) -> Value
     ensures { value_of result ≡ env_of locals.items name.now }
@@ -67,5 +83,12 @@ pub(crate) fn taken(alloc: Global, locals: Env, name: &str) -> Value
             return value;
         }
     }
+    nothing(alloc)
+}
+
+// A value without parts.
+fn nothing(alloc: Global) -> Value
+    ensures { value_of result ≡ nothing }
+{
     Value::Parts(Vec::new(alloc))
 }
