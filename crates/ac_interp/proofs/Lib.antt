@@ -1,6 +1,11 @@
 pub mod LocalsLaws
 pub mod Steps
+pub mod Measures
+pub mod Depths
 pub mod Listed
 pub mod Walking
 pub mod Evaluated
 pub mod Parts
+pub mod Places
+pub mod Given
+pub mod Runs

@@ -42,15 +42,15 @@ through x v (p ∷ ps) env h =
 
 -- a local takes a value
 
-where_true : {A : Type 0} (b : Bool) (x y : A) → b ≡ true → cond b x y ≡ x
+pub where_true : {A : Type 0} (b : Bool) (x y : A) → b ≡ true → cond b x y ≡ x
 where_true true x y h = refl
 where_true false x y h = absurd (false≢true h)
 
-where_false : {A : Type 0} (b : Bool) (x y : A) → b ≡ false → cond b x y ≡ y
+pub where_false : {A : Type 0} (b : Bool) (x y : A) → b ≡ false → cond b x y ≡ y
 where_false true x y h = absurd (false≢true (sym h))
 where_false false x y h = refl
 
-by_test : {A : Type 0} (b : Bool) → (b ≡ true → A) → (b ≡ false → A) → A
+pub by_test : {A : Type 0} (b : Bool) → (b ≡ true → A) → (b ≡ false → A) → A
 by_test true f g = f refl
 by_test false f g = g refl
 

@@ -123,8 +123,9 @@ impl Frame<'_> {
     {
         let mut left = turns;
         'turns: loop {
-            if let Some(kind) = self.broken(conditions, locals, state)? {
-                return Err(Stop::Guard(kind));
+            match self.broken(conditions, locals, state)? {
+                Some(kind) => return Err(Stop::Guard(kind)),
+                None => {}
             }
             if !self.test(test, locals, state)? {
                 return Ok(Flow::Normal);
