@@ -8,4 +8,6 @@ pub mod Evaluated
 pub mod Parts
 pub mod Places
 pub mod Given
+pub mod Changed
+pub mod Formed
 pub mod Runs

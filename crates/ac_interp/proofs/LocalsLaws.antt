@@ -216,7 +216,7 @@ zero_sorted (NatKind n) = record { has_width = refl; fits = pow_pos n }
 zero_sorted (IntKind n) = record { has_width = refl; fits = pow_pos n }
 zero_sorted BoolKind = tt
 
-same_kind_is : (k j : Kind) → same_kind k j ≡ true → k ≡ j
+pub same_kind_is : (k j : Kind) → same_kind k j ≡ true → k ≡ j
 same_kind_is (WordKind m) (WordKind n) h = ap (λ i. WordKind i) (eqb-true m n h)
 same_kind_is (NatKind m) (NatKind n) h = ap (λ i. NatKind i) (eqb-true m n h)
 same_kind_is (IntKind m) (IntKind n) h = ap (λ i. IntKind i) (eqb-true m n h)

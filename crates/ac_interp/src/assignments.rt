@@ -7,7 +7,7 @@ ghost use Rattle.c_values.specs.CodeValue.{value_of, global_of};
 ghost use Rattle.c_memory.specs.CodeStep.{step_of};
 ghost use Rattle.expression_lang.specs.CodeExpression.{exp_of, path_of};
 ghost use Rattle.simpl_lang.specs.Command.{Set, SetGlobal, Store, Pick};
-ghost use Rattle.ac_interp.specs.CodeRun.{machine_in, change_in, Fits, IsFrame, CanRunIn, Reaches};
+ghost use Rattle.ac_interp.specs.CodeRun.{machine_in, position_of, change_in, Fits, IsFrame, CanRunIn, Reaches};
 
 use crate::frame::Frame;
 use crate::kinds::picked;
@@ -110,17 +110,33 @@ impl Frame<'_> {
 // The part of the first global of the name takes the value.
 fn change(vars: &[GlobalVar], globals: &mut [Value], name: &str, path: &[Step], value: Value)
     ensures { map value_of globals.new
-        ≡ change_in name.now (map step_of path.now) (value_of value) (map global_of vars.now)
-        (map value_of globals.old) }
+        ≡ change_in (position_of name.now (map global_of vars.now)) (map step_of path.now)
+        (value_of value) (map value_of globals.old) }
+{
+    match position_of(vars, name) {
+        Some(k) => {
+            if k < globals.len() {
+                replace(&mut globals[k], path, value);
+            }
+        }
+        None => {}
+    }
+}
+
+// Where the first global of the name stands.
+fn position_of(vars: &[GlobalVar], name: &str) -> Option<usize>
+    ensures { result ≡ position_of name.now (map global_of vars.now) }
 {
     let mut k = 0;
-    'globals: while k < vars.len() && k < globals.len() {
-        if vars[k].name.as_str() == name {
-            replace(&mut globals[k], path, value);
-            return;
+    let mut rest = vars;
+    'globals: while let Some((first, others)) = rest.split_first() {
+        if first.name.as_str() == name {
+            return Some(k);
         }
         k += 1;
+        rest = others;
     }
+    None
 }
 
 // The bits of a pointer.
