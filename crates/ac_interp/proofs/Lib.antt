@@ -7,6 +7,7 @@ pub mod Walking
 pub mod Evaluated
 pub mod Parts
 pub mod Places
+pub mod Placed
 pub mod Given
 pub mod Changed
 pub mod Formed

@@ -1,6 +1,6 @@
 -- What a well-sorted and narrow command asks of its parts.
-use Rattle.std.proofs.Common.{◌≡◌, Bool, true, false, cond, ◌&&◌, List, [], ◌∷◌, map, Option, Some, None, refl, sym, ap, ◌∙◌, subst}
-use Rattle.std.proofs.lemmas.Bool.{and_parts, false≢true}
+use Rattle.std.proofs.Common.{◌≡◌, Bool, true, false, cond, ◌&&◌, List, [], ◌∷◌, map, Option, Some, None, refl, sym, ap, ap₂, ◌∙◌, subst}
+use Rattle.std.proofs.lemmas.Bool.{and_parts, false≢true, eqb-true}
 use Rattle.c_values.specs.Name.{Name}
 use Rattle.c_values.specs.Types.{CType, address_width}
 use Rattle.c_values.specs.Layout.{Layout, Shape, Incomplete, Scalar as WordShape, Record, Row, is_object, shape_of}
@@ -9,7 +9,7 @@ use Rattle.expression_lang.specs.Expression.{Exp, Path, Here, IntoField, IntoEle
 use Rattle.expression_lang.specs.Form.{has, path_has, is_part_of_value}
 use Rattle.expression_lang.specs.Sort.{Scalar, Sort, Of, PartsSort, WordSort, NumberSort, TruthSort, Scope, sort_of, shape_along, shape_in, sort_at, same_sort, same_scalar, is_number, is_truth, is_word_of, number_sort, truth_sort, word_sort_of}
 use Rattle.expression_lang.specs.Signature.{Signature, signature, kinds_of}
-use Rattle.expression_lang.specs.Sorted.{program_sort, scalar_in, with_scalar, scalars_of, sort_in, part_place, typed_place, global_place, fits_place, call_scalars}
+use Rattle.expression_lang.specs.Sorted.{program_sort, scalar_in, with_scalar, scalars_of, same_scalars, result_scalars, sort_in, part_place, typed_place, global_place, fits_place, call_scalars}
 use Rattle.expression_lang.proofs.Inversion.{number_inv, truth_inv, word_of_inv, same_inv}
 use Rattle.program_sorts.specs.Sorts.{is_scalar_of}
 use Rattle.simpl_lang.specs.Command.{Condition, Simpl, Skip, Throw, Set, SetGlobal, Store, Pick, Seq, Cond, Guard, Catch, While, Call}
@@ -25,7 +25,7 @@ without_parts false p o h = h
 pub program_sort_inv : (g : Scope) (e : Exp) (o : Sort) → program_sort g e ≡ Some o → sort_of g e ≡ Some o
 program_sort_inv g e o h = without_parts (has is_part_of_value e) (sort_of g e) o h
 
-with_scalar_inv : (o : Option Scalar) (p : Option (List Scalar)) (cs : List Scalar) → with_scalar o p ≡ Some cs → (d : Scalar) × (ds : List Scalar) × (o ≡ Some d) × (p ≡ Some ds) × (d ∷ ds ≡ cs)
+pub with_scalar_inv : (o : Option Scalar) (p : Option (List Scalar)) (cs : List Scalar) → with_scalar o p ≡ Some cs → (d : Scalar) × (ds : List Scalar) × (o ≡ Some d) × (p ≡ Some ds) × (d ∷ ds ≡ cs)
 with_scalar_inv (Some d) (Some ds) cs h = (d, ds, refl, refl, some_is h)
   where
     some_is : {as' bs : List Scalar} → ◌≡◌ {A = Option (List Scalar)} (Some as') (Some bs) → as' ≡ bs
@@ -34,7 +34,7 @@ with_scalar_inv (Some d) None cs h = absurd cc
 with_scalar_inv None (Some ds) cs h = absurd cc
 with_scalar_inv None None cs h = absurd cc
 
-scalar_in_inv : (o : Option Sort) (c : Scalar) → scalar_in o ≡ Some c → o ≡ Some (Of c)
+pub scalar_in_inv : (o : Option Sort) (c : Scalar) → scalar_in o ≡ Some c → o ≡ Some (Of c)
 scalar_in_inv (Some (Of d)) c h = let same : d ≡ c = cc in ap (λ e. Some (Of e)) same
 scalar_in_inv (Some (PartsSort t)) c h = absurd cc
 scalar_in_inv None c h = absurd cc
@@ -46,6 +46,23 @@ member_some (Some s) f q h = (s.shape, h)
 element_some : (b : Bool) (o : Option Shape) (q : Shape) → cond b o None ≡ Some q → (b ≡ true) × (o ≡ Some q)
 element_some true o q h = (refl, h)
 element_some false o q h = absurd cc
+
+same_scalar_is : (a b : Scalar) → same_scalar a b ≡ true → a ≡ b
+same_scalar_is (WordSort m) (WordSort n) h = ap (λ k. WordSort k) (eqb-true m n h)
+same_scalar_is NumberSort NumberSort h = refl
+same_scalar_is TruthSort TruthSort h = refl
+same_scalar_is (WordSort m) NumberSort h = absurd cc
+same_scalar_is (WordSort m) TruthSort h = absurd cc
+same_scalar_is NumberSort (WordSort n) h = absurd cc
+same_scalar_is NumberSort TruthSort h = absurd cc
+same_scalar_is TruthSort (WordSort n) h = absurd cc
+same_scalar_is TruthSort NumberSort h = absurd cc
+
+same_scalars_are : (as' bs : List Scalar) → same_scalars as' bs ≡ true → as' ≡ bs
+same_scalars_are [] [] h = refl
+same_scalars_are (a ∷ as') (b ∷ bs) h = let p = and_parts (same_scalar a b) (same_scalars as' bs) h in ap₂ (λ c cs. c ∷ cs) (same_scalar_is a b p.0) (same_scalars_are as' bs p.1)
+same_scalars_are [] (b ∷ bs) h = absurd (false≢true h)
+same_scalars_are (a ∷ as') [] h = absurd (false≢true h)
 
 module _ (f : R.Frame) where
   abbrev g : Scope
@@ -106,6 +123,43 @@ module _ (f : R.Frame) where
   other_conditions c cs h =
       let p = and_parts (is_truth (program_sort g c.exp)) (are_conditions g cs) h.sorted in
       record { sorted = p.1; narrow = h.narrow.1 }
+
+  -- a call
+
+  pub record CallParts (x : Option Name) (h : Name) (es : List Exp) : Type 0 where
+    pub called : Signature
+    pub found : signature (signatures_in f.unit.now) h ≡ Some called
+    pub sorted : HaveSortsIn f es (map word_sort_of (kinds_of called.params))
+    pub target : fits_target g x (Some (result_scalars word_sort_of called.result)) ≡ true
+
+  pub call_parts : (x : Option Name) (h : Name) (es : List Exp) → CanRunIn f (Call x h es) → CallParts x h es
+  call_parts x h es c = by_parts (signature (signatures_in f.unit.now) h) (scalars_of g es) refl refl c.sorted
+    where
+      by_same : (s : Signature) (cs : List Scalar) (b : Bool) → b ≡ same_scalars (map word_sort_of (kinds_of s.params)) cs → signature (signatures_in f.unit.now) h ≡ Some s → scalars_of g es ≡ Some cs →
+          fits_target g x (cond b (Some (result_scalars word_sort_of s.result)) None) ≡ true → CallParts x h es
+      by_same s cs true q e o t = record {
+        called = s;
+        found = e;
+        sorted = record { sorted = subst (λ ds. scalars_of g es ≡ Some ds) (sym (same_scalars_are (map word_sort_of (kinds_of s.params)) cs (sym q))) o; narrow = c.narrow };
+        target = t;
+      }
+      by_same s cs false q e o t = absurd (no_target x t)
+        where
+          no_target : (y : Option Name) → fits_target g y None ≡ true → ⊥
+          no_target (Some y) r = false≢true r
+          no_target None r = false≢true r
+      by_parts : (o : Option Signature) (p : Option (List Scalar)) → signature (signatures_in f.unit.now) h ≡ o → scalars_of g es ≡ p → fits_target g x (call_scalars word_sort_of o p) ≡ true → CallParts x h es
+      by_parts (Some s) (Some cs) e o t = by_same s cs (same_scalars (map word_sort_of (kinds_of s.params)) cs) refl e o t
+      by_parts (Some s) None e o t = absurd (no_target x t)
+        where
+          no_target : (y : Option Name) → fits_target g y None ≡ true → ⊥
+          no_target (Some y) r = false≢true r
+          no_target None r = false≢true r
+      by_parts None p e o t = absurd (no_target x t)
+        where
+          no_target : (y : Option Name) → fits_target g y None ≡ true → ⊥
+          no_target (Some y) r = false≢true r
+          no_target None r = false≢true r
 
   -- commands
 
