@@ -15,7 +15,7 @@ use Rattle.ac_interp.proofs.LocalsLaws.{by_test, where_true, where_false, same_k
 same_fn : {f g : SimplFn} → ◌≡◌ {A = Option SimplFn} (Some f) (Some g) → f ≡ g
 same_fn h = cc
 
-same_signature : {s r : Signature} → ◌≡◌ {A = Option Signature} (Some s) (Some r) → s ≡ r
+pub same_signature : {s r : Signature} → ◌≡◌ {A = Option Signature} (Some s) (Some r) → s ≡ r
 same_signature h = cc
 
 pub found_name : (fs : List SimplFn) (x : Name) (f : SimplFn) → simpl_fn fs x ≡ Some f → f.name ≡ x

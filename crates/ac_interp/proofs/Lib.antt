@@ -12,3 +12,5 @@ pub mod Given
 pub mod Changed
 pub mod Formed
 pub mod Runs
+pub mod Calls
+pub mod Indexed

@@ -163,6 +163,19 @@ scalar_kind (b ∷ bs) names x c d h e =
     or_also true b e = refl
     or_also false b e = e
 
+pub kind_scalar : (bs : List Binder) (names : Name → Option Scalar) (x : Name) (k : Kind) → are_distinct (names_of bs) ≡ true → kind_of bs x ≡ Some k → scalars_among bs names x ≡ Some (word_sort_of k)
+kind_scalar [] names x k d e = absurd cc
+kind_scalar (b ∷ bs) names x k d e =
+    let q = and_parts (not (is_among b.name (names_of bs))) (are_distinct (names_of bs)) d in
+    let more = with_name b.name (Some (word_sort_of b.kind)) names in
+    by_test (same_name b.name x)
+    (λ t.
+        let same : b.name ≡ x = name_is b.name x t in
+        let fresh : is_among x (names_of bs) ≡ false = subst (λ n. is_among n (names_of bs) ≡ false) same (not-true (is_among b.name (names_of bs)) q.0) in
+        let kind : b.kind ≡ k = some_is (sym (where_true (same_name b.name x) (Some b.kind) (kind_of bs x) t) ∙ e) in
+        not_among bs more x fresh ∙ where_true (same_name b.name x) (Some (word_sort_of b.kind)) (names x) t ∙ ap (λ j. Some (word_sort_of j)) kind)
+    (λ t. kind_scalar bs more x k q.1 (sym (where_false (same_name b.name x) (Some b.kind) (kind_of bs x) t) ∙ e))
+
 -- where a body begins
 
 abbrev with_zeros : List Binder → Env → Env

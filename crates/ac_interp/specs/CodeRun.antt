@@ -1,6 +1,6 @@
 -- What the code that runs commands works on, and what its answers stand for.
-use Rattle.std.specs.Prelude.{◌≡◌, ℕ, zero, suc, ◌+◌, ◌≤◌, Bool, true, false, List, [], ◌∷◌, map, Option, Some, None, Result, Ok, Err, pos, string_bytes, if◌then◌else◌}
-use Rattle.std.specs.Option.{option_map}
+use Rattle.std.specs.Prelude.{◌≡◌, ℕ, zero, suc, ◌+◌, ◌≤◌, Bool, true, false, List, [], ◌∷◌, map, Option, Some, None, Result, Ok, Err, pos, string_bytes, if◌then◌else◌, slice_get}
+use Rattle.std.specs.Option.{option_map, IsSomeAnd}
 use Rattle.correspondence.specs.Outcome.{Turns, Depth, Done, Failed, Stopped, Ends}
 use Rattle.c_values.specs.Name.{Name, same_name, are_distinct}
 use Rattle.c_values.specs.Word.{word}
@@ -180,3 +180,7 @@ pub record CanBeCalled (u : U.SimplUnit) (f : F.SimplFn) (s : G.Signature) (vs :
 
 abbrev pub call_of : F.SimplFn → List Value → State → Invocation
 call_of f vs s = record { name = string_bytes f.name; arguments = vs; state = s }
+
+-- position f is a function's, and the values are one for each of its parameters, of its kind's words
+abbrev pub TakesThem : U.SimplUnit → ℕ → List Value → Type 0
+TakesThem u f vs = IsSomeAnd (slice_get u.signatures.items f) (λ s. AreOfSorts (map word_sort_of (kinds_of (map binder_of s.params.items))) vs)

@@ -108,10 +108,10 @@ impl Frame<'_> {
 }
 
 // The part of the first global of the name takes the value.
-fn change(vars: &[GlobalVar], globals: &mut [Value], name: &str, path: &[Step], value: Value)
-    ensures { map value_of globals.new
+fn change(vars: &[GlobalVar], globals: &mut Vec<Value>, name: &str, path: &[Step], value: Value)
+    ensures { map value_of globals.new.items
         ≡ change_in (position_of name.now (map global_of vars.now)) (map step_of path.now)
-        (value_of value) (map value_of globals.old) }
+        (value_of value) (map value_of globals.old.items) }
 {
     match position_of(vars, name) {
         Some(k) => {

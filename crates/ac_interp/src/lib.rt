@@ -10,5 +10,7 @@ mod functions;
 mod kinds;
 mod locals;
 mod outcome;
+mod simpl;
 
 pub use outcome::{COutcome, CState};
+pub use simpl::run_simpl;

@@ -2,67 +2,297 @@
 use Rattle.std.proofs.Common.{rules, arith, ◌≡◌, ℕ, ◌+◌, ◌*◌, ◌<◌, ◌-◌, ◌≤◌, true, false, map, Option, Some, None, Result, Ok, Err, refl, sym, ap, ap₂, ◌∙◌, subst}
 use Rattle.std.proofs.lemmas.Grind.{common_steps}
 use Rattle.std.specs.Option.{option_map}
-use Rattle.std.specs.Prelude.{string_bytes}
+use Rattle.std.specs.Prelude.{IfSome, string_bytes}
 use Rattle.correspondence.specs.Outcome.{Done}
 use Rattle.correspondence.specs.Included.{Included}
 use Rattle.c_values.specs.Choice.{Fill}
 use Rattle.c_values.specs.CodeTypes.{type_of}
 use Rattle.c_values.specs.CodeValue.{value_of}
-use Rattle.expression_lang.specs.Sort.{Of, TruthSort}
+use Rattle.expression_lang.specs.Sort.{Of, TruthSort, word_sort_of}
+use Rattle.expression_lang.specs.States.{IsOfSort}
+use Rattle.expression_lang.specs.Signature.{signature, kinds_of, values_of}
+use Rattle.expression_lang.specs.CodeSignature.{binder_of, signature_of}
+use Rattle.expression_lang.specs.CodeState.{env_of}
 use Rattle.expression_lang.specs.CodeExpression.{exp_of, path_of, kind_of}
 use Rattle.simpl_lang.specs.declared.command.Simpl.{size-Simpl}
-use Rattle.simpl_lang.specs.Command.{Set, SetGlobal, Store, Pick, Seq, Cond, Guard, Catch, While, Call}
+use Rattle.simpl_lang.specs.Command.{simpl_fn, Set, SetGlobal, Store, Pick, Seq, Cond, Guard, Catch, While, Call}
 use Rattle.simpl_lang.specs.Exec as E
-use Rattle.simpl_lang.specs.Exec.{holds_on, simpl_runs}
-use Rattle.simpl_lang.specs.CodeCommand.{condition_of, guard_kind_of, simpl_of, simpl_unit_of}
+use Rattle.simpl_lang.specs.Exec.{holds_on, simpl_runs, result_of}
+use Rattle.simpl_lang.specs.CodeCommand.{condition_of, guard_kind_of, simpl_of, simpl_fn_of, simpl_unit_of}
+use Rattle.simpl_lang.specs.CodeForms.{signatures_in}
 use Rattle.ac_interp.specs.declared.ends.Flow as W
 use Rattle.ac_interp.specs.declared.ends.Stop as P
 use Rattle.ac_interp.specs.Guarded.{first_broken}
 use Rattle.ac_interp.specs.CodeRun.{machine_in, state_in, ends_in, depth_of, call_of, HasRun, HasReturned, IsFrame, IsStateOf, CanRun, Fits, CanRunIn, CanBeCalled, IsResult}
-use Rattle.ac_interp.proofs.Parts.{seq_first, seq_last, catch_first, catch_last, cond_test, cond_first, cond_last, guard_test, guard_last, while_test, while_body}
+use Rattle.ac_interp.specs.Locals.{AreOfSorts}
+use Rattle.ac_interp.proofs.Parts.{call_parts, seq_first, seq_last, catch_first, catch_last, cond_test, cond_first, cond_last, guard_test, guard_last, while_test, while_body}
 use Rattle.ac_interp.proofs.Measures.{below_turn, below_call, below_body}
 use Rattle.ac_interp.proofs.Depths.{last_of_seq, last_of_catch, first_of_cond, last_of_cond, last_of_guard}
-use Rattle.ac_interp.proofs.Runs.{reached, ran, seq_normal, seq_abrupt, seq_stopped, catch_normal, catch_abrupt, catch_stopped, cond_true, cond_false, guard_true, guard_false, loop_breaks, loop_ends, loop_out, loop_turns, loop_throws, loop_stopped}
+use Rattle.ac_interp.proofs.Runs.{reached, ran, seq_normal, seq_abrupt, seq_stopped, catch_normal, catch_abrupt, catch_stopped, cond_true, cond_false, guard_true, guard_false, loop_breaks, loop_ends, loop_out, loop_turns, loop_throws, loop_stopped, call_out, call_deep, call_gives, call_stopped}
+use Rattle.ac_interp.proofs.Placed.{arguments_fit}
+use Rattle.ac_interp.proofs.Formed.{same_signature, found_name, signed_fn}
+use Rattle.ac_interp.proofs.Calls.{given_to, function_there, body_kinds, body_frame, body_fits, body_runs, body_stopped, body_done, result_sorted}
 use Rattle.ac_interp.proofs.frame.Frame.+runs.Goals as goal
 
 pub call-returns-then-turns-eq0-clause-run : goal.call-returns-then-turns-eq0-clause-run
-call-returns-then-turns-eq0-clause-run t c = ?
+call-returns-then-turns-eq0-clause-run t c =
+    let f = c.args.self.now in
+    let turns = c.args.turns in
+    let x = option_map string_bytes c.args.target.now in
+    let g = c.args.name.now in
+    let es = map exp_of c.args.arguments.now in
+    let m = machine_in f c.args.locals.now.items c.args.state.now in
+    call_out f x g es m turns c.if-turns-eq0.true
 
 pub call-returns-then-self-eq0-clause-run : goal.call-returns-then-self-eq0-clause-run
-call-returns-then-self-eq0-clause-run t c = ?
+call-returns-then-self-eq0-clause-run t c =
+    let f = c.args.self.now in
+    let turns = c.args.turns in
+    let x = option_map string_bytes c.args.target.now in
+    let g = c.args.name.now in
+    let es = map exp_of c.args.arguments.now in
+    let m = machine_in f c.args.locals.now.items c.args.state.now in
+    let more : (turns - 1) + 1 ≡ turns = omega arith in
+    call_deep f x g es m turns (turns - 1) more c.if-self-eq0.true
 
 pub call-unwrap-function-requires : goal.call-unwrap-function-requires
-call-unwrap-function-requires t c = ?
+call-unwrap-function-requires t c =
+    let f = c.args.self.now in
+    let turns = c.args.turns in
+    let x = option_map string_bytes c.args.target.now in
+    let g = c.args.name.now in
+    let es = map exp_of c.args.arguments.now in
+    let m = machine_in f c.args.locals.now.items c.args.state.now in
+    let p = call_parts f x g es c.requires.1.1.1.1 in
+    let w = signed_fn g p.called (simpl_unit_of f.unit.now).functions (simpl_unit_of f.unit.now).signatures c.requires.1.1.0.unit.formed.signatures p.found in
+    function_there c.function_in.result _ w.0 (ap (λ fs. simpl_fn (map simpl_fn_of fs) g) c.deref.ensures.value ∙ w.1) c.function_in.ensures.none
 
 pub call-returned-requires : goal.call-returned-requires
-call-returned-requires t c = ?
+call-returned-requires t c =
+    let f = c.args.self.now in
+    let turns = c.args.turns in
+    let x = option_map string_bytes c.args.target.now in
+    let g = c.args.name.now in
+    let es = map exp_of c.args.arguments.now in
+    let m = machine_in f c.args.locals.now.items c.args.state.now in
+    let p = call_parts f x g es c.requires.1.1.1.1 in
+    let h = c.unwrap-function.result.now in
+    let s = c.unwrap-signature.result.now in
+    let some : c.function_in.result ≡ Some c.unwrap-function.result = search rules in
+    let signed : c.signature.result ≡ Some c.unwrap-signature.result = search rules in
+    let found = subst (λ o. IfSome o (λ r. simpl_fn (map simpl_fn_of c.deref.result.now) g ≡ Some (simpl_fn_of r.now))) some c.function_in.ensures.found in
+    let less = subst (λ o. IfSome o (λ r. size-Simpl r.now.body ≤ depth_of c.deref.result.now)) some c.function_in.ensures.depth in
+    let there : simpl_fn (map simpl_fn_of f.unit.now.functions.items) g ≡ Some (simpl_fn_of h) = subst (λ fs. simpl_fn (map simpl_fn_of fs) g ≡ Some (simpl_fn_of h)) c.deref.ensures.value found in
+    let deep : size-Simpl h.body ≤ depth_of f.unit.now.functions.items = subst (λ fs. size-Simpl h.body ≤ depth_of fs) c.deref.ensures.value less in
+    let name : string_bytes h.name ≡ g = found_name _ g (simpl_fn_of h) there in
+    let declared : signature (signatures_in f.unit.now) g ≡ Some (signature_of s) =
+        sym (ap (λ ss. signature (map signature_of ss) g) c.deref-2.ensures.value) ∙ sym c.signature.ensures ∙ ap (option_map (λ r. signature_of r.now)) signed in
+    let known : p.called ≡ signature_of s = same_signature (sym p.found ∙ declared) in
+    let values : map value_of c.deref-4.result.now ≡ values_of f.unit.now.layout (env_of c.args.locals.now.items) (state_in f.unit.now c.args.state.now) es = ap (map value_of) c.deref-4.ensures.value ∙ c.in_ok-values.ensures in
+    (
+      subst (λ n. (turns - 1) * (4 * depth_of f.unit.now.functions.items + 8) + 4 * size-Simpl h.body + 3 < n) c.decreases
+      (below_call (turns - 1) turns (depth_of f.unit.now.functions.items) (size-Simpl h.body) (omega arith) deep),
+      (
+        c.requires.1.1.0.unit,
+        (
+          c.deref-3.ensures.value,
+          (
+            record {
+              function = subst (λ n. simpl_fn (map simpl_fn_of f.unit.now.functions.items) n ≡ Some (simpl_fn_of h)) (sym name) there;
+              signature = subst (λ n. signature (signatures_in f.unit.now) n ≡ Some (signature_of s)) (sym name) declared;
+              arguments = subst (λ vs. AreOfSorts (map word_sort_of (kinds_of (map binder_of s.params.items))) vs) (sym values)
+                  (subst (λ r. AreOfSorts (map word_sort_of (kinds_of r.params)) _) known (arguments_fit f c.requires.1.1.0 c.args.locals.now.items c.args.state.now c.requires.1.1.1.0 es _ p.sorted));
+              depth = deep;
+            },
+            c.requires.1.1.1.0.state,
+          ),
+        ),
+      ),
+    )
 
 pub call-returns-in_err-given-clause-run : goal.call-returns-in_err-given-clause-run
-call-returns-in_err-given-clause-run t c = ?
+call-returns-in_err-given-clause-run t c =
+    let f = c.args.self.now in
+    let turns = c.args.turns in
+    let x = option_map string_bytes c.args.target.now in
+    let g = c.args.name.now in
+    let es = map exp_of c.args.arguments.now in
+    let m = machine_in f c.args.locals.now.items c.args.state.now in
+    let p = call_parts f x g es c.requires.1.1.1.1 in
+    let h = c.unwrap-function.result.now in
+    let s = c.unwrap-signature.result.now in
+    let some : c.function_in.result ≡ Some c.unwrap-function.result = search rules in
+    let signed : c.signature.result ≡ Some c.unwrap-signature.result = search rules in
+    let found = subst (λ o. IfSome o (λ r. simpl_fn (map simpl_fn_of c.deref.result.now) g ≡ Some (simpl_fn_of r.now))) some c.function_in.ensures.found in
+    let less = subst (λ o. IfSome o (λ r. size-Simpl r.now.body ≤ depth_of c.deref.result.now)) some c.function_in.ensures.depth in
+    let there : simpl_fn (map simpl_fn_of f.unit.now.functions.items) g ≡ Some (simpl_fn_of h) = subst (λ fs. simpl_fn (map simpl_fn_of fs) g ≡ Some (simpl_fn_of h)) c.deref.ensures.value found in
+    let deep : size-Simpl h.body ≤ depth_of f.unit.now.functions.items = subst (λ fs. size-Simpl h.body ≤ depth_of fs) c.deref.ensures.value less in
+    let name : string_bytes h.name ≡ g = found_name _ g (simpl_fn_of h) there in
+    let declared : signature (signatures_in f.unit.now) g ≡ Some (signature_of s) =
+        sym (ap (λ ss. signature (map signature_of ss) g) c.deref-2.ensures.value) ∙ sym c.signature.ensures ∙ ap (option_map (λ r. signature_of r.now)) signed in
+    let known : p.called ≡ signature_of s = same_signature (sym p.found ∙ declared) in
+    let values : map value_of c.deref-4.result.now ≡ values_of f.unit.now.layout (env_of c.args.locals.now.items) (state_in f.unit.now c.args.state.now) es = ap (map value_of) c.deref-4.ensures.value ∙ c.in_ok-values.ensures in
+    let more : (turns - 1) + 1 ≡ turns = omega arith in
+    let deeper : (f.depth - 1) + 1 ≡ f.depth = omega arith in
+    let i = call_of h (map value_of c.deref-4.result.now) (state_in f.unit.now c.args.state.now) in
+    let same_call : i ≡ record { name = g; arguments = values_of f.unit.now.layout (env_of c.args.locals.now.items) (state_in f.unit.now c.args.state.now) es; state = state_in f.unit.now c.args.state.now } =
+        ap₂ (λ n vs. record { name = n; arguments = vs; state = state_in f.unit.now c.args.state.now }) name values in
+    let err = c.in_err-given.field-0.0 in
+    let same : c.from_residual-in_err-given.result ≡ Err err = search rules in
+    let n = machine_in f c.args.locals.now.items c.returned.new.state in
+    subst (λ r. HasRun (ends_in f (Call x g es) turns m) r n) (sym same)
+    (call_stopped f x g es m turns (turns - 1) more (f.depth - 1) deeper i same_call err c.returned.new.state n c.in_err-given.ensures.run)
 
 pub call-returns-clause-fits : goal.call-returns-clause-fits
-call-returns-clause-fits t c = ?
+call-returns-clause-fits t c =
+    let f = c.args.self.now in
+    let turns = c.args.turns in
+    let x = option_map string_bytes c.args.target.now in
+    let g = c.args.name.now in
+    let es = map exp_of c.args.arguments.now in
+    let m = machine_in f c.args.locals.now.items c.args.state.now in
+    let p = call_parts f x g es c.requires.1.1.1.1 in
+    let h = c.unwrap-function.result.now in
+    let s = c.unwrap-signature.result.now in
+    let some : c.function_in.result ≡ Some c.unwrap-function.result = search rules in
+    let signed : c.signature.result ≡ Some c.unwrap-signature.result = search rules in
+    let found = subst (λ o. IfSome o (λ r. simpl_fn (map simpl_fn_of c.deref.result.now) g ≡ Some (simpl_fn_of r.now))) some c.function_in.ensures.found in
+    let less = subst (λ o. IfSome o (λ r. size-Simpl r.now.body ≤ depth_of c.deref.result.now)) some c.function_in.ensures.depth in
+    let there : simpl_fn (map simpl_fn_of f.unit.now.functions.items) g ≡ Some (simpl_fn_of h) = subst (λ fs. simpl_fn (map simpl_fn_of fs) g ≡ Some (simpl_fn_of h)) c.deref.ensures.value found in
+    let deep : size-Simpl h.body ≤ depth_of f.unit.now.functions.items = subst (λ fs. size-Simpl h.body ≤ depth_of fs) c.deref.ensures.value less in
+    let name : string_bytes h.name ≡ g = found_name _ g (simpl_fn_of h) there in
+    let declared : signature (signatures_in f.unit.now) g ≡ Some (signature_of s) =
+        sym (ap (λ ss. signature (map signature_of ss) g) c.deref-2.ensures.value) ∙ sym c.signature.ensures ∙ ap (option_map (λ r. signature_of r.now)) signed in
+    let known : p.called ≡ signature_of s = same_signature (sym p.found ∙ declared) in
+    let values : map value_of c.deref-4.result.now ≡ values_of f.unit.now.layout (env_of c.args.locals.now.items) (state_in f.unit.now c.args.state.now) es = ap (map value_of) c.deref-4.ensures.value ∙ c.in_ok-values.ensures in
+    let taken : IsResult p.called.result (option_map value_of c.in_ok-given.given) = subst (λ r. IsResult r.result (option_map value_of c.in_ok-given.given)) (sym known) c.in_ok-given.ensures.result in
+    let to = given_to f c.args.locals.now.items c.give.new.locals.items c.returned.new.state c.requires.1.1.0 (record { locals = c.requires.1.1.1.0.locals; state = c.in_ok-given.ensures.state }) x p.called.result
+        (option_map value_of c.in_ok-given.given) p.target taken c.give.ensures in
+    to.fits
 
 pub call-returns-clause-run : goal.call-returns-clause-run
-call-returns-clause-run t c = ?
+call-returns-clause-run t c =
+    let f = c.args.self.now in
+    let turns = c.args.turns in
+    let x = option_map string_bytes c.args.target.now in
+    let g = c.args.name.now in
+    let es = map exp_of c.args.arguments.now in
+    let m = machine_in f c.args.locals.now.items c.args.state.now in
+    let p = call_parts f x g es c.requires.1.1.1.1 in
+    let h = c.unwrap-function.result.now in
+    let s = c.unwrap-signature.result.now in
+    let some : c.function_in.result ≡ Some c.unwrap-function.result = search rules in
+    let signed : c.signature.result ≡ Some c.unwrap-signature.result = search rules in
+    let found = subst (λ o. IfSome o (λ r. simpl_fn (map simpl_fn_of c.deref.result.now) g ≡ Some (simpl_fn_of r.now))) some c.function_in.ensures.found in
+    let less = subst (λ o. IfSome o (λ r. size-Simpl r.now.body ≤ depth_of c.deref.result.now)) some c.function_in.ensures.depth in
+    let there : simpl_fn (map simpl_fn_of f.unit.now.functions.items) g ≡ Some (simpl_fn_of h) = subst (λ fs. simpl_fn (map simpl_fn_of fs) g ≡ Some (simpl_fn_of h)) c.deref.ensures.value found in
+    let deep : size-Simpl h.body ≤ depth_of f.unit.now.functions.items = subst (λ fs. size-Simpl h.body ≤ depth_of fs) c.deref.ensures.value less in
+    let name : string_bytes h.name ≡ g = found_name _ g (simpl_fn_of h) there in
+    let declared : signature (signatures_in f.unit.now) g ≡ Some (signature_of s) =
+        sym (ap (λ ss. signature (map signature_of ss) g) c.deref-2.ensures.value) ∙ sym c.signature.ensures ∙ ap (option_map (λ r. signature_of r.now)) signed in
+    let known : p.called ≡ signature_of s = same_signature (sym p.found ∙ declared) in
+    let values : map value_of c.deref-4.result.now ≡ values_of f.unit.now.layout (env_of c.args.locals.now.items) (state_in f.unit.now c.args.state.now) es = ap (map value_of) c.deref-4.ensures.value ∙ c.in_ok-values.ensures in
+    let more : (turns - 1) + 1 ≡ turns = omega arith in
+    let deeper : (f.depth - 1) + 1 ≡ f.depth = omega arith in
+    let i = call_of h (map value_of c.deref-4.result.now) (state_in f.unit.now c.args.state.now) in
+    let same_call : i ≡ record { name = g; arguments = values_of f.unit.now.layout (env_of c.args.locals.now.items) (state_in f.unit.now c.args.state.now) es; state = state_in f.unit.now c.args.state.now } =
+        ap₂ (λ n vs. record { name = n; arguments = vs; state = state_in f.unit.now c.args.state.now }) name values in
+    let taken : IsResult p.called.result (option_map value_of c.in_ok-given.given) = subst (λ r. IsResult r.result (option_map value_of c.in_ok-given.given)) (sym known) c.in_ok-given.ensures.result in
+    let to = given_to f c.args.locals.now.items c.give.new.locals.items c.returned.new.state c.requires.1.1.0 (record { locals = c.requires.1.1.1.0.locals; state = c.in_ok-given.ensures.state }) x p.called.result
+        (option_map value_of c.in_ok-given.given) p.target taken c.give.ensures in
+    subst (λ z. ends_in f (Call x g es) turns m (Done (E.Normal z))) (sym to.machine)
+    (call_gives f x g es m turns (turns - 1) more (f.depth - 1) deeper i same_call c.in_ok-given.given c.returned.new.state c.in_ok-given.ensures.run)
 
 pub returned-started-requires : goal.returned-started-requires
-returned-started-requires t c = ?
+returned-started-requires t c =
+    let f = c.args.self.now in
+    let turns = c.args.turns in
+    let h = c.args.function.now in
+    let g = c.args.signature.now in
+    let vs = map value_of c.args.arguments.now in
+    let unit = c.requires.unit in
+    body_kinds f h g vs unit c.requires.locals c.requires.called
 
 pub returned-run-requires : goal.returned-run-requires
-returned-run-requires t c = ?
+returned-run-requires t c =
+    let f = c.args.self.now in
+    let turns = c.args.turns in
+    let h = c.args.function.now in
+    let g = c.args.signature.now in
+    let vs = map value_of c.args.arguments.now in
+    let unit = c.requires.unit in
+    let bs = c.in_ok-locals.locals.items in
+    let s = c.args.state.now in
+    let begun = c.in_ok-locals.ensures in
+    (
+      subst (λ n. turns * (4 * depth_of f.unit.now.functions.items + 8) + 4 * size-Simpl h.body + 2 < n) c.decreases (below_body turns (depth_of f.unit.now.functions.items) (size-Simpl h.body)),
+      (
+        body_frame f h g vs unit c.requires.locals c.requires.called,
+        (body_fits f h g vs unit c.requires.locals c.requires.called bs s c.requires.state begun, (body_runs f h g vs unit c.requires.locals c.requires.called, c.requires.called.depth)),
+      ),
+    )
 
 pub returned-returns-in_err-run-clause-run : goal.returned-returns-in_err-run-clause-run
-returned-returns-in_err-run-clause-run t c = ?
+returned-returns-in_err-run-clause-run t c =
+    let f = c.args.self.now in
+    let turns = c.args.turns in
+    let h = c.args.function.now in
+    let g = c.args.signature.now in
+    let vs = map value_of c.args.arguments.now in
+    let unit = c.requires.unit in
+    let bs = c.in_ok-locals.locals.items in
+    let s = c.args.state.now in
+    let begun = c.in_ok-locals.ensures in
+    let err = c.in_err-run.field-0.0 in
+    let same : c.from_residual-in_err-run.result ≡ Err err = search rules in
+    let n = machine_in f c.run.new.locals.items c.run.new.state in
+    subst (λ r. HasReturned f.unit.now (simpl_runs (simpl_unit_of f.unit.now) (Fill f.fill) turns (Some f.depth) (call_of h vs (state_in f.unit.now s))) r c.run.new.state) (sym same)
+    (body_stopped f h g vs unit c.requires.locals c.requires.called bs s c.requires.state begun turns err n c.run.new.state c.in_err-run.ensures.run)
 
 pub returned-returns-in-None-clause-run : goal.returned-returns-in-None-clause-run
-returned-returns-in-None-clause-run t c = ?
+returned-returns-in-None-clause-run t c =
+    let f = c.args.self.now in
+    let turns = c.args.turns in
+    let h = c.args.function.now in
+    let g = c.args.signature.now in
+    let vs = map value_of c.args.arguments.now in
+    let unit = c.requires.unit in
+    let bs = c.in_ok-locals.locals.items in
+    let s = c.args.state.now in
+    let begun = c.in_ok-locals.ensures in
+    let n = machine_in f c.run.new.locals.items c.run.new.state in
+    let done = body_done f h g vs unit c.requires.locals c.requires.called bs s c.requires.state begun turns c.in_ok-run.field-0 n c.in_ok-run.ensures.run in
+    subst (λ r. simpl_runs (simpl_unit_of f.unit.now) (Fill f.fill) turns (Some f.depth) (call_of h vs (state_in f.unit.now s)) (Done (record { result = result_of r n; state = n.state })))
+    (ap (option_map kind_of) c.in-None.is) done
 
 pub returned-returns-in-Some-clause-result : goal.returned-returns-in-Some-clause-result
-returned-returns-in-Some-clause-result t c = ?
+returned-returns-in-Some-clause-result t c =
+    let f = c.args.self.now in
+    let turns = c.args.turns in
+    let h = c.args.function.now in
+    let g = c.args.signature.now in
+    let vs = map value_of c.args.arguments.now in
+    let unit = c.requires.unit in
+    let some : option_map kind_of g.result ≡ Some (kind_of c.in-Some.field-0) = ap (option_map kind_of) c.in-Some.is in
+    let sorted = result_sorted f h g vs unit c.requires.locals c.requires.called c.run.new.locals.items c.run.new.state c.in_ok-run.ensures.fits (kind_of c.in-Some.field-0) some in
+    subst (λ r. IsResult r (Some (value_of c.taken.result))) (sym some) (subst (λ v. IsOfSort (word_sort_of (kind_of c.in-Some.field-0)) v) (sym c.taken.ensures) sorted)
 
 pub returned-returns-in-Some-clause-run : goal.returned-returns-in-Some-clause-run
-returned-returns-in-Some-clause-run t c = ?
+returned-returns-in-Some-clause-run t c =
+    let f = c.args.self.now in
+    let turns = c.args.turns in
+    let h = c.args.function.now in
+    let g = c.args.signature.now in
+    let vs = map value_of c.args.arguments.now in
+    let unit = c.requires.unit in
+    let bs = c.in_ok-locals.locals.items in
+    let s = c.args.state.now in
+    let begun = c.in_ok-locals.ensures in
+    let n = machine_in f c.run.new.locals.items c.run.new.state in
+    let done = body_done f h g vs unit c.requires.locals c.requires.called bs s c.requires.state begun turns c.in_ok-run.field-0 n c.in_ok-run.ensures.run in
+    subst (λ v. simpl_runs (simpl_unit_of f.unit.now) (Fill f.fill) turns (Some f.depth) (call_of h vs (state_in f.unit.now s)) (Done (record { result = Some v; state = n.state }))) (sym c.taken.ensures)
+    (subst (λ r. simpl_runs (simpl_unit_of f.unit.now) (Fill f.fill) turns (Some f.depth) (call_of h vs (state_in f.unit.now s)) (Done (record { result = result_of r n; state = n.state })))
+      (ap (option_map kind_of) c.in-Some.is) done)
 
 pub run-returns-in-Set-clause-run : goal.run-returns-in-Set-clause-run
 run-returns-in-Set-clause-run t c =
