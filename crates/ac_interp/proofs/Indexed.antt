@@ -1,7 +1,15 @@
 -- The function and the signature at one position are of one name, and are found by it.
 use Rattle.std.proofs.Common.{◌≡◌, ℕ, zero, suc, ◌+◌, ◌<◌, ◌≤◌, Bool, true, false, not, cond, ◌&&◌, ◌||◌, List, [], ◌∷◌, length, get_or, map, Option, Some, None, refl, sym, ap, ◌∙◌, subst, arith}
 use Rattle.std.proofs.lemmas.Bool.{and_parts, or_parts, false≢true, not-true}
-use Rattle.std.specs.Prelude.{string_bytes}
+use Rattle.std.specs.Prelude.{string_bytes, slice_get, Result, Ok, Err}
+use Rattle.std.specs.Option.{IsSomeAnd}
+use Rattle.correspondence.specs.Outcome.{Ends}
+use Rattle.c_values.specs.declared.values.Value as V
+use Rattle.expression_lang.specs.GuardKind.{GuardKind}
+use Rattle.expression_lang.specs.Machine.{Returned}
+use Rattle.simpl_lang.specs.declared.units.SimplUnit as U
+use Rattle.ac_interp.specs.declared.ends.Stop as P
+use Rattle.ac_interp.specs.declared.outcome.CState as C
 use Rattle.c_values.specs.Name.{Name, same_name, is_among, are_distinct}
 use Rattle.c_values.proofs.Laid.{name_is, other_name, same_name-refl}
 use Rattle.expression_lang.specs.declared.signatures.Signature as G
@@ -12,7 +20,7 @@ use Rattle.simpl_lang.specs.declared.command.Simpl.{size-Simpl}
 use Rattle.simpl_lang.specs.Command.{SimplFn, simpl_fn}
 use Rattle.simpl_lang.specs.Sorted.{same_level, come_first, holds_result, are_signed}
 use Rattle.simpl_lang.specs.CodeCommand.{simpl_fn_of}
-use Rattle.ac_interp.specs.CodeRun.{depth_of}
+use Rattle.ac_interp.specs.CodeRun.{depth_of, HasReturned, outcome_of, IsEnd}
 use Rattle.ac_interp.proofs.LocalsLaws.{by_test, where_true, where_false}
 
 -- a name that stands at a place is among the names
@@ -94,3 +102,28 @@ pub depth_at : (fs : List F.SimplFn) (k : ℕ) (f : F.SimplFn) → k < length fs
 depth_at [] k f lt e = absurd (omega arith)
 depth_at (g ∷ fs) zero f lt e = let same = ap (λ h. size-Simpl h.body) e in omega (arith, same)
 depth_at (g ∷ fs) (suc k) f lt e = let less = depth_at fs k f (omega arith) e in omega (arith, less)
+
+-- what lies at a place of a list
+
+pub some_below : {X : Type 0} (P : X → Type 0) (xs : List X) (k : ℕ) → IsSomeAnd (slice_get xs k) P → k < length xs
+some_below P [] k h = absurd h
+some_below P (x ∷ xs) zero h = omega arith
+some_below P (x ∷ xs) (suc k) h = let less = some_below P xs k h in omega (arith, less)
+
+pub get_some : {X : Type 0} (xs : List X) (k : ℕ) (x : X) → k < length xs → x ≡ get_or xs k x → slice_get xs k ≡ Some x
+get_some [] k x lt e = absurd (omega arith)
+get_some (y ∷ xs) zero x lt e = ap Some (sym e)
+get_some (y ∷ xs) (suc k) x lt e = get_some xs k x (omega arith) e
+
+pub some_and : {X : Type 0} (P : X → Type 0) (o : Option X) (x : X) → o ≡ Some x → P x → IsSomeAnd o P
+some_and P o x e h = subst (λ q. IsSomeAnd q P) (sym e) h
+
+pub and_some : {X : Type 0} (P : X → Type 0) (o : Option X) (x : X) → o ≡ Some x → IsSomeAnd o P → P x
+and_some P o x e h = subst (λ q. IsSomeAnd q P) e h
+
+pub returned_end : (u : U.SimplUnit) (ends : Ends Returned GuardKind) (r : Result (Option V.Value) P.Stop) (s : C.CState) → HasReturned u ends r s → IsEnd u ends (outcome_of r s)
+returned_end u ends (Ok v) s h = h
+returned_end u ends (Err (P.TheVariants.Guard k)) s h = h
+returned_end u ends (Err P.TheVariants.OutOfTurns) s h = h
+returned_end u ends (Err P.TheVariants.Deep) s h = h
+returned_end u ends (Err P.TheVariants.Memory) s h = tt

@@ -79,6 +79,13 @@ IsEnd u ends O.TheVariants.OutOfTurns = ends (Stopped Turns)
 IsEnd u ends O.TheVariants.Deep = ends (Stopped Depth)
 IsEnd u ends O.TheVariants.Memory = Unit {0}
 
+abbrev pub outcome_of : Result (Option V.Value) P.Stop → C.CState → O.COutcome
+outcome_of (Ok v) s = O.TheVariants.Value v s
+outcome_of (Err (P.TheVariants.Guard k)) s = O.TheVariants.Guard k
+outcome_of (Err P.TheVariants.OutOfTurns) s = O.TheVariants.OutOfTurns
+outcome_of (Err P.TheVariants.Deep) s = O.TheVariants.Deep
+outcome_of (Err P.TheVariants.Memory) s = O.TheVariants.Memory
+
 -- memory is well-tagged, and each global has a value of its type
 pub record IsStateOf (u : U.SimplUnit) (s : C.CState) : Type 0 where
   pub heap : IsHeap u.layout (byte_content s.heap)

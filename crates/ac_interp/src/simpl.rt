@@ -5,7 +5,7 @@ ghost use Rattle.c_values.specs.Choice.{Fill};
 ghost use Rattle.c_values.specs.CodeValue.{value_of};
 ghost use Rattle.simpl_lang.specs.Exec.{simpl_runs};
 ghost use Rattle.simpl_lang.specs.CodeCommand.{simpl_unit_of};
-ghost use Rattle.ac_interp.specs.CodeRun.{CanRun, IsStateOf, TakesThem, call_of, state_in, IsEnd};
+ghost use Rattle.ac_interp.specs.CodeRun.{CanRun, IsStateOf, TakesThem, call_of, state_in, outcome_of, IsEnd};
 
 use crate::ends::Stop;
 use crate::frame::Frame;
@@ -55,7 +55,15 @@ pub fn run_simpl(
         fill,
         depth: NESTED_CALLS,
     };
-    match frame.returned(function, &u.signatures[f as usize], args, turns, &mut state) {
+    let given = frame.returned(function, &u.signatures[f as usize], args, turns, &mut state);
+    outcome(given, state)
+}
+
+// The outcome of what a function gives, and the state after it.
+fn outcome(returned: Result<Option<Value>, Stop>, state: CState) -> COutcome
+    ensures { result ≡ outcome_of returned state }
+{
+    match returned {
         Ok(value) => COutcome::Value(value, state),
         Err(Stop::Guard(kind)) => COutcome::Guard(kind),
         Err(Stop::OutOfTurns) => COutcome::OutOfTurns,

@@ -90,7 +90,7 @@ call-returned-requires t c =
     let known : p.called ≡ signature_of s = same_signature (sym p.found ∙ declared) in
     let values : map value_of c.deref-4.result.now ≡ values_of f.unit.now.layout (env_of c.args.locals.now.items) (state_in f.unit.now c.args.state.now) es = ap (map value_of) c.deref-4.ensures.value ∙ c.in_ok-values.ensures in
     (
-      subst (λ n. (turns - 1) * (4 * depth_of f.unit.now.functions.items + 8) + 4 * size-Simpl h.body + 3 < n) c.decreases
+      subst (λ n. (turns - 1) * (4 * depth_of f.unit.now.functions.items + 8) + 4 * size-Simpl h.body + 3 < n) c.requires.1.0
       (below_call (turns - 1) turns (depth_of f.unit.now.functions.items) (size-Simpl h.body) (omega arith) deep),
       (
         c.requires.1.1.0.unit,
@@ -101,7 +101,8 @@ call-returned-requires t c =
               function = subst (λ n. simpl_fn (map simpl_fn_of f.unit.now.functions.items) n ≡ Some (simpl_fn_of h)) (sym name) there;
               signature = subst (λ n. signature (signatures_in f.unit.now) n ≡ Some (signature_of s)) (sym name) declared;
               arguments = subst (λ vs. AreOfSorts (map word_sort_of (kinds_of (map binder_of s.params.items))) vs) (sym values)
-                  (subst (λ r. AreOfSorts (map word_sort_of (kinds_of r.params)) _) known (arguments_fit f c.requires.1.1.0 c.args.locals.now.items c.args.state.now c.requires.1.1.1.0 es _ p.sorted));
+                  (subst (λ r. AreOfSorts (map word_sort_of (kinds_of r.params)) (values_of f.unit.now.layout (env_of c.args.locals.now.items) (state_in f.unit.now c.args.state.now) es)) known
+                    (arguments_fit f c.requires.1.1.0 c.args.locals.now.items c.args.state.now c.requires.1.1.1.0 es (map word_sort_of (kinds_of p.called.params)) p.sorted));
               depth = deep;
             },
             c.requires.1.1.1.0.state,
