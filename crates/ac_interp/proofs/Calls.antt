@@ -1,44 +1,38 @@
 -- Calls: what a called function asks is there, its body begins as the definitions say, and its result goes to the target.
-use Rattle.std.proofs.Common.{◌≡◌, ℕ, ◌+◌, ◌≤◌, Bool, true, false, List, [], ◌∷◌, length, map, Option, Some, None, Result, Ok, Err, refl, sym, ap, ap₂, ◌∙◌, subst}
-use Rattle.std.proofs.lemmas.Bool.{and_parts, false≢true}
-use Rattle.std.specs.Option.{option_map, IsSome}
-use Rattle.std.specs.Prelude.{IfNone, string_bytes}
-use Rattle.correspondence.specs.Outcome.{Turns, Depth, Outcome, Done, Failed, Stopped, Ends, Then, goes_on, fails, stops}
-use Rattle.c_values.specs.Name.{Name, with_name, are_distinct}
+use Rattle.std.proofs.Common.{◌≡◌, ℕ, true, List, map, Option, Some, None, Ok, Err, refl, sym, ap, ◌∙◌, subst}
+use Rattle.std.proofs.lemmas.Bool.{false≢true}
+use Rattle.std.specs.Option.{IsSome}
+use Rattle.std.specs.Prelude.{IfNone}
+use Rattle.correspondence.specs.Outcome.{Turns, Depth, Outcome, Done, Failed, Stopped, Then, goes_on, fails, stops}
+use Rattle.c_values.specs.Name.{Name, are_distinct}
 use Rattle.c_values.specs.Value.{Value}
 use Rattle.c_values.specs.Choice.{Fill}
-use Rattle.c_values.specs.declared.values.Value as V
-use Rattle.c_values.specs.CodeValue.{value_of, global_of}
 use Rattle.expression_lang.specs.declared.signatures.Signature as G
-use Rattle.expression_lang.specs.Sort.{Scalar, Kind, Scope, Of, word_sort_of, are_kinds}
+use Rattle.expression_lang.specs.Sort.{Scalar, Kind, Of, word_sort_of, are_kinds}
 use Rattle.expression_lang.specs.States.{IsOfSort}
 use Rattle.expression_lang.specs.GuardKind.{GuardKind}
 use Rattle.expression_lang.specs.Machine.{Machine, machine_with, Returned}
-use Rattle.expression_lang.specs.Signature.{Binder, Signature, names_of, kinds_of, signature, no_env, bound}
+use Rattle.expression_lang.specs.Signature.{names_of, kinds_of, signature, no_env, bound}
 use Rattle.expression_lang.specs.Sorted.{result_scalars}
-use Rattle.expression_lang.specs.CodeExpression.{kind_of}
 use Rattle.expression_lang.specs.CodeSignature.{binder_of, signature_of}
 use Rattle.expression_lang.specs.CodeState.{Bindings, env_of}
 use Rattle.simpl_lang.specs.declared.units.SimplFn as F
 use Rattle.simpl_lang.specs.Command.{Simpl, SimplFn, SimplUnit, simpl_fn}
 use Rattle.simpl_lang.specs.Command as K
-use Rattle.simpl_lang.specs.Exec as E
 use Rattle.simpl_lang.specs.Exec.{execs, ended, functions_below, simpl_runs, function_runs, result_into, result_local, result_of, zero_locals}
 use Rattle.simpl_lang.specs.Sorted.{fits_target, is_sorted, scope_among, holds_result}
-use Rattle.program_sorts.specs.Sorts.{is_scalar_of}
 use Rattle.simpl_lang.specs.CodeCommand.{guard_kind_of, simpl_of, simpl_fn_of, simpl_unit_of}
-use Rattle.simpl_lang.specs.CodeForms.{signatures_in}
 use Rattle.ac_interp.specs.declared.ends.Flow as W
 use Rattle.ac_interp.specs.declared.ends.Stop as P
 use Rattle.ac_interp.specs.declared.frame.Frame as R
 use Rattle.ac_interp.specs.declared.outcome.CState as C
 use Rattle.ac_interp.specs.Narrow.{IsCommandNarrow}
-use Rattle.ac_interp.specs.Locals.{Table, env_from, put_in, started, given_in, AreOfSorts, AreLocals, IsTaken}
+use Rattle.ac_interp.specs.Locals.{env_from, started, given_in, AreLocals}
 use Rattle.ac_interp.specs.CodeRun.{table_of, state_in, machine_in, locals_of, scope_for, ends_in, call_of, HasRun, HasReturned, CanRun, IsFrame, IsStateOf, Fits, CanRunIn, CanBeCalled, IsResult}
-use Rattle.ac_interp.proofs.LocalsLaws.{started_env, started_locals, sorts_length, scalars_among, kind_scalar}
+use Rattle.ac_interp.proofs.LocalsLaws.{started_env, started_locals, sorts_length, kind_scalar}
 use Rattle.ac_interp.proofs.Evaluated.{table_env, environment}
-use Rattle.ac_interp.proofs.Formed.{IsBody, IsSigned, found_name, body_sorted, body_narrow, signed_fn, result_there}
-use Rattle.ac_interp.proofs.Given.{IsPut, local_put}
+use Rattle.ac_interp.proofs.Formed.{IsBody, IsSigned, body_sorted, body_narrow, signed_fn, result_there}
+use Rattle.ac_interp.proofs.Given.{local_put}
 use Rattle.ac_interp.proofs.Places.{scalar_of_inv}
 
 -- what is given goes to its target
@@ -121,7 +115,7 @@ module _ (f : R.Frame) (h : F.SimplFn) (g : G.Signature) (vs : List Value) (unit
     begins =
         ap (λ env. machine_with env (state_in f.unit.now s))
         (table_env bs no_env ∙ ap (λ t. env_from t no_env) begun ∙ ap (λ ls. env_from (started ls vs) no_env) same_locals
-          ∙ started_env (signature_of g).params plain.locals vs signed.params (sorts_length (signature_of g).params vs called.arguments) body.distinct)
+        ∙ started_env (signature_of g).params plain.locals vs signed.params (sorts_length (signature_of g).params vs called.arguments) body.distinct)
 
     module _ (turns : ℕ) where
       pub function_ends : (o : Outcome Returned GuardKind) → Then (ends_in f (simpl_of h.body) turns (machine_in f bs s)) (ended (signature_of g).result) o →
@@ -129,8 +123,8 @@ module _ (f : R.Frame) (h : F.SimplFn) (g : G.Signature) (vs : List Value) (unit
       function_ends o x =
           subst (λ q. function_runs u.layout (Fill f.fill) q (signature u.signatures plain.name) (Some f.depth) (functions_below u (Fill f.fill) turns) (call_of h vs (state_in f.unit.now s)) o) (sym called.function)
           (subst (λ q. function_runs u.layout (Fill f.fill) (Some plain) q (Some f.depth) (functions_below u (Fill f.fill) turns) (call_of h vs (state_in f.unit.now s)) o) (sym called.signature)
-            (subst (λ m. Then (execs u.layout (Fill f.fill) plain.locals plain.body (Some f.depth) (functions_below u (Fill f.fill) turns) m) (ended (signature_of g).result) o) begins
-              (subst (λ ls. Then (execs u.layout (Fill f.fill) ls plain.body (Some f.depth) (functions_below u (Fill f.fill) turns) (machine_in f bs s)) (ended (signature_of g).result) o) same_locals x)))
+          (subst (λ m. Then (execs u.layout (Fill f.fill) plain.locals plain.body (Some f.depth) (functions_below u (Fill f.fill) turns) m) (ended (signature_of g).result) o) begins
+          (subst (λ ls. Then (execs u.layout (Fill f.fill) ls plain.body (Some f.depth) (functions_below u (Fill f.fill) turns) (machine_in f bs s)) (ended (signature_of g).result) o) same_locals x)))
 
       pub body_done : (flow : W.Flow) (n : Machine) → HasRun (ends_in f (simpl_of h.body) turns (machine_in f bs s)) (Ok flow) n →
           simpl_runs u (Fill f.fill) turns (Some f.depth) (call_of h vs (state_in f.unit.now s)) (Done (record { result = result_of (signature_of g).result n; state = n.state }))

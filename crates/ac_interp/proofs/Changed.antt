@@ -1,5 +1,5 @@
 -- A global takes a value, and so do bytes.
-use Rattle.std.proofs.Common.{◌≡◌, ℕ, zero, suc, ◌+◌, ◌<◌, ◌≤◌, ◌^◌, Bool, true, false, cond, List, [], ◌∷◌, length, get_or, set, map, Option, Some, None, refl, sym, ap, ap₂, ◌∙◌, subst, arith}
+use Rattle.std.proofs.Common.{◌≡◌, ℕ, zero, suc, ◌+◌, ◌<◌, ◌≤◌, Bool, true, false, cond, List, [], ◌∷◌, length, get_or, set, map, Option, Some, None, refl, sym, ap, ap₂, ◌∙◌, subst, arith}
 use Rattle.std.proofs.Math.Path.{fun_ext}
 use Rattle.std.proofs.lemmas.Bool.{false≢true}
 use Rattle.std.specs.Option.{option_map}
@@ -9,14 +9,13 @@ use Rattle.c_values.specs.declared.values.GlobalVar as G
 use Rattle.c_values.specs.Name.{Name, same_name, with_name}
 use Rattle.c_values.specs.Types.{CType}
 use Rattle.c_values.specs.Value.{Value, nothing}
-use Rattle.c_values.specs.Layout.{Layout, GlobalVar, shape_of, global_type, space, Shape}
+use Rattle.c_values.specs.Layout.{Layout, GlobalVar, shape_of, global_type, space}
 use Rattle.c_values.specs.Path.{Step, Spot, spot, upd, HasShape}
-use Rattle.c_values.specs.CodeTypes.{type_of}
 use Rattle.c_values.specs.CodeValue.{value_of, global_of}
-use Rattle.c_values.proofs.Laid.{name_is, other_name, same_name-refl}
+use Rattle.c_values.proofs.Laid.{name_is, other_name}
 use Rattle.c_memory.specs.Memory.{Memory, AreBytes, address_at, store_spot}
 use Rattle.c_memory.proofs.Loaded.{store_bytes}
-use Rattle.c_memory.specs.Heap.{Heap, OnBytes, OnTypes, write_heap, IsHeap}
+use Rattle.c_memory.specs.Heap.{OnBytes, write_heap, IsHeap}
 use Rattle.expression_lang.specs.CodeState.{globals_of, AreOfTypes}
 use Rattle.ac_interp.specs.CodeRun.{position_of, change_at, change_in}
 use Rattle.ac_interp.proofs.LocalsLaws.{by_test, where_true, where_false}
@@ -109,17 +108,17 @@ module _ (l : Layout) (x : Name) (ps : List Step) (w : Value) where
   change_values t (g ∷ gs) (v ∷ vs) h e y =
       by_test (same_name g.name x)
       (λ b.
-          let same : g.name ≡ x = name_is g.name x b in
-          ap (λ o. values_at (g ∷ gs) (change_in o ps w (v ∷ vs)) y) (where_true (same_name g.name x) (Some 0) (option_map suc (position_of x gs)) b)
-          ∙ ap (λ n. cond (same_name n y) (upd v ps w) (values_at gs vs y)) same
-          ∙ here (same_name x y) (same_name g.name x) b (same_name g.name y) (ap (λ n. same_name n y) same))
+      let same : g.name ≡ x = name_is g.name x b in
+      ap (λ o. values_at (g ∷ gs) (change_in o ps w (v ∷ vs)) y) (where_true (same_name g.name x) (Some 0) (option_map suc (position_of x gs)) b)
+      ∙ ap (λ n. cond (same_name n y) (upd v ps w) (values_at gs vs y)) same
+      ∙ here (same_name x y) (same_name g.name x) b (same_name g.name y) (ap (λ n. same_name n y) same))
       (λ b.
-          ap (λ o. values_at (g ∷ gs) (change_in o ps w (v ∷ vs)) y) (where_false (same_name g.name x) (Some 0) (option_map suc (position_of x gs)) b)
-          ∙ ap (λ us. values_at (g ∷ gs) us y) (change_next ps w v vs (position_of x gs))
-          ∙ ap (cond (same_name g.name y) v) (change_values t gs vs h.1 (sym (where_false (same_name g.name x) (Some g.type) (global_type gs x) b) ∙ e) y)
-          ∙ both_tests (same_name x y) (same_name g.name y) (upd (values_at gs vs x) ps w) v v (values_at gs vs y)
-            (λ q. subst (λ n. same_name x n ≡ false) (name_is g.name y q) (other_name g.name x b))
-          ∙ ap (λ n. cond (same_name x y) (upd n ps w) (cond (same_name g.name y) v (values_at gs vs y))) (sym (where_false (same_name g.name x) v (values_at gs vs x) b)))
+      ap (λ o. values_at (g ∷ gs) (change_in o ps w (v ∷ vs)) y) (where_false (same_name g.name x) (Some 0) (option_map suc (position_of x gs)) b)
+      ∙ ap (λ us. values_at (g ∷ gs) us y) (change_next ps w v vs (position_of x gs))
+      ∙ ap (cond (same_name g.name y) v) (change_values t gs vs h.1 (sym (where_false (same_name g.name x) (Some g.type) (global_type gs x) b) ∙ e) y)
+      ∙ both_tests (same_name x y) (same_name g.name y) (upd (values_at gs vs x) ps w) v v (values_at gs vs y)
+      (λ q. subst (λ n. same_name x n ≡ false) (name_is g.name y q) (other_name g.name x b))
+      ∙ ap (λ n. cond (same_name x y) (upd n ps w) (cond (same_name g.name y) v (values_at gs vs y))) (sym (where_false (same_name g.name x) v (values_at gs vs x) b)))
     where
       here : (a b : Bool) → b ≡ true → (d : Bool) → d ≡ a → cond a (upd v ps w) (values_at gs vs y) ≡ cond a (upd (cond b v (values_at gs vs x)) ps w) (cond d v (values_at gs vs y))
       here true true q true r = refl
@@ -136,21 +135,21 @@ module _ (l : Layout) (x : Name) (ps : List Step) (w : Value) where
   change_types (g ∷ gs) (v ∷ vs) h k =
       by_test (same_name g.name x)
       (λ b.
-          subst (λ o. AreOf l (g ∷ gs) (change_in o ps w (v ∷ vs))) (sym (where_true (same_name g.name x) (Some 0) (option_map suc (position_of x gs)) b))
-          (k g.type v (where_true (same_name g.name x) (Some g.type) (global_type gs x) b) h.0, h.1))
+      subst (λ o. AreOf l (g ∷ gs) (change_in o ps w (v ∷ vs))) (sym (where_true (same_name g.name x) (Some 0) (option_map suc (position_of x gs)) b))
+      (k g.type v (where_true (same_name g.name x) (Some g.type) (global_type gs x) b) h.0, h.1))
       (λ b.
-          subst (λ o. AreOf l (g ∷ gs) (change_in o ps w (v ∷ vs))) (sym (where_false (same_name g.name x) (Some 0) (option_map suc (position_of x gs)) b))
-          (subst (λ us. AreOf l (g ∷ gs) us) (sym (change_next ps w v vs (position_of x gs)))
-            (h.0, change_types gs vs h.1 (λ t u e. k t u (where_false (same_name g.name x) (Some g.type) (global_type gs x) b ∙ e)))))
+      subst (λ o. AreOf l (g ∷ gs) (change_in o ps w (v ∷ vs))) (sym (where_false (same_name g.name x) (Some 0) (option_map suc (position_of x gs)) b))
+      (subst (λ us. AreOf l (g ∷ gs) us) (sym (change_next ps w v vs (position_of x gs)))
+      (h.0, change_types gs vs h.1 (λ t u e. k t u (where_false (same_name g.name x) (Some g.type) (global_type gs x) b ∙ e)))))
 
   module _ (vars : List G.GlobalVar) (olds news : List V.Value) (types : AreOfTypes l vars olds)
       (changed : map value_of news ≡ change_in (position_of x (map global_of vars)) ps w (map value_of olds)) where
     pub globals_changed : (t : CType) → global_type (map global_of vars) x ≡ Some t → globals_of vars news ≡ with_name x (upd (globals_of vars olds x) ps w) (globals_of vars olds)
     globals_changed t e =
         fun_ext (λ y.
-            values_same vars news y ∙ ap (λ us. values_at (map global_of vars) us y) changed
-            ∙ change_values t (map global_of vars) (map value_of olds) (are_of l vars olds types) e y
-            ∙ ap₂ (λ a b. cond (same_name x y) (upd a ps w) b) (sym (values_same vars olds x)) (sym (values_same vars olds y)))
+        values_same vars news y ∙ ap (λ us. values_at (map global_of vars) us y) changed
+        ∙ change_values t (map global_of vars) (map value_of olds) (are_of l vars olds types) e y
+        ∙ ap₂ (λ a b. cond (same_name x y) (upd a ps w) b) (sym (values_same vars olds x)) (sym (values_same vars olds y)))
 
     pub types_changed : ((t : CType) (v : Value) → global_type (map global_of vars) x ≡ Some t → HasShape (shape_of l t) v → HasShape (shape_of l t) (upd v ps w)) → AreOfTypes l vars news
     types_changed k =

@@ -1,32 +1,27 @@
 -- Expressions in a frame: the locals and the state are such as evaluation asks, and values are of their sorts.
-use Rattle.std.proofs.Common.{◌≡◌, ℕ, ◌<◌, ◌^◌, Bool, true, false, cond, List, [], ◌∷◌, map, Option, Some, None, refl, sym, ap, ap₂, ◌∙◌, subst}
-use Rattle.std.proofs.lemmas.Bool.{false≢true}
+use Rattle.std.proofs.Common.{◌≡◌, ◌<◌, ◌^◌, Bool, true, false, cond, List, [], ◌∷◌, map, Option, Some, None, refl, sym, ap, ap₂, ◌∙◌, subst}
 use Rattle.std.specs.Prelude.{IsSome, string_bytes}
 use Rattle.c_values.specs.declared.values.Value as V
 use Rattle.c_values.specs.declared.values.GlobalVar as G
 use Rattle.c_values.specs.Name.{Name, same_name, with_name}
 use Rattle.c_values.specs.Types.{CType}
-use Rattle.c_values.specs.Value.{Value, Bits, Number, Truth, Parts, nothing}
-use Rattle.c_values.specs.Layout.{Layout, IsLayout, GlobalVar, shape_of, global_type, Shape}
+use Rattle.c_values.specs.Value.{Value, Bits, Number, Truth, Parts}
+use Rattle.c_values.specs.Layout.{Layout, shape_of, global_type, Shape}
 use Rattle.c_values.specs.Path.{HasShape}
 use Rattle.c_values.specs.CodeTypes.{type_of}
 use Rattle.c_values.specs.CodeValue.{value_of, global_of}
-use Rattle.c_memory.specs.CodeHeap.{byte_content}
 use Rattle.expression_lang.specs.Expression.{Exp, Path}
 use Rattle.expression_lang.specs.Sort as S
 use Rattle.expression_lang.specs.Sort.{Sort, Scope, Of, WordSort, NumberSort, TruthSort, sort_of, word_sort_of, shape_along}
-use Rattle.expression_lang.specs.Evaluation.{Env, State, value}
+use Rattle.expression_lang.specs.Evaluation.{Env, value}
 use Rattle.expression_lang.specs.States.{IsOfSort, IsEnvironment, IsState}
-use Rattle.expression_lang.specs.Signature.{Binder, names_of, kinds_of, no_env}
-use Rattle.expression_lang.specs.Sorted.{names_with}
+use Rattle.expression_lang.specs.Signature.{Binder, no_env}
 use Rattle.expression_lang.specs.Wide.{wide}
-use Rattle.expression_lang.specs.CodeState.{Bindings, env_with, env_of, scalar_of_value, scalars_with, scope_in, IsScalar, AreScalars, globals_of, AreOfTypes, state_of}
-use Rattle.expression_lang.proofs.Fine.{HasSort, Fine, AreFine, fine, fine_path}
-use Rattle.simpl_lang.specs.Sorted.{scope_among}
-use Rattle.simpl_lang.specs.CodeCommand.{simpl_unit_of}
+use Rattle.expression_lang.specs.CodeState.{Bindings, env_with, env_of, scalar_of_value, scalars_with, scope_in, IsScalar, AreScalars, globals_of, AreOfTypes}
+use Rattle.expression_lang.proofs.Fine.{HasSort, AreFine, fine, fine_path}
 use Rattle.ac_interp.specs.declared.outcome.CState as C
 use Rattle.ac_interp.specs.declared.frame.Frame as R
-use Rattle.ac_interp.specs.Locals.{Table, env_from, AreLocals}
+use Rattle.ac_interp.specs.Locals.{env_from, AreLocals}
 use Rattle.ac_interp.specs.CodeRun.{table_of, state_in, locals_of, scope_for, globals_for, IsFrame, Fits, HasSortIn, LeadsIn}
 use Rattle.ac_interp.proofs.LocalsLaws.{scalars_among, locals_sorted}
 

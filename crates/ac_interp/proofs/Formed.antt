@@ -1,14 +1,12 @@
 -- What well-formedness of a unit says of a function that is called.
-use Rattle.std.proofs.Common.{◌≡◌, ℕ, Bool, true, false, cond, ◌&&◌, List, [], ◌∷◌, map, Option, Some, None, refl, sym, ap, ◌∙◌, subst}
+use Rattle.std.proofs.Common.{◌≡◌, true, false, ◌&&◌, List, [], ◌∷◌, Option, Some, None, sym, ap, ◌∙◌, subst}
 use Rattle.std.proofs.lemmas.Bool.{and_parts, false≢true}
 use Rattle.c_values.specs.Name.{Name, same_name, are_distinct}
-use Rattle.c_values.specs.Layout.{GlobalVar}
 use Rattle.c_values.proofs.Laid.{name_is}
-use Rattle.expression_lang.specs.Sort.{Scalar, Kind, WordKind, NatKind, IntKind, BoolKind, word_sort_of, are_kinds}
-use Rattle.expression_lang.specs.Signature.{Binder, Signature, names_of, kinds_of, signature}
-use Rattle.simpl_lang.specs.Command.{SimplFn, SimplUnit, simpl_fn, kind_of}
-use Rattle.simpl_lang.specs.Exec.{result_local}
-use Rattle.simpl_lang.specs.Sorted.{is_sorted, scope_of, are_fns_sorted, same_kind, same_level, come_first, is_kind_of, holds_result, are_signed}
+use Rattle.expression_lang.specs.Sort.{Kind, are_kinds}
+use Rattle.expression_lang.specs.Signature.{Signature, names_of, kinds_of, signature}
+use Rattle.simpl_lang.specs.Command.{SimplFn, SimplUnit, simpl_fn}
+use Rattle.simpl_lang.specs.Sorted.{is_sorted, scope_of, are_fns_sorted, same_level, come_first, is_kind_of, holds_result, are_signed}
 use Rattle.ac_interp.specs.Narrow.{IsCommandNarrow, AreFnsNarrow}
 use Rattle.ac_interp.proofs.LocalsLaws.{by_test, where_true, where_false, same_kind_is}
 
@@ -39,9 +37,9 @@ body_sorted u (g ∷ fs) x f h e =
     let r = and_parts (are_kinds (kinds_of g.locals)) (are_distinct (names_of g.locals)) q.0 in
     by_test (same_name g.name x)
     (λ b.
-        let same : g ≡ f = same_fn (sym (where_true (same_name g.name x) (Some g) (simpl_fn fs x) b) ∙ e) in
-        let own : IsBody u g = record { kinds = r.0; distinct = r.1; sorted = q.1 } in
-        subst (λ k. IsBody u k) same own)
+    let same : g ≡ f = same_fn (sym (where_true (same_name g.name x) (Some g) (simpl_fn fs x) b) ∙ e) in
+    let own : IsBody u g = record { kinds = r.0; distinct = r.1; sorted = q.1 } in
+    subst (λ k. IsBody u k) same own)
     (λ b. body_sorted u fs x f p.1 (sym (where_false (same_name g.name x) (Some g) (simpl_fn fs x) b) ∙ e))
 
 pub body_narrow : (u : SimplUnit) (fs : List SimplFn) (x : Name) (f : SimplFn) → AreFnsNarrow u fs → simpl_fn fs x ≡ Some f → IsCommandNarrow (scope_of u f) u.globals f.body
@@ -49,8 +47,8 @@ body_narrow u [] x f h e = absurd cc
 body_narrow u (g ∷ fs) x f h e =
     by_test (same_name g.name x)
     (λ b.
-        let same : g ≡ f = same_fn (sym (where_true (same_name g.name x) (Some g) (simpl_fn fs x) b) ∙ e) in
-        subst (λ k. IsCommandNarrow (scope_of u k) u.globals k.body) same h.0)
+    let same : g ≡ f = same_fn (sym (where_true (same_name g.name x) (Some g) (simpl_fn fs x) b) ∙ e) in
+    subst (λ k. IsCommandNarrow (scope_of u k) u.globals k.body) same h.0)
     (λ b. body_narrow u fs x f h.1 (sym (where_false (same_name g.name x) (Some g) (simpl_fn fs x) b) ∙ e))
 
 -- a function with its signature
@@ -77,11 +75,11 @@ module _ (x : Name) (s : Signature) where
       let same : f.name ≡ r.name = name_is f.name r.name w.0 in
       by_test (same_name r.name x)
       (λ b.
-          let own : r ≡ s = same_signature (sym (where_true (same_name r.name x) (Some r) (signature ss x) b) ∙ e) in
-          (f, where_true (same_name f.name x) (Some f) (simpl_fn fs x) (subst (λ n. same_name n x ≡ true) (sym same) b), subst (λ q. IsSigned f q) own w.1))
+      let own : r ≡ s = same_signature (sym (where_true (same_name r.name x) (Some r) (signature ss x) b) ∙ e) in
+      (f, where_true (same_name f.name x) (Some f) (simpl_fn fs x) (subst (λ n. same_name n x ≡ true) (sym same) b), subst (λ q. IsSigned f q) own w.1))
       (λ b.
-          let later = signed_fn fs ss w.2 (sym (where_false (same_name r.name x) (Some r) (signature ss x) b) ∙ e) in
-          (later.0, where_false (same_name f.name x) (Some f) (simpl_fn fs x) (subst (λ n. same_name n x ≡ false) (sym same) b) ∙ later.1, later.2))
+      let later = signed_fn fs ss w.2 (sym (where_false (same_name r.name x) (Some r) (signature ss x) b) ∙ e) in
+      (later.0, where_false (same_name f.name x) (Some f) (simpl_fn fs x) (subst (λ n. same_name n x ≡ false) (sym same) b) ∙ later.1, later.2))
 
 -- the kind of the local that holds the result
 pub result_there : (k : Kind) (o : Option Kind) → is_kind_of k o ≡ true → o ≡ Some k

@@ -1,6 +1,6 @@
 -- A local takes a value.
-use Rattle.std.proofs.Common.{◌≡◌, ℕ, true, false, ◌&&◌, List, [], ◌∷◌, map, Option, Some, None, refl, sym, ap, ◌∙◌, subst, pos}
-use Rattle.std.proofs.lemmas.Bool.{and_parts, false≢true}
+use Rattle.std.proofs.Common.{◌≡◌, ℕ, true, List, [], ◌∷◌, Option, Some, None, refl, sym, ap, ◌∙◌, subst, pos}
+use Rattle.std.proofs.lemmas.Bool.{and_parts}
 use Rattle.correspondence.specs.Outcome.{Done, Then, goes_on, done}
 use Rattle.c_values.specs.Name.{Name, same_name, with_name, is_among, are_distinct}
 use Rattle.c_values.specs.Value.{Value}
@@ -15,7 +15,7 @@ use Rattle.simpl_lang.specs.Command.{kind_of}
 use Rattle.simpl_lang.specs.Exec.{Normal, picked_local}
 use Rattle.ac_interp.specs.declared.frame.Frame as R
 use Rattle.ac_interp.specs.declared.outcome.CState as C
-use Rattle.ac_interp.specs.Locals.{Table, names_in, env_from, put_in, AreLocals}
+use Rattle.ac_interp.specs.Locals.{names_in, env_from, put_in, AreLocals}
 use Rattle.ac_interp.specs.CodeRun.{table_of, locals_of, scope_for, picked_value, IsFrame, Fits}
 use Rattle.ac_interp.proofs.LocalsLaws.{put_env, put_locals, locals_names, scalar_kind, by_test, where_true, where_false}
 use Rattle.ac_interp.proofs.Evaluated.{table_env}

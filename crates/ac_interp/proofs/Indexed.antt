@@ -1,5 +1,5 @@
 -- The function and the signature at one position are of one name, and are found by it.
-use Rattle.std.proofs.Common.{◌≡◌, ℕ, zero, suc, ◌+◌, ◌<◌, ◌≤◌, Bool, true, false, not, cond, ◌&&◌, ◌||◌, List, [], ◌∷◌, length, get_or, map, Option, Some, None, refl, sym, ap, ◌∙◌, subst, arith}
+use Rattle.std.proofs.Common.{◌≡◌, ℕ, zero, suc, ◌<◌, ◌≤◌, Bool, true, false, not, ◌&&◌, ◌||◌, List, [], ◌∷◌, length, get_or, map, Option, Some, refl, sym, ap, ◌∙◌, subst, arith}
 use Rattle.std.proofs.lemmas.Bool.{and_parts, or_parts, false≢true, not-true}
 use Rattle.std.specs.Prelude.{string_bytes, slice_get, Result, Ok, Err}
 use Rattle.std.specs.Option.{IsSomeAnd}
@@ -11,7 +11,7 @@ use Rattle.simpl_lang.specs.declared.units.SimplUnit as U
 use Rattle.ac_interp.specs.declared.ends.Stop as P
 use Rattle.ac_interp.specs.declared.outcome.CState as C
 use Rattle.c_values.specs.Name.{Name, same_name, is_among, are_distinct}
-use Rattle.c_values.proofs.Laid.{name_is, other_name, same_name-refl}
+use Rattle.c_values.proofs.Laid.{name_is, same_name-refl}
 use Rattle.expression_lang.specs.declared.signatures.Signature as G
 use Rattle.expression_lang.specs.Signature.{Signature, signature}
 use Rattle.expression_lang.specs.CodeSignature.{signature_of}

@@ -1,5 +1,5 @@
 -- Locals in the code's list: where a name is found, what is written there, and what the last of a name is.
-use Rattle.std.proofs.Common.{◌≡◌, ℕ, suc, ◌+◌, ◌<◌, ◌≤◌, true, false, List, [], ◌∷◌, ◌++◌, length, get_or, set, take, drop, map, refl, sym, ap, ap₂, ◌∙◌, subst, add-one, drop-cons, arith}
+use Rattle.std.proofs.Common.{◌≡◌, ℕ, suc, ◌+◌, ◌<◌, ◌≤◌, true, false, [], ◌∷◌, ◌++◌, length, get_or, set, take, drop, refl, sym, ap, ap₂, ◌∙◌, add-one, drop-cons}
 use Rattle.std.proofs.lemmas.Bool.{cond-true, cond-false}
 use Rattle.std.proofs.lemmas.List.{take-append-drop, take-set, take_all, map-append}
 use Rattle.std.proofs.lemmas.Grind.{drop-set_at}
@@ -41,7 +41,7 @@ last_passed bs cs all b x h e k = sym (cond-false (same_name (string_bytes b.0) 
 pub one_element : (bs : Bindings) (k : ℕ) (a b : Binding) → k < length bs → a ≡ get_or bs k a → b ≡ get_or bs k b → a ≡ b
 one_element bs k a b lt h e =
     let first : a ∷ drop (suc k) bs ≡ b ∷ drop (suc k) bs =
-        ap (λ y. y ∷ drop (suc k) bs) h ∙ sym (drop-cons bs k a lt) ∙ drop-cons bs k b lt ∙ ap (λ y. y ∷ drop (suc k) bs) (sym e) in
+    ap (λ y. y ∷ drop (suc k) bs) h ∙ sym (drop-cons bs k a lt) ∙ drop-cons bs k b lt ∙ ap (λ y. y ∷ drop (suc k) bs) (sym e) in
     cc
 
 module _ (bs : Bindings) (k : ℕ) (x : Name) (v : V.Value) (passed : put_in x (value_of v) (table_of bs) ≡ table_of (take k bs) ++ put_in x (value_of v) (table_of (drop k bs))) where
@@ -50,9 +50,9 @@ module _ (bs : Bindings) (k : ℕ) (x : Name) (v : V.Value) (passed : put_in x (
       let new : Binding = (b.0, v) in
       let rest : drop k bs ≡ b ∷ drop (k + 1) bs = rw (add-one, drop-cons bs k b) (ap (λ y. y ∷ drop (suc k) bs) (sym at)) in
       let whole : set bs k new ≡ take k bs ++ (new ∷ drop (k + 1) bs) =
-          sym (take-append-drop k (set bs k new)) ∙ ap₂ (λ s t. s ++ t) (take-set bs k new) (drop-set_at bs k k new refl lt) in
+      sym (take-append-drop k (set bs k new)) ∙ ap₂ (λ s t. s ++ t) (take-set bs k new) (drop-set_at bs k k new refl lt) in
       let found : put_in x (value_of v) (table_of (drop k bs)) ≡ table_of (new ∷ drop (k + 1) bs) =
-          ap (λ t. put_in x (value_of v) (table_of t)) rest ∙ cond-true (same_name (string_bytes b.0) x) _ _ here in
+      ap (λ t. put_in x (value_of v) (table_of t)) rest ∙ cond-true (same_name (string_bytes b.0) x) _ _ here in
       ap table_of whole ∙ map-append _ (take k bs) (new ∷ drop (k + 1) bs) ∙ ap (λ t. table_of (take k bs) ++ t) (sym found) ∙ sym passed
 
   pub put_missed : length bs ≤ k → table_of bs ≡ put_in x (value_of v) (table_of bs)

@@ -1,10 +1,10 @@
 -- Locals as a list have the values that they have under their names.
-use Rattle.std.proofs.Common.{◌≡◌, ℕ, suc, Bool, true, false, not, cond, ◌&&◌, ◌||◌, List, [], ◌∷◌, length, map, Option, Some, None, refl, sym, ap, ap₂, ◌∙◌, subst}
+use Rattle.std.proofs.Common.{◌≡◌, suc, Bool, true, false, not, cond, ◌&&◌, ◌||◌, List, [], ◌∷◌, length, map, Option, Some, None, refl, sym, ap, ap₂, ◌∙◌, subst}
 use Rattle.std.proofs.lemmas.Nat.{pow_pos}
 use Rattle.std.proofs.Math.Path.{fun_ext}
 use Rattle.std.proofs.lemmas.Bool.{and_parts, or_parts, false≢true, not-true, eqb-true}
 use Rattle.c_values.specs.Name.{Name, same_name, with_name, is_among, are_distinct}
-use Rattle.c_values.specs.Value.{Value, nothing}
+use Rattle.c_values.specs.Value.{Value}
 use Rattle.c_values.proofs.Laid.{name_is, other_name, same_name-refl}
 use Rattle.expression_lang.specs.Sort.{Scalar, Kind, WordKind, NatKind, IntKind, BoolKind, word_sort_of}
 use Rattle.expression_lang.specs.Evaluation.{Env}
@@ -67,16 +67,16 @@ put_env x v (p ∷ ps) env h k =
     let q = and_parts (not (is_among p.0 (names_in ps))) (are_distinct (names_in ps)) h in
     by_test (same_name p.0 x)
     (λ e.
-        let same : p.0 ≡ x = name_is p.0 x e in
-        let fresh : is_among x (names_in ps) ≡ false = subst (λ n. is_among n (names_in ps) ≡ false) same (not-true (is_among p.0 (names_in ps)) q.0) in
-        ap (λ t. env_from t env) (where_true (same_name p.0 x) ((p.0, v) ∷ ps) (p ∷ put_in x v ps) e)
-        ∙ ap (λ n. env_from ps (with_name n v env)) same
-        ∙ ap (env_from ps) (sym (again x v p.1 env))
-        ∙ sym (through x v ps (with_name x p.1 env) fresh)
-        ∙ ap (λ n. with_name x v (env_from ps (with_name n p.1 env))) (sym same))
+    let same : p.0 ≡ x = name_is p.0 x e in
+    let fresh : is_among x (names_in ps) ≡ false = subst (λ n. is_among n (names_in ps) ≡ false) same (not-true (is_among p.0 (names_in ps)) q.0) in
+    ap (λ t. env_from t env) (where_true (same_name p.0 x) ((p.0, v) ∷ ps) (p ∷ put_in x v ps) e)
+    ∙ ap (λ n. env_from ps (with_name n v env)) same
+    ∙ ap (env_from ps) (sym (again x v p.1 env))
+    ∙ sym (through x v ps (with_name x p.1 env) fresh)
+    ∙ ap (λ n. with_name x v (env_from ps (with_name n p.1 env))) (sym same))
     (λ e.
-        ap (λ t. env_from t env) (where_false (same_name p.0 x) ((p.0, v) ∷ ps) (p ∷ put_in x v ps) e)
-        ∙ put_env x v ps (with_name p.0 p.1 env) q.1 (other_among x p.0 (names_in ps) (other_name p.0 x e) k))
+    ap (λ t. env_from t env) (where_false (same_name p.0 x) ((p.0, v) ∷ ps) (p ∷ put_in x v ps) e)
+    ∙ put_env x v ps (with_name p.0 p.1 env) q.1 (other_among x p.0 (names_in ps) (other_name p.0 x e) k))
 
 pub put_names : (x : Name) (v : Value) (ps : Table) → names_in (put_in x v ps) ≡ names_in ps
 put_names x v [] = refl
@@ -96,14 +96,14 @@ put_locals x v k (b ∷ bs) [] h e o = absurd h
 put_locals x v k (b ∷ bs) (p ∷ ps) h e o =
     by_test (same_name p.0 x)
     (λ t.
-        let same : same_name b.name x ≡ true = subst (λ n. same_name n x ≡ true) h.0 t in
-        let kind : b.kind ≡ k = some_is (sym (where_true (same_name b.name x) (Some b.kind) (kind_of bs x) same) ∙ e) in
-        subst (λ q. AreLocals (b ∷ bs) q) (sym (where_true (same_name p.0 x) ((p.0, v) ∷ ps) (p ∷ put_in x v ps) t))
-        (h.0, subst (λ j. IsOfSort (word_sort_of j) v) (sym kind) o, h.2))
+    let same : same_name b.name x ≡ true = subst (λ n. same_name n x ≡ true) h.0 t in
+    let kind : b.kind ≡ k = some_is (sym (where_true (same_name b.name x) (Some b.kind) (kind_of bs x) same) ∙ e) in
+    subst (λ q. AreLocals (b ∷ bs) q) (sym (where_true (same_name p.0 x) ((p.0, v) ∷ ps) (p ∷ put_in x v ps) t))
+    (h.0, subst (λ j. IsOfSort (word_sort_of j) v) (sym kind) o, h.2))
     (λ t.
-        let other : same_name b.name x ≡ false = subst (λ n. same_name n x ≡ false) h.0 t in
-        subst (λ q. AreLocals (b ∷ bs) q) (sym (where_false (same_name p.0 x) ((p.0, v) ∷ ps) (p ∷ put_in x v ps) t))
-        (h.0, h.1, put_locals x v k bs ps h.2 (sym (where_false (same_name b.name x) (Some b.kind) (kind_of bs x) other) ∙ e) o))
+    let other : same_name b.name x ≡ false = subst (λ n. same_name n x ≡ false) h.0 t in
+    subst (λ q. AreLocals (b ∷ bs) q) (sym (where_false (same_name p.0 x) ((p.0, v) ∷ ps) (p ∷ put_in x v ps) t))
+    (h.0, h.1, put_locals x v k bs ps h.2 (sym (where_false (same_name b.name x) (Some b.kind) (kind_of bs x) other) ∙ e) o))
 
 pub locals_names : (bs : List Binder) (ps : Table) → AreLocals bs ps → names_in ps ≡ names_of bs
 locals_names [] [] h = refl
@@ -128,7 +128,7 @@ locals_sorted (b ∷ bs) [] names env h k x c e = absurd h
 locals_sorted (b ∷ bs) (p ∷ ps) names env h k x c e =
     locals_sorted bs ps (with_name b.name (Some (word_sort_of b.kind)) names) (with_name p.0 p.1 env) h.2
     (λ y d. subst (λ n. with_name b.name (Some (word_sort_of b.kind)) names y ≡ Some d → IsOfSort d (with_name n p.1 env y)) (sym h.0)
-        (either_of (same_name b.name y) (word_sort_of b.kind) (names y) p.1 (env y) d h.1 (k y d)))
+    (either_of (same_name b.name y) (word_sort_of b.kind) (names y) p.1 (env y) d h.1 (k y d)))
     x c e
 
 pub not_among : (bs : List Binder) (names : Name → Option Scalar) (x : Name) → is_among x (names_of bs) ≡ false → scalars_among bs names x ≡ names x
@@ -146,19 +146,23 @@ scalar_kind (b ∷ bs) names x c d h e =
     let q = and_parts (not (is_among b.name (names_of bs))) (are_distinct (names_of bs)) d in
     by_test (same_name b.name x)
     (λ t.
-        let same : b.name ≡ x = name_is b.name x t in
-        let fresh : is_among x (names_of bs) ≡ false = subst (λ n. is_among n (names_of bs) ≡ false) same (not-true (is_among b.name (names_of bs)) q.0) in
-        let here : Some (word_sort_of b.kind) ≡ Some c =
-            sym (where_true (same_name b.name x) (Some (word_sort_of b.kind)) (names x) t) ∙ sym (not_among bs (with_name b.name (Some (word_sort_of b.kind)) names) x fresh) ∙ e in
-        (b.kind, where_true (same_name b.name x) (Some b.kind) (kind_of bs x) t, some_is here,
-            subst (λ n. is_among x (n ∷ names_of bs) ≡ true) (sym same) (or_true (same_name x x) (is_among x (names_of bs)) (same_name-refl x))))
+    let same : b.name ≡ x = name_is b.name x t in
+    let fresh : is_among x (names_of bs) ≡ false = subst (λ n. is_among n (names_of bs) ≡ false) same (not-true (is_among b.name (names_of bs)) q.0) in
+    let here : Some (word_sort_of b.kind) ≡ Some c =
+    sym (where_true (same_name b.name x) (Some (word_sort_of b.kind)) (names x) t) ∙ sym (not_among bs (with_name b.name (Some (word_sort_of b.kind)) names) x fresh) ∙ e in (
+      b.kind,
+      where_true (same_name b.name x) (Some b.kind) (kind_of bs x) t,
+      some_is here,
+      subst (λ n. is_among x (n ∷ names_of bs) ≡ true) (sym same) (or_true (same_name x x) (is_among x (names_of bs)) (same_name-refl x)),
+    ))
     (λ t.
-        let r = scalar_kind bs (with_name b.name (Some (word_sort_of b.kind)) names) x c q.1 (where_false (same_name b.name x) (Some (word_sort_of b.kind)) (names x) t ∙ h) e in
-        (r.0, where_false (same_name b.name x) (Some b.kind) (kind_of bs x) t ∙ r.1, r.2, or_also (same_name x b.name) (is_among x (names_of bs)) r.3))
+    let r = scalar_kind bs (with_name b.name (Some (word_sort_of b.kind)) names) x c q.1 (where_false (same_name b.name x) (Some (word_sort_of b.kind)) (names x) t ∙ h) e in
+    (r.0, where_false (same_name b.name x) (Some b.kind) (kind_of bs x) t ∙ r.1, r.2, or_also (same_name x b.name) (is_among x (names_of bs)) r.3))
   where
     or_true : (a b : Bool) → a ≡ true → (a || b) ≡ true
     or_true true b e = refl
     or_true false b e = absurd (false≢true e)
+
     or_also : (a b : Bool) → b ≡ true → (a || b) ≡ true
     or_also true b e = refl
     or_also false b e = e
@@ -170,10 +174,10 @@ kind_scalar (b ∷ bs) names x k d e =
     let more = with_name b.name (Some (word_sort_of b.kind)) names in
     by_test (same_name b.name x)
     (λ t.
-        let same : b.name ≡ x = name_is b.name x t in
-        let fresh : is_among x (names_of bs) ≡ false = subst (λ n. is_among n (names_of bs) ≡ false) same (not-true (is_among b.name (names_of bs)) q.0) in
-        let kind : b.kind ≡ k = some_is (sym (where_true (same_name b.name x) (Some b.kind) (kind_of bs x) t) ∙ e) in
-        not_among bs more x fresh ∙ where_true (same_name b.name x) (Some (word_sort_of b.kind)) (names x) t ∙ ap (λ j. Some (word_sort_of j)) kind)
+    let same : b.name ≡ x = name_is b.name x t in
+    let fresh : is_among x (names_of bs) ≡ false = subst (λ n. is_among n (names_of bs) ≡ false) same (not-true (is_among b.name (names_of bs)) q.0) in
+    let kind : b.kind ≡ k = some_is (sym (where_true (same_name b.name x) (Some b.kind) (kind_of bs x) t) ∙ e) in
+    not_among bs more x fresh ∙ where_true (same_name b.name x) (Some (word_sort_of b.kind)) (names x) t ∙ ap (λ j. Some (word_sort_of j)) kind)
     (λ t. kind_scalar bs more x k q.1 (sym (where_false (same_name b.name x) (Some b.kind) (kind_of bs x) t) ∙ e))
 
 -- where a body begins
@@ -212,9 +216,9 @@ started_from (p ∷ ps) (b ∷ bs) (v ∷ vs) env c n d =
     let shorter : length vs ≡ length ps = cc in
     started_from ps bs vs (with_name b.name v env) r.1 shorter q.1
     ∙ ap (bound (names_of ps) vs)
-      (sym (zeros_through b.name v bs env (not-true (is_among b.name (names_of bs)) q.0))
-      ∙ sym (again b.name v (zero_word_at b.kind) (with_zeros bs env))
-      ∙ ap (λ n. with_name n v (with_name b.name (zero_word_at b.kind) (with_zeros bs env))) (sym same))
+    (sym (zeros_through b.name v bs env (not-true (is_among b.name (names_of bs)) q.0))
+    ∙ sym (again b.name v (zero_word_at b.kind) (with_zeros bs env))
+    ∙ ap (λ n. with_name n v (with_name b.name (zero_word_at b.kind) (with_zeros bs env))) (sym same))
   where
     and_parts3 : (a b c : Bool) → ((a && b) && c) ≡ true → (a ≡ true) × (c ≡ true)
     and_parts3 a b c h = let p = and_parts (a && b) c h in ((and_parts a b p.0).0, p.1)

@@ -1,5 +1,5 @@
 -- Measures of runs: a turn and a call take one from the bound, and a body is less deep than all bodies.
-use Rattle.std.proofs.Common.{ℕ, suc, ◌+◌, ◌*◌, ◌<◌, ◌≤◌, arith}
+use Rattle.std.proofs.Common.{ℕ, ◌+◌, ◌*◌, ◌<◌, ◌≤◌, arith}
 use Rattle.std.proofs.Math.Nat.{mul-le-mul_right}
 
 pub below_turn : (n turns depth body : ℕ) → n ≤ turns → n * (4 * depth + 8) + 4 * body + 2 < turns * (4 * depth + 8) + 4 * body + 3

@@ -1,22 +1,20 @@
 -- What a well-sorted and narrow command asks of its parts.
-use Rattle.std.proofs.Common.{◌≡◌, Bool, true, false, cond, ◌&&◌, List, [], ◌∷◌, map, Option, Some, None, refl, sym, ap, ap₂, ◌∙◌, subst}
+use Rattle.std.proofs.Common.{◌≡◌, Bool, true, false, cond, ◌&&◌, List, [], ◌∷◌, map, Option, Some, None, refl, sym, ap, ap₂, subst}
 use Rattle.std.proofs.lemmas.Bool.{and_parts, false≢true, eqb-true}
 use Rattle.c_values.specs.Name.{Name}
-use Rattle.c_values.specs.Types.{CType, address_width}
-use Rattle.c_values.specs.Layout.{Layout, Shape, Incomplete, Scalar as WordShape, Record, Row, is_object, shape_of}
+use Rattle.c_values.specs.Layout.{Shape, Incomplete, Scalar as WordShape, Record, Row}
 use Rattle.c_values.specs.Path.{Spot, member_spot}
-use Rattle.expression_lang.specs.Expression.{Exp, Path, Here, IntoField, IntoElement}
-use Rattle.expression_lang.specs.Form.{has, path_has, is_part_of_value}
-use Rattle.expression_lang.specs.Sort.{Scalar, Sort, Of, PartsSort, WordSort, NumberSort, TruthSort, Scope, sort_of, shape_along, shape_in, sort_at, same_sort, same_scalar, is_number, is_truth, is_word_of, number_sort, truth_sort, word_sort_of}
+use Rattle.expression_lang.specs.Expression.{Exp, Path, IntoField, IntoElement}
+use Rattle.expression_lang.specs.Form.{has, is_part_of_value}
+use Rattle.expression_lang.specs.Sort.{Scalar, Sort, Of, PartsSort, WordSort, NumberSort, TruthSort, Scope, sort_of, shape_along, shape_in, same_scalar, is_number, is_truth, truth_sort, word_sort_of}
 use Rattle.expression_lang.specs.Signature.{Signature, signature, kinds_of}
-use Rattle.expression_lang.specs.Sorted.{program_sort, scalar_in, with_scalar, scalars_of, same_scalars, result_scalars, sort_in, part_place, typed_place, global_place, fits_place, call_scalars}
-use Rattle.expression_lang.proofs.Inversion.{number_inv, truth_inv, word_of_inv, same_inv}
-use Rattle.program_sorts.specs.Sorts.{is_scalar_of}
-use Rattle.simpl_lang.specs.Command.{Condition, Simpl, Skip, Throw, Set, SetGlobal, Store, Pick, Seq, Cond, Guard, Catch, While, Call}
-use Rattle.simpl_lang.specs.Sorted.{are_conditions, is_sorted, is_local, fits_target}
+use Rattle.expression_lang.specs.Sorted.{program_sort, scalar_in, with_scalar, scalars_of, same_scalars, result_scalars, call_scalars}
+use Rattle.expression_lang.proofs.Inversion.{number_inv, truth_inv}
+use Rattle.simpl_lang.specs.Command.{Condition, Simpl, Seq, Cond, Guard, Catch, While, Call}
+use Rattle.simpl_lang.specs.Sorted.{are_conditions, is_sorted, fits_target}
 use Rattle.simpl_lang.specs.CodeForms.{signatures_in}
 use Rattle.ac_interp.specs.declared.frame.Frame as R
-use Rattle.ac_interp.specs.CodeRun.{scope_for, globals_for, HasSortIn, LeadsIn, HaveSortsIn, HaveTruthsIn, CanRunIn}
+use Rattle.ac_interp.specs.CodeRun.{scope_for, HasSortIn, LeadsIn, HaveSortsIn, HaveTruthsIn, CanRunIn}
 
 without_parts : (b : Bool) (p : Option Sort) (o : Sort) → cond b None p ≡ Some o → p ≡ Some o
 without_parts true p o h = absurd cc
@@ -148,6 +146,7 @@ module _ (f : R.Frame) where
           no_target : (y : Option Name) → fits_target g y None ≡ true → ⊥
           no_target (Some y) r = false≢true r
           no_target None r = false≢true r
+
       by_parts : (o : Option Signature) (p : Option (List Scalar)) → signature (signatures_in f.unit.now) h ≡ o → scalars_of g es ≡ p → fits_target g x (call_scalars word_sort_of o p) ≡ true → CallParts x h es
       by_parts (Some s) (Some cs) e o t = by_same s cs (same_scalars (map word_sort_of (kinds_of s.params)) cs) refl e o t
       by_parts (Some s) None e o t = absurd (no_target x t)

@@ -1,12 +1,12 @@
 -- Where a part of an object takes a value: the spot is there, and the value is of its shape.
-use Rattle.std.proofs.Common.{◌≡◌, ℕ, ◌<◌, ◌^◌, List, [], ◌∷◌, map, Option, Some, None, Result, Ok, Err, refl, sym, ap, ◌∙◌, subst}
+use Rattle.std.proofs.Common.{◌≡◌, ℕ, ◌<◌, ◌^◌, List, [], ◌∷◌, Option, Some, Result, Ok, Err, sym, subst}
 use Rattle.std.specs.Prelude.{OnOk}
 use Rattle.c_values.specs.Types.{CType}
-use Rattle.c_values.specs.Layout.{Layout, shape_of, space}
-use Rattle.c_values.specs.Path.{Step, Spot, spot, upd, HasShape, IsBits}
+use Rattle.c_values.specs.Layout.{Layout, shape_of}
+use Rattle.c_values.specs.Path.{Spot, spot, upd, HasShape, IsBits}
 use Rattle.c_values.specs.Value.{Value, Bits, Number, Truth, Parts, word_in}
 use Rattle.expression_lang.specs.Expression.{Exp, Path}
-use Rattle.expression_lang.specs.Sort.{Scalar, Sort, Of}
+use Rattle.expression_lang.specs.Sort.{Scalar, Of}
 use Rattle.expression_lang.specs.Evaluation.{value, steps}
 use Rattle.expression_lang.specs.Signature.{values_of}
 use Rattle.expression_lang.specs.Sorted.{program_sort, scalar_in, scalars_of}

@@ -1,16 +1,16 @@
 -- What commands that give values ask of their parts: locals, globals and places in memory.
-use Rattle.std.proofs.Common.{◌≡◌, Bool, true, false, cond, ◌&&◌, ◌==◌, Option, Some, None, refl, sym, ap, ◌∙◌, subst}
+use Rattle.std.proofs.Common.{◌≡◌, Bool, true, false, cond, ◌&&◌, Option, Some, None, refl, sym, ap, subst}
 use Rattle.std.proofs.lemmas.Bool.{and_parts, false≢true, eqb-true}
 use Rattle.c_values.specs.Name.{Name}
 use Rattle.c_values.specs.Types.{CType, address_width}
-use Rattle.c_values.specs.Layout.{Layout, IsLayout, Shape, Incomplete, Scalar as WordShape, Record, Row, type_of, is_object, shape_of}
+use Rattle.c_values.specs.Layout.{Layout, Shape, Incomplete, Scalar as WordShape, Record, Row, type_of, is_object, shape_of}
 use Rattle.c_values.specs.Path.{HasShape}
 use Rattle.c_values.specs.Value.{Value}
 use Rattle.c_values.proofs.Laid.{structs_of}
 use Rattle.c_values.proofs.Parts.{laid_shape}
 use Rattle.expression_lang.specs.Expression.{Exp, Path}
 use Rattle.expression_lang.specs.Form.{path_has, is_part_of_value}
-use Rattle.expression_lang.specs.Sort.{Scalar, Sort, Of, PartsSort, WordSort, NumberSort, TruthSort, Scope, shape_along, sort_at, sort_of, same_scalar, is_word_of}
+use Rattle.expression_lang.specs.Sort.{Scalar, Sort, Of, PartsSort, WordSort, NumberSort, TruthSort, Scope, shape_along, sort_at, same_scalar, is_word_of}
 use Rattle.expression_lang.specs.Sorted.{program_sort, sort_in, part_place, typed_place, global_place, fits_place}
 use Rattle.expression_lang.proofs.Inversion.{word_of_inv, same_inv}
 use Rattle.expression_lang.proofs.Good.{Good}
@@ -102,27 +102,32 @@ module _ (f : R.Frame) where
       let p = fits_inv (global_place g (g.globals x) path) (program_sort g e) h.sorted in
       let t = global_there (g.globals x) path p.0 p.1 in
       let w = only_where (is_object g.layout t.0) (part_place g t.0 path) p.0 t.2 in
-      let s = sort_in_inv (shape_along g path (shape_of g.layout t.0)) p.0 (without_parts (path_has is_part_of_value path) (sort_in (shape_along g path (shape_of g.layout t.0))) p.0 w.1) in
-      (t.0, t.1, record {
-        object = w.0;
-        shape = s.0;
-        sort = p.0;
-        leads = record { along = s.1; narrow = h.narrow.0 };
-        at = s.2;
-        value = record { sorted = program_sort_inv g e p.0 p.2; narrow = h.narrow.1 };
-      })
+      let s = sort_in_inv (shape_along g path (shape_of g.layout t.0)) p.0 (without_parts (path_has is_part_of_value path) (sort_in (shape_along g path (shape_of g.layout t.0))) p.0 w.1) in (
+        t.0,
+        t.1,
+        record {
+          object = w.0;
+          shape = s.0;
+          sort = p.0;
+          leads = record { along = s.1; narrow = h.narrow.0 };
+          at = s.2;
+          value = record { sorted = program_sort_inv g e p.0 p.2; narrow = h.narrow.1 };
+        },
+      )
 
   pub store_parts : (t : CType) (a : Exp) (path : Path) (e : Exp) → CanRunIn f (Store t a path e) → HasSortIn f a (Of (WordSort (address_width f.unit.now.layout.target))) × IsPlace f t path e
   store_parts t a path e h =
       let p = fits_inv (typed_place g t a path) (program_sort g e) h.sorted in
       let w = only_where (is_object g.layout t && is_word_of (address_width g.layout.target) (program_sort g a)) (part_place g t path) p.0 p.1 in
       let b = and_parts (is_object g.layout t) (is_word_of (address_width g.layout.target) (program_sort g a)) w.0 in
-      let s = sort_in_inv (shape_along g path (shape_of g.layout t)) p.0 (without_parts (path_has is_part_of_value path) (sort_in (shape_along g path (shape_of g.layout t))) p.0 w.1) in
-      (record { sorted = program_sort_inv g a _ (word_of_inv (address_width g.layout.target) (program_sort g a) b.1); narrow = h.narrow.0 }, record {
-        object = b.0;
-        shape = s.0;
-        sort = p.0;
-        leads = record { along = s.1; narrow = h.narrow.1 };
-        at = s.2;
-        value = record { sorted = program_sort_inv g e p.0 p.2; narrow = h.narrow.2 };
-      })
+      let s = sort_in_inv (shape_along g path (shape_of g.layout t)) p.0 (without_parts (path_has is_part_of_value path) (sort_in (shape_along g path (shape_of g.layout t))) p.0 w.1) in (
+        record { sorted = program_sort_inv g a _ (word_of_inv (address_width g.layout.target) (program_sort g a) b.1); narrow = h.narrow.0 },
+        record {
+          object = b.0;
+          shape = s.0;
+          sort = p.0;
+          leads = record { along = s.1; narrow = h.narrow.1 };
+          at = s.2;
+          value = record { sorted = program_sort_inv g e p.0 p.2; narrow = h.narrow.2 };
+        },
+      )

@@ -1,5 +1,5 @@
 -- Runs of commands in a frame: from where a part has come, the ends of what is left are ends of the whole.
-use Rattle.std.proofs.Common.{◌≡◌, ℕ, suc, ◌+◌, true, false, List, Option, Some, None, Result, Ok, Err, refl, sym, ap, ◌∙◌, subst, add-one}
+use Rattle.std.proofs.Common.{◌≡◌, ℕ, suc, ◌+◌, true, false, List, Option, Some, None, Result, Ok, Err, sym, ◌∙◌, subst, add-one}
 use Rattle.std.specs.Option.{option_map}
 use Rattle.correspondence.specs.Outcome.{Turns, Depth, Outcome, Done, Failed, Stopped, Ends}
 use Rattle.correspondence.specs.Included.{Included}

@@ -1,19 +1,15 @@
 -- What a command does, step by step: from where a part is done, the ends of what is left are ends of the whole.
-use Rattle.std.proofs.Common.{◌≡◌, ℕ, suc, ◌+◌, Bool, true, false, cond, List, [], ◌∷◌, Option, Some, None, refl, sym, ap, subst, inl, inr, ◌⊎◌, add-one}
-use Rattle.correspondence.specs.Outcome.{Limit, Turns, Depth, Outcome, Done, Failed, Stopped, Ends, done, fault, Then, goes_on, fails, stops, choose, continued, loop, stop}
-use Rattle.correspondence.specs.Bound.{below, called}
+use Rattle.std.proofs.Common.{◌≡◌, ℕ, suc, ◌+◌, Bool, true, false, cond, List, [], ◌∷◌, Option, Some, None, refl, sym, subst, inl, inr, ◌⊎◌, add-one}
+use Rattle.correspondence.specs.Outcome.{Limit, Turns, Depth, Outcome, Done, Failed, Stopped, Ends, done, fault, goes_on, fails, stops, choose}
 use Rattle.correspondence.specs.Included.{Included}
 use Rattle.c_values.specs.Name.{Name}
-use Rattle.c_values.specs.Value.{Value}
-use Rattle.c_values.specs.Layout.{Layout}
-use Rattle.c_values.specs.Choice.{Choice, Fill}
+use Rattle.c_values.specs.Choice.{Choice}
 use Rattle.expression_lang.specs.Expression.{Exp}
 use Rattle.expression_lang.specs.GuardKind.{GuardKind}
-use Rattle.expression_lang.specs.Machine.{Machine, machine_with, with_local, Returned}
-use Rattle.expression_lang.specs.Sort.{Kind}
+use Rattle.expression_lang.specs.Machine.{Machine, Returned}
 use Rattle.expression_lang.specs.Signature.{Binder, Invocation, values_of}
-use Rattle.simpl_lang.specs.Command.{Condition, Simpl, Skip, Throw, Set, SetGlobal, Store, Pick, Seq, Cond, Guard, Catch, While, Call, SimplUnit}
-use Rattle.simpl_lang.specs.Exec.{Flow, Normal, Abrupt, Runs, holds_on, normally, handled, turned, checked, entered, result_into, execs, bodies, functions_below, simpl_runs}
+use Rattle.simpl_lang.specs.Command.{Condition, Simpl, Seq, Cond, Guard, Catch, While, Call, SimplUnit}
+use Rattle.simpl_lang.specs.Exec.{Flow, Normal, Abrupt, Runs, holds_on, checked, entered, result_into, execs, functions_below, simpl_runs}
 use Rattle.ac_interp.specs.Guarded.{first_broken}
 
 pub same_ends : {A F : Type 0} (p : Ends A F) → Included p p

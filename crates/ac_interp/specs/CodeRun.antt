@@ -1,10 +1,10 @@
 -- What the code that runs commands works on, and what its answers stand for.
-use Rattle.std.specs.Prelude.{◌≡◌, ℕ, zero, suc, ◌+◌, ◌≤◌, Bool, true, false, List, [], ◌∷◌, map, Option, Some, None, Result, Ok, Err, pos, string_bytes, if◌then◌else◌, slice_get}
+use Rattle.std.specs.Prelude.{◌≡◌, ℕ, zero, suc, ◌+◌, ◌≤◌, true, false, List, [], ◌∷◌, map, Option, Some, None, Result, Ok, Err, pos, string_bytes, if◌then◌else◌, slice_get}
 use Rattle.std.specs.Option.{option_map, IsSomeAnd}
 use Rattle.correspondence.specs.Outcome.{Turns, Depth, Done, Failed, Stopped, Ends}
 use Rattle.c_values.specs.Name.{Name, same_name, are_distinct}
 use Rattle.c_values.specs.Word.{word}
-use Rattle.c_values.specs.Layout.{Layout, GlobalVar, Shape}
+use Rattle.c_values.specs.Layout.{GlobalVar, Shape}
 use Rattle.c_values.specs.Value.{Value, Bits, Truth}
 use Rattle.c_values.specs.Path.{Step, upd}
 use Rattle.c_values.specs.Choice.{Fill}
@@ -30,7 +30,7 @@ use Rattle.simpl_lang.specs.Command.{Condition, Simpl, simpl_fn}
 use Rattle.simpl_lang.specs.Exec as E
 use Rattle.simpl_lang.specs.Exec.{execs, functions_below}
 use Rattle.simpl_lang.specs.Sorted.{IsWellFormed, is_sorted, are_conditions, scope_among}
-use Rattle.simpl_lang.specs.CodeCommand.{guard_kind_of, simpl_of, simpl_fn_of, simpl_unit_of}
+use Rattle.simpl_lang.specs.CodeCommand.{guard_kind_of, simpl_fn_of, simpl_unit_of}
 use Rattle.simpl_lang.specs.CodeForms.{signatures_in}
 use Rattle.ac_interp.specs.declared.outcome.CState as C
 use Rattle.ac_interp.specs.declared.outcome.COutcome as O

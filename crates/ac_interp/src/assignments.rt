@@ -103,7 +103,9 @@ impl Frame<'_> {
         let address = address_of(&root);
         let steps = self.steps(path, locals, state)?;
         let value = self.value(e, locals, state)?;
-        state.heap.write_value(self.alloc, &self.unit.layout, t, address, &steps, &value)
+        state
+            .heap
+            .write_value(self.alloc, &self.unit.layout, t, address, &steps, &value)
     }
 }
 

@@ -25,13 +25,7 @@ use simpl_lang::{Condition, Simpl, SimplFn};
 impl Frame<'_> {
     /// Runs a command, at a bound of so many turns.
     #[cycle(runs)]
-    fn run(
-        &self,
-        c: &Simpl,
-        turns: u32,
-        locals: &mut Env,
-        state: &mut CState,
-    ) -> Result<Flow, Stop>
+    fn run(&self, c: &Simpl, turns: u32, locals: &mut Env, state: &mut CState) -> Result<Flow, Stop>
         requires frame { IsFrame self.now }
         requires fits { Fits self.now locals.old.items state.old }
         requires sorted { CanRunIn self.now (simpl_of c.now) }

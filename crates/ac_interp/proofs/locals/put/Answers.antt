@@ -15,7 +15,7 @@ returns-then-eq c =
     let lt : c.locals.k < length bs = omega arith in
     let one = one_element bs c.locals.k c.index.result.now b lt c.index.ensures c.index_mut.ensures.value in
     let same : same_name (string_bytes b.0) x ≡ true =
-        ap (λ d. same_name (string_bytes d.0) x) (sym one) ∙ ap (λ n. same_name n x) (sym c.as_str.ensures.value) ∙ sym c.eq.ensures ∙ c.if-eq.true in
+    ap (λ d. same_name (string_bytes d.0) x) (sym one) ∙ ap (λ n. same_name n x) (sym c.as_str.ensures.value) ∙ sym c.eq.ensures ∙ c.if-eq.true in
     put_found bs c.locals.k x c.args.value c.locals.invariant.passed b lt c.index_mut.ensures.value same
     ∙ ap (λ t. put_in x (value_of c.args.value) (table_of t)) c.locals.invariant.same
 

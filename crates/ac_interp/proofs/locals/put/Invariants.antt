@@ -1,5 +1,5 @@
 -- The names before have been passed by.
-use Rattle.std.proofs.Common.{◌≡◌, length, ◌-◌, ◌++◌, take, drop, map}
+use Rattle.std.proofs.Common.{◌≡◌, length, ◌-◌, ◌++◌, take, drop}
 use Rattle.c_values.specs.CodeValue.{value_of}
 use Rattle.ac_interp.specs.Locals.{put_in}
 use Rattle.ac_interp.specs.CodeRun.{table_of}

@@ -1,7 +1,6 @@
-use Rattle.std.proofs.Common.{rules, arith, ◌≡◌, ◌<◌, length, map, Some, sym, ap, subst, ◌∙◌}
+use Rattle.std.proofs.Common.{arith, ◌<◌, length, map, Some, sym, subst}
 use Rattle.std.proofs.lemmas.List.{length-map}
 use Rattle.std.specs.Prelude.{slice_get}
-use Rattle.std.specs.Vec.{vec_len}
 use Rattle.c_values.specs.Choice.{Fill}
 use Rattle.c_values.specs.CodeValue.{value_of}
 use Rattle.simpl_lang.specs.Exec.{simpl_runs}
@@ -55,4 +54,4 @@ returns c =
     (λ g. IsEnd u (simpl_runs (simpl_unit_of u) (Fill c.args.fill) c.args.turns (Some 256) (call_of g (map value_of c.args.args.now) (state_in u c.args.state))) c.outcome.result)
     (slice_get u.functions.items f) h (get_some u.functions.items f h lt c.index-function.ensures)
     (subst (λ o. IsEnd u (simpl_runs (simpl_unit_of u) (Fill c.args.fill) c.args.turns (Some 256) (call_of h (map value_of c.args.args.now) (state_in u c.args.state))) o) (sym c.outcome.ensures)
-      (returned_end u (simpl_runs (simpl_unit_of u) (Fill c.args.fill) c.args.turns (Some 256) (call_of h (map value_of c.args.args.now) (state_in u c.args.state))) c.returned-given.result c.returned-given.new.state c.returned-given.ensures.run))
+    (returned_end u (simpl_runs (simpl_unit_of u) (Fill c.args.fill) c.args.turns (Some 256) (call_of h (map value_of c.args.args.now) (state_in u c.args.state))) c.returned-given.result c.returned-given.new.state c.returned-given.ensures.run))

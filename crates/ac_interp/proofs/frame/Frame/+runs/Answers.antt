@@ -1,6 +1,5 @@
 -- What each step of a run shows of the whole, and that measures fall.
-use Rattle.std.proofs.Common.{rules, arith, ◌≡◌, ℕ, ◌+◌, ◌*◌, ◌<◌, ◌-◌, ◌≤◌, true, false, map, Option, Some, None, Result, Ok, Err, refl, sym, ap, ap₂, ◌∙◌, subst}
-use Rattle.std.proofs.lemmas.Grind.{common_steps}
+use Rattle.std.proofs.Common.{rules, arith, ◌≡◌, ◌+◌, ◌*◌, ◌<◌, ◌-◌, ◌≤◌, true, false, map, Some, None, Ok, Err, sym, ap, ap₂, ◌∙◌, subst}
 use Rattle.std.specs.Option.{option_map}
 use Rattle.std.specs.Prelude.{IfSome, string_bytes}
 use Rattle.correspondence.specs.Outcome.{Done}
@@ -8,7 +7,7 @@ use Rattle.correspondence.specs.Included.{Included}
 use Rattle.c_values.specs.Choice.{Fill}
 use Rattle.c_values.specs.CodeTypes.{type_of}
 use Rattle.c_values.specs.CodeValue.{value_of}
-use Rattle.expression_lang.specs.Sort.{Of, TruthSort, word_sort_of}
+use Rattle.expression_lang.specs.Sort.{word_sort_of}
 use Rattle.expression_lang.specs.States.{IsOfSort}
 use Rattle.expression_lang.specs.Signature.{signature, kinds_of, values_of}
 use Rattle.expression_lang.specs.CodeSignature.{binder_of, signature_of}
@@ -20,12 +19,10 @@ use Rattle.simpl_lang.specs.Exec as E
 use Rattle.simpl_lang.specs.Exec.{holds_on, simpl_runs, result_of}
 use Rattle.simpl_lang.specs.CodeCommand.{condition_of, guard_kind_of, simpl_of, simpl_fn_of, simpl_unit_of}
 use Rattle.simpl_lang.specs.CodeForms.{signatures_in}
-use Rattle.ac_interp.specs.declared.ends.Flow as W
-use Rattle.ac_interp.specs.declared.ends.Stop as P
 use Rattle.ac_interp.specs.Guarded.{first_broken}
-use Rattle.ac_interp.specs.CodeRun.{machine_in, state_in, ends_in, depth_of, call_of, HasRun, HasReturned, IsFrame, IsStateOf, CanRun, Fits, CanRunIn, CanBeCalled, IsResult}
+use Rattle.ac_interp.specs.CodeRun.{machine_in, state_in, ends_in, depth_of, call_of, HasRun, HasReturned, CanRunIn, IsResult}
 use Rattle.ac_interp.specs.Locals.{AreOfSorts}
-use Rattle.ac_interp.proofs.Parts.{call_parts, seq_first, seq_last, catch_first, catch_last, cond_test, cond_first, cond_last, guard_test, guard_last, while_test, while_body}
+use Rattle.ac_interp.proofs.Parts.{call_parts, seq_last, catch_last, cond_test, cond_first, cond_last, guard_test, guard_last, while_test, while_body}
 use Rattle.ac_interp.proofs.Measures.{below_turn, below_call, below_body}
 use Rattle.ac_interp.proofs.Depths.{last_of_seq, last_of_catch, first_of_cond, last_of_cond, last_of_guard}
 use Rattle.ac_interp.proofs.Runs.{reached, ran, seq_normal, seq_abrupt, seq_stopped, catch_normal, catch_abrupt, catch_stopped, cond_true, cond_false, guard_true, guard_false, loop_breaks, loop_ends, loop_out, loop_turns, loop_throws, loop_stopped, call_out, call_deep, call_gives, call_stopped}
@@ -86,12 +83,11 @@ call-returned-requires t c =
     let deep : size-Simpl h.body ≤ depth_of f.unit.now.functions.items = subst (λ fs. size-Simpl h.body ≤ depth_of fs) c.deref.ensures.value less in
     let name : string_bytes h.name ≡ g = found_name _ g (simpl_fn_of h) there in
     let declared : signature (signatures_in f.unit.now) g ≡ Some (signature_of s) =
-        sym (ap (λ ss. signature (map signature_of ss) g) c.deref-2.ensures.value) ∙ sym c.signature.ensures ∙ ap (option_map (λ r. signature_of r.now)) signed in
+    sym (ap (λ ss. signature (map signature_of ss) g) c.deref-2.ensures.value) ∙ sym c.signature.ensures ∙ ap (option_map (λ r. signature_of r.now)) signed in
     let known : p.called ≡ signature_of s = same_signature (sym p.found ∙ declared) in
-    let values : map value_of c.deref-4.result.now ≡ values_of f.unit.now.layout (env_of c.args.locals.now.items) (state_in f.unit.now c.args.state.now) es = ap (map value_of) c.deref-4.ensures.value ∙ c.in_ok-values.ensures in
-    (
+    let values : map value_of c.deref-4.result.now ≡ values_of f.unit.now.layout (env_of c.args.locals.now.items) (state_in f.unit.now c.args.state.now) es = ap (map value_of) c.deref-4.ensures.value ∙ c.in_ok-values.ensures in (
       subst (λ n. (turns - 1) * (4 * depth_of f.unit.now.functions.items + 8) + 4 * size-Simpl h.body + 3 < n) c.requires.1.0
-      (below_call (turns - 1) turns (depth_of f.unit.now.functions.items) (size-Simpl h.body) (omega arith) deep),
+          (below_call (turns - 1) turns (depth_of f.unit.now.functions.items) (size-Simpl h.body) (omega arith) deep),
       (
         c.requires.1.1.0.unit,
         (
@@ -102,7 +98,7 @@ call-returned-requires t c =
               signature = subst (λ n. signature (signatures_in f.unit.now) n ≡ Some (signature_of s)) (sym name) declared;
               arguments = subst (λ vs. AreOfSorts (map word_sort_of (kinds_of (map binder_of s.params.items))) vs) (sym values)
                   (subst (λ r. AreOfSorts (map word_sort_of (kinds_of r.params)) (values_of f.unit.now.layout (env_of c.args.locals.now.items) (state_in f.unit.now c.args.state.now) es)) known
-                    (arguments_fit f c.requires.1.1.0 c.args.locals.now.items c.args.state.now c.requires.1.1.1.0 es (map word_sort_of (kinds_of p.called.params)) p.sorted));
+                  (arguments_fit f c.requires.1.1.0 c.args.locals.now.items c.args.state.now c.requires.1.1.1.0 es (map word_sort_of (kinds_of p.called.params)) p.sorted));
               depth = deep;
             },
             c.requires.1.1.1.0.state,
@@ -130,14 +126,14 @@ call-returns-in_err-given-clause-run t c =
     let deep : size-Simpl h.body ≤ depth_of f.unit.now.functions.items = subst (λ fs. size-Simpl h.body ≤ depth_of fs) c.deref.ensures.value less in
     let name : string_bytes h.name ≡ g = found_name _ g (simpl_fn_of h) there in
     let declared : signature (signatures_in f.unit.now) g ≡ Some (signature_of s) =
-        sym (ap (λ ss. signature (map signature_of ss) g) c.deref-2.ensures.value) ∙ sym c.signature.ensures ∙ ap (option_map (λ r. signature_of r.now)) signed in
+    sym (ap (λ ss. signature (map signature_of ss) g) c.deref-2.ensures.value) ∙ sym c.signature.ensures ∙ ap (option_map (λ r. signature_of r.now)) signed in
     let known : p.called ≡ signature_of s = same_signature (sym p.found ∙ declared) in
     let values : map value_of c.deref-4.result.now ≡ values_of f.unit.now.layout (env_of c.args.locals.now.items) (state_in f.unit.now c.args.state.now) es = ap (map value_of) c.deref-4.ensures.value ∙ c.in_ok-values.ensures in
     let more : (turns - 1) + 1 ≡ turns = omega arith in
     let deeper : (f.depth - 1) + 1 ≡ f.depth = omega arith in
     let i = call_of h (map value_of c.deref-4.result.now) (state_in f.unit.now c.args.state.now) in
     let same_call : i ≡ record { name = g; arguments = values_of f.unit.now.layout (env_of c.args.locals.now.items) (state_in f.unit.now c.args.state.now) es; state = state_in f.unit.now c.args.state.now } =
-        ap₂ (λ n vs. record { name = n; arguments = vs; state = state_in f.unit.now c.args.state.now }) name values in
+    ap₂ (λ n vs. record { name = n; arguments = vs; state = state_in f.unit.now c.args.state.now }) name values in
     let err = c.in_err-given.field-0.0 in
     let same : c.from_residual-in_err-given.result ≡ Err err = search rules in
     let n = machine_in f c.args.locals.now.items c.returned.new.state in
@@ -163,12 +159,12 @@ call-returns-clause-fits t c =
     let deep : size-Simpl h.body ≤ depth_of f.unit.now.functions.items = subst (λ fs. size-Simpl h.body ≤ depth_of fs) c.deref.ensures.value less in
     let name : string_bytes h.name ≡ g = found_name _ g (simpl_fn_of h) there in
     let declared : signature (signatures_in f.unit.now) g ≡ Some (signature_of s) =
-        sym (ap (λ ss. signature (map signature_of ss) g) c.deref-2.ensures.value) ∙ sym c.signature.ensures ∙ ap (option_map (λ r. signature_of r.now)) signed in
+    sym (ap (λ ss. signature (map signature_of ss) g) c.deref-2.ensures.value) ∙ sym c.signature.ensures ∙ ap (option_map (λ r. signature_of r.now)) signed in
     let known : p.called ≡ signature_of s = same_signature (sym p.found ∙ declared) in
     let values : map value_of c.deref-4.result.now ≡ values_of f.unit.now.layout (env_of c.args.locals.now.items) (state_in f.unit.now c.args.state.now) es = ap (map value_of) c.deref-4.ensures.value ∙ c.in_ok-values.ensures in
     let taken : IsResult p.called.result (option_map value_of c.in_ok-given.given) = subst (λ r. IsResult r.result (option_map value_of c.in_ok-given.given)) (sym known) c.in_ok-given.ensures.result in
     let to = given_to f c.args.locals.now.items c.give.new.locals.items c.returned.new.state c.requires.1.1.0 (record { locals = c.requires.1.1.1.0.locals; state = c.in_ok-given.ensures.state }) x p.called.result
-        (option_map value_of c.in_ok-given.given) p.target taken c.give.ensures in
+    (option_map value_of c.in_ok-given.given) p.target taken c.give.ensures in
     to.fits
 
 pub call-returns-clause-run : goal.call-returns-clause-run
@@ -190,17 +186,17 @@ call-returns-clause-run t c =
     let deep : size-Simpl h.body ≤ depth_of f.unit.now.functions.items = subst (λ fs. size-Simpl h.body ≤ depth_of fs) c.deref.ensures.value less in
     let name : string_bytes h.name ≡ g = found_name _ g (simpl_fn_of h) there in
     let declared : signature (signatures_in f.unit.now) g ≡ Some (signature_of s) =
-        sym (ap (λ ss. signature (map signature_of ss) g) c.deref-2.ensures.value) ∙ sym c.signature.ensures ∙ ap (option_map (λ r. signature_of r.now)) signed in
+    sym (ap (λ ss. signature (map signature_of ss) g) c.deref-2.ensures.value) ∙ sym c.signature.ensures ∙ ap (option_map (λ r. signature_of r.now)) signed in
     let known : p.called ≡ signature_of s = same_signature (sym p.found ∙ declared) in
     let values : map value_of c.deref-4.result.now ≡ values_of f.unit.now.layout (env_of c.args.locals.now.items) (state_in f.unit.now c.args.state.now) es = ap (map value_of) c.deref-4.ensures.value ∙ c.in_ok-values.ensures in
     let more : (turns - 1) + 1 ≡ turns = omega arith in
     let deeper : (f.depth - 1) + 1 ≡ f.depth = omega arith in
     let i = call_of h (map value_of c.deref-4.result.now) (state_in f.unit.now c.args.state.now) in
     let same_call : i ≡ record { name = g; arguments = values_of f.unit.now.layout (env_of c.args.locals.now.items) (state_in f.unit.now c.args.state.now) es; state = state_in f.unit.now c.args.state.now } =
-        ap₂ (λ n vs. record { name = n; arguments = vs; state = state_in f.unit.now c.args.state.now }) name values in
+    ap₂ (λ n vs. record { name = n; arguments = vs; state = state_in f.unit.now c.args.state.now }) name values in
     let taken : IsResult p.called.result (option_map value_of c.in_ok-given.given) = subst (λ r. IsResult r.result (option_map value_of c.in_ok-given.given)) (sym known) c.in_ok-given.ensures.result in
     let to = given_to f c.args.locals.now.items c.give.new.locals.items c.returned.new.state c.requires.1.1.0 (record { locals = c.requires.1.1.1.0.locals; state = c.in_ok-given.ensures.state }) x p.called.result
-        (option_map value_of c.in_ok-given.given) p.target taken c.give.ensures in
+    (option_map value_of c.in_ok-given.given) p.target taken c.give.ensures in
     subst (λ z. ends_in f (Call x g es) turns m (Done (E.Normal z))) (sym to.machine)
     (call_gives f x g es m turns (turns - 1) more (f.depth - 1) deeper i same_call c.in_ok-given.given c.returned.new.state c.in_ok-given.ensures.run)
 
@@ -224,8 +220,7 @@ returned-run-requires t c =
     let unit = c.requires.unit in
     let bs = c.in_ok-locals.locals.items in
     let s = c.args.state.now in
-    let begun = c.in_ok-locals.ensures in
-    (
+    let begun = c.in_ok-locals.ensures in (
       subst (λ n. turns * (4 * depth_of f.unit.now.functions.items + 8) + 4 * size-Simpl h.body + 2 < n) c.decreases (below_body turns (depth_of f.unit.now.functions.items) (size-Simpl h.body)),
       (
         body_frame f h g vs unit c.requires.locals c.requires.called,
@@ -293,7 +288,7 @@ returned-returns-in-Some-clause-run t c =
     let done = body_done f h g vs unit c.requires.locals c.requires.called bs s c.requires.state begun turns c.in_ok-run.field-0 n c.in_ok-run.ensures.run in
     subst (λ v. simpl_runs (simpl_unit_of f.unit.now) (Fill f.fill) turns (Some f.depth) (call_of h vs (state_in f.unit.now s)) (Done (record { result = Some v; state = n.state }))) (sym c.taken.ensures)
     (subst (λ r. simpl_runs (simpl_unit_of f.unit.now) (Fill f.fill) turns (Some f.depth) (call_of h vs (state_in f.unit.now s)) (Done (record { result = result_of r n; state = n.state })))
-      (ap (option_map kind_of) c.in-Some.is) done)
+    (ap (option_map kind_of) c.in-Some.is) done)
 
 pub run-returns-in-Set-clause-run : goal.run-returns-in-Set-clause-run
 run-returns-in-Set-clause-run t c =
@@ -403,8 +398,8 @@ run-down-preserved-in-Normal t c =
     let is : rest ≡ Seq a b = ap simpl_of c.in-Seq.is in
     let n = machine_in f c.run.new.locals.items c.run.new.state in
     let came : ends_in f a turns m (Done (E.Normal n)) =
-        subst (λ d. ends_in f (simpl_of d) turns m (Done (E.Normal n))) c.deref-in-Seq.ensures
-        (subst (λ w. HasRun (ends_in f (simpl_of c.deref-in-Seq.result.now) turns m) (Ok w) n) c.in-Normal.is c.in_ok-run-in-Seq.ensures.run) in
+    subst (λ d. ends_in f (simpl_of d) turns m (Done (E.Normal n))) c.deref-in-Seq.ensures
+    (subst (λ w. HasRun (ends_in f (simpl_of c.deref-in-Seq.result.now) turns m) (Ok w) n) c.in-Normal.is c.in_ok-run-in-Seq.ensures.run) in
     record {
       fits = c.in_ok-run-in-Seq.ensures.fits;
       sorted = subst (λ d. CanRunIn f (simpl_of d)) (sym c.deref-rest.ensures) (seq_last f a b (subst (λ d. CanRunIn f d) is c.down.invariant.sorted));
@@ -426,8 +421,8 @@ run-returns-in-Abrupt-clause-run t c =
     let is : rest ≡ Seq a b = ap simpl_of c.in-Seq.is in
     let n = machine_in f c.run.new.locals.items c.run.new.state in
     let came : ends_in f a turns m (Done (E.Abrupt n)) =
-        subst (λ d. ends_in f (simpl_of d) turns m (Done (E.Abrupt n))) c.deref-in-Seq.ensures
-        (subst (λ w. HasRun (ends_in f (simpl_of c.deref-in-Seq.result.now) turns m) (Ok w) n) c.in-Abrupt.is c.in_ok-run-in-Seq.ensures.run) in
+    subst (λ d. ends_in f (simpl_of d) turns m (Done (E.Abrupt n))) c.deref-in-Seq.ensures
+    (subst (λ w. HasRun (ends_in f (simpl_of c.deref-in-Seq.result.now) turns m) (Ok w) n) c.in-Abrupt.is c.in_ok-run-in-Seq.ensures.run) in
     seq_abrupt f turns whole m0 rest a b m n is left came
 
 pub run-returns-in_err-run-in-Catch-clause-run : goal.run-returns-in_err-run-in-Catch-clause-run
@@ -462,8 +457,8 @@ run-down-preserved-in-Abrupt-2 t c =
     let is : rest ≡ Catch a b = ap simpl_of c.in-Catch.is in
     let n = machine_in f c.run-in-Catch.new.locals.items c.run-in-Catch.new.state in
     let came : ends_in f a turns m (Done (E.Abrupt n)) =
-        subst (λ d. ends_in f (simpl_of d) turns m (Done (E.Abrupt n))) c.deref-in-Catch.ensures
-        (subst (λ w. HasRun (ends_in f (simpl_of c.deref-in-Catch.result.now) turns m) (Ok w) n) c.in-Abrupt-2.is c.in_ok-run-in-Catch.ensures.run) in
+    subst (λ d. ends_in f (simpl_of d) turns m (Done (E.Abrupt n))) c.deref-in-Catch.ensures
+    (subst (λ w. HasRun (ends_in f (simpl_of c.deref-in-Catch.result.now) turns m) (Ok w) n) c.in-Abrupt-2.is c.in_ok-run-in-Catch.ensures.run) in
     record {
       fits = c.in_ok-run-in-Catch.ensures.fits;
       sorted = subst (λ d. CanRunIn f (simpl_of d)) (sym c.deref-rest-in-Abrupt-2.ensures) (catch_last f a b (subst (λ d. CanRunIn f d) is c.down.invariant.sorted));
@@ -485,8 +480,8 @@ run-returns-in-Normal-2-clause-run t c =
     let is : rest ≡ Catch a b = ap simpl_of c.in-Catch.is in
     let n = machine_in f c.run-in-Catch.new.locals.items c.run-in-Catch.new.state in
     let came : ends_in f a turns m (Done (E.Normal n)) =
-        subst (λ d. ends_in f (simpl_of d) turns m (Done (E.Normal n))) c.deref-in-Catch.ensures
-        (subst (λ w. HasRun (ends_in f (simpl_of c.deref-in-Catch.result.now) turns m) (Ok w) n) c.in-Normal-2.is c.in_ok-run-in-Catch.ensures.run) in
+    subst (λ d. ends_in f (simpl_of d) turns m (Done (E.Normal n))) c.deref-in-Catch.ensures
+    (subst (λ w. HasRun (ends_in f (simpl_of c.deref-in-Catch.result.now) turns m) (Ok w) n) c.in-Normal-2.is c.in_ok-run-in-Catch.ensures.run) in
     catch_normal f turns whole m0 rest a b m n is left came
 
 pub run-test-requires-clause-sorted : goal.run-test-requires-clause-sorted
@@ -655,10 +650,9 @@ repeat-run-requires t c =
     let a = simpl_of c.args.body.now in
     let m0 = machine_in f c.args.locals.now.items c.args.state.now in
     let m = machine_in f c.turns.locals.items c.turns.state in
-    let more : (c.turns.left - 1) + 1 ≡ c.turns.left = omega arith in
-    (
+    let more : (c.turns.left - 1) + 1 ≡ c.turns.left = omega arith in (
       subst (λ n. (c.turns.left - 1) * (4 * depth_of f.unit.now.functions.items + 8) + 4 * size-Simpl c.args.body.now + 2 < n) c.decreases
-      (below_turn (c.turns.left - 1) turns (depth_of f.unit.now.functions.items) (size-Simpl c.args.body.now) (omega (arith, c.turns.invariant.fewer))),
+          (below_turn (c.turns.left - 1) turns (depth_of f.unit.now.functions.items) (size-Simpl c.args.body.now) (omega (arith, c.turns.invariant.fewer))),
       (c.requires.frame, (c.turns.invariant.fits, (while_body f cs e a c.requires.sorted, c.requires.depth))),
     )
 

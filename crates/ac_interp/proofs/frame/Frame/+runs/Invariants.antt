@@ -1,6 +1,6 @@
 -- The ends of what is left are ends of the whole. A turn and a call take one from the bound, and a part is less deep than the
 -- whole.
-use Rattle.std.proofs.Common.{◌≡◌, ◌+◌, ◌*◌, ◌≤◌, map}
+use Rattle.std.proofs.Common.{◌+◌, ◌*◌, ◌≤◌, map}
 use Rattle.correspondence.specs.Included.{Included}
 use Rattle.simpl_lang.specs.declared.command.Simpl.{size-Simpl}
 use Rattle.simpl_lang.specs.Command.{While}
@@ -8,7 +8,6 @@ use Rattle.simpl_lang.specs.CodeCommand.{condition_of, simpl_of}
 use Rattle.expression_lang.specs.CodeExpression.{exp_of}
 use Rattle.ac_interp.specs.CodeRun.{machine_in, ends_in, depth_of, Fits, CanRunIn}
 use Rattle.ac_interp.proofs.frame.Frame.+runs.Given as goal
-
 
 abbrev pub invariant-run-down : goal.invariant-run-down
 invariant-run-down l = record {

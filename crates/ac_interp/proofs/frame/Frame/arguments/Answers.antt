@@ -1,5 +1,4 @@
-use Rattle.std.proofs.Common.{rules, arith, map, ap, subst}
-use Rattle.std.proofs.lemmas.Grind.{common_steps}
+use Rattle.std.proofs.Common.{map, ap, subst}
 use Rattle.expression_lang.specs.Sort.{Of}
 use Rattle.expression_lang.specs.CodeExpression.{exp_of}
 use Rattle.ac_interp.specs.CodeRun.{state_in, HaveSortsIn}

@@ -1,4 +1,4 @@
-use Rattle.std.proofs.Common.{rules, arith, map, ap, subst}
+use Rattle.std.proofs.Common.{arith, map, subst}
 use Rattle.std.proofs.lemmas.Grind.{common_steps}
 use Rattle.simpl_lang.specs.CodeCommand.{condition_of}
 use Rattle.ac_interp.specs.CodeRun.{HaveTruthsIn}

@@ -1,13 +1,11 @@
 use Rattle.std.proofs.Common.{rules, ◌≡◌, true, Option, Some, None, refl, sym, ap, subst, ◌∙◌}
 use Rattle.std.specs.Option.{option_map, IsSome}
-use Rattle.c_values.specs.Name.{with_name}
 use Rattle.c_values.specs.CodeValue.{value_of}
 use Rattle.expression_lang.specs.Sort.{Kind, is_kind, word_sort_of}
 use Rattle.expression_lang.specs.States.{IsOfSort}
-use Rattle.expression_lang.specs.Machine.{machine_with, with_local}
+use Rattle.expression_lang.specs.Machine.{machine_with}
 use Rattle.expression_lang.specs.declared.sort.Kind as K
 use Rattle.expression_lang.specs.CodeExpression.{kind_of}
-use Rattle.expression_lang.specs.CodeState.{env_of}
 use Rattle.simpl_lang.specs.Command as plain
 use Rattle.ac_interp.specs.CodeRun.{state_in, machine_in, locals_of, picked_value}
 use Rattle.ac_interp.proofs.Places.{pick_scalar}
@@ -49,11 +47,14 @@ put c =
     let k = known_kind f c.requires.frame c.args.name.now p.0 p.1 in
     let some : c.kind_in.result ≡ Some c.unwrap-kind.result = search rules in
     let same = kind_here c.kind_in.result c.unwrap-kind.result _ k.0 c.kind_in.ensures k.1 some in
-    let v : value_of c.picked.result ≡ picked_value f.fill k.0 = c.picked.ensures ∙ ap (picked_value f.fill) (sym same) in
-    (k.0, k.1, subst (λ w. IsPut f c.args.locals.now.items c.put.new.locals.items c.args.state.now c.args.name.now w) v
-      (local_put f c.args.locals.now.items c.put.new.locals.items c.args.state.now c.requires.frame c.requires.fits c.args.name.now (value_of c.picked.result) p.0 p.1
-        (subst (λ d. IsOfSort d (value_of c.picked.result)) k.2 (subst (λ w. IsOfSort (word_sort_of k.0) w) (sym v) (picked_sorted f.fill k.0)))
-        c.put.ensures))
+    let v : value_of c.picked.result ≡ picked_value f.fill k.0 = c.picked.ensures ∙ ap (picked_value f.fill) (sym same) in (
+      k.0,
+      k.1,
+      subst (λ w. IsPut f c.args.locals.now.items c.put.new.locals.items c.args.state.now c.args.name.now w) v
+          (local_put f c.args.locals.now.items c.put.new.locals.items c.args.state.now c.requires.frame c.requires.fits c.args.name.now (value_of c.picked.result) p.0 p.1
+          (subst (λ d. IsOfSort d (value_of c.picked.result)) k.2 (subst (λ w. IsOfSort (word_sort_of k.0) w) (sym v) (picked_sorted f.fill k.0)))
+          c.put.ensures),
+    )
 
 pub returns-clause-fits : goal.returns-clause-fits
 returns-clause-fits c = (put c).2.fits

@@ -1,4 +1,4 @@
-use Rattle.std.proofs.Common.{◌≡◌, Some, sym, ap, subst, ◌∙◌}
+use Rattle.std.proofs.Common.{sym, ap, subst, ◌∙◌}
 use Rattle.c_values.specs.Name.{with_name}
 use Rattle.c_values.specs.CodeValue.{value_of}
 use Rattle.expression_lang.specs.CodeState.{env_of}

@@ -1,4 +1,4 @@
-use Rattle.std.proofs.Common.{◌≡◌, Option, Some, List, map, sym, ap, ap₂, subst, ◌∙◌}
+use Rattle.std.proofs.Common.{◌≡◌, Option, Some, map, ap, ap₂, subst, ◌∙◌}
 use Rattle.c_values.specs.Types.{CType}
 use Rattle.c_values.specs.Layout.{shape_of}
 use Rattle.c_values.specs.Path.{HasShape, upd}
@@ -23,9 +23,9 @@ value-requires-clause-sorted c =
 
 changed : (c : goal.After-drop-steps-2) → map value_of c.change.new.globals.items
     ≡ change_in (position_of c.args.name.now (map global_of c.args.self.now.unit.now.globals.items))
-      (steps c.args.self.now.unit.now.layout (env_of c.args.locals.now.items) (state_in c.args.self.now.unit.now c.args.state.now) (path_of c.args.path.now))
-      (value c.args.self.now.unit.now.layout (env_of c.args.locals.now.items) (state_in c.args.self.now.unit.now c.args.state.now) (exp_of c.args.e.now))
-      (map value_of c.args.state.now.globals.items)
+    (steps c.args.self.now.unit.now.layout (env_of c.args.locals.now.items) (state_in c.args.self.now.unit.now c.args.state.now) (path_of c.args.path.now))
+    (value c.args.self.now.unit.now.layout (env_of c.args.locals.now.items) (state_in c.args.self.now.unit.now c.args.state.now) (exp_of c.args.e.now))
+    (map value_of c.args.state.now.globals.items)
 changed c =
     let x = c.args.name.now in
     let vars = c.args.self.now.unit.now.globals.items in
@@ -53,7 +53,7 @@ returns-clause-fits c =
         globals = types_changed l c.args.name.now (steps l (env_of bs) (state_in f.unit.now s) path) (value l (env_of bs) (state_in f.unit.now s) e) f.unit.now.globals.items s.globals.items c.change.new.globals.items
             c.requires.fits.state.globals (changed c)
             (λ t v k h. subst (λ u. HasShape (shape_of l u) (upd v (steps l (env_of bs) (state_in f.unit.now s) path) (value l (env_of bs) (state_in f.unit.now s) e))) (same_type p.1 k)
-              (part_put f c.requires.frame bs s c.requires.fits p.0 path e p.2 v (subst (λ u. HasShape (shape_of l u) v) (same_type k p.1) h)));
+            (part_put f c.requires.frame bs s c.requires.fits p.0 path e p.2 v (subst (λ u. HasShape (shape_of l u) v) (same_type k p.1) h)));
       };
     }
 
@@ -68,4 +68,4 @@ returns-clause-run c turns =
     let p = global_parts f c.args.name.now path e c.requires.sorted in
     ap (λ globals. Normal (machine_with (env_of bs) (state_with (byte_content s.heap) globals)))
     (globals_changed l c.args.name.now (steps l (env_of bs) (state_in f.unit.now s) path) (value l (env_of bs) (state_in f.unit.now s) e) f.unit.now.globals.items s.globals.items c.change.new.globals.items
-      c.requires.fits.state.globals (changed c) p.0 p.1)
+    c.requires.fits.state.globals (changed c) p.0 p.1)

@@ -1,4 +1,4 @@
-use Rattle.std.proofs.Common.{◌≡◌, ◌<◌, Some, map, sym, ap, subst, ◌∙◌}
+use Rattle.std.proofs.Common.{◌<◌, map, sym, ap, subst, ◌∙◌}
 use Rattle.std.specs.Option.{IsSomeAnd}
 use Rattle.c_values.specs.Types.{address_width}
 use Rattle.c_values.specs.Layout.{shape_of, space}
@@ -7,11 +7,10 @@ use Rattle.c_values.specs.Value.{word_in}
 use Rattle.c_values.specs.CodeTypes.{type_of}
 use Rattle.c_values.specs.CodeValue.{value_of}
 use Rattle.c_memory.specs.Heap.{IsHeap}
-use Rattle.c_memory.specs.CodeHeap.{byte_content, memory_of}
+use Rattle.c_memory.specs.CodeHeap.{memory_of}
 use Rattle.c_memory.specs.CodeStep.{step_of}
 use Rattle.expression_lang.specs.Sort.{Of, WordSort}
 use Rattle.expression_lang.specs.CodeExpression.{exp_of, path_of}
-use Rattle.ac_interp.specs.CodeRun.{state_in}
 use Rattle.ac_interp.proofs.Evaluated.{value_fits}
 use Rattle.ac_interp.proofs.Places.{store_parts}
 use Rattle.ac_interp.proofs.Placed.{bits_below, on_ok, placed}

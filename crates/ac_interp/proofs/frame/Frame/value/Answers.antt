@@ -1,4 +1,4 @@
-use Rattle.std.proofs.Common.{sym, ◌∙◌, subst}
+use Rattle.std.proofs.Common.{sym, subst}
 use Rattle.std.specs.Prelude.{IsSome}
 use Rattle.expression_lang.specs.Sort.{sort_of}
 use Rattle.expression_lang.specs.CodeExpression.{exp_of}
