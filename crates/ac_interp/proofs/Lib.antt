@@ -1,0 +1,16 @@
+pub mod LocalsLaws
+pub mod Steps
+pub mod Measures
+pub mod Depths
+pub mod Listed
+pub mod Walking
+pub mod Evaluated
+pub mod Parts
+pub mod Places
+pub mod Placed
+pub mod Given
+pub mod Changed
+pub mod Formed
+pub mod Runs
+pub mod Calls
+pub mod Indexed

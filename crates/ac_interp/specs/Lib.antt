@@ -1,0 +1,4 @@
+pub mod Narrow
+pub mod Locals
+pub mod Guarded
+pub mod CodeRun

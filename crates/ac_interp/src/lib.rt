@@ -1,0 +1,16 @@
+//! Interpreters: what a function of a unit does under a fill number, at a bound of turns.
+#![tactic(auto)]
+
+mod assignments;
+mod commands;
+mod ends;
+mod evaluation;
+mod frame;
+mod functions;
+mod kinds;
+mod locals;
+mod outcome;
+mod simpl;
+
+pub use outcome::{COutcome, CState};
+pub use simpl::run_simpl;
