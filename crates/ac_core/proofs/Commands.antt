@@ -10,10 +10,10 @@ use Rattle.std.proofs.lemmas.Bool.Decides.{nat_tests}
 use Rattle.std.proofs.lemmas.Grind.{common_steps}
 use Rattle.c_values.specs.Name.{Name, same_name}
 use Rattle.c_values.proofs.Laid.{name_is}
-use Rattle.ac_core.specs.Words.{Command, Show, Print, Translate, Check, Run, Prove, Sample, Trial, are_options, is_last_target, is_count, is_digit, has_files, has_count, where_holds, with_options, check_of, of_three, sample_of, trial_of, command_of, asked_of, is_printed, sampled_of}
-use Rattle.ac_core.specs.CodeWriting.{is_notation, word_of}
+use Rattle.ac_core.specs.Words.{Command, Show, Print, Translate, Check, Run, Prove, Sample, Trial, are_options, is_last_target, is_count, is_digit, has_files, has_count, where_holds, with_options, check_of, of_three, sample_of, trial_of, command_of, asked_of, form_of, sampled_of}
+use Rattle.ac_core.specs.CodeWriting.{form_in, word_of}
 use Rattle.ac_core.specs.declared.words.Writing.{Writing}
-use Rattle.ac_core.specs.declared.words.Writing.TheVariants.{Tree, Notation}
+use Rattle.ac_core.specs.declared.words.Writing.TheVariants.{Tree, Notation, Certificate}
 
 pub list_any-map : {X : Type 0} (p : X → Bool) → {Y : Type 0} (h : Y → X) (ys : List Y) → list_any p (map h ys) ≡ list_any (λ y. p (h y)) ys
 list_any-map p h [] = refl
@@ -54,7 +54,7 @@ pub is_some-trial_of : (ws : List Name) → is_some (trial_of ws) ≡ has_count 
 is_some-trial_of [] = refl
 is_some-trial_of (n ∷ ws) = is_some-where_holds (is_count n && is_last_target ws) (Trial n ws)
 
--- only `show` and `print` ask for the programs of a C text
+-- only `show`, `print` and `translate` ask for what a C text becomes
 
 not_where_holds : (b : Bool) (c : Command) → asked_of (Some c) ≡ None → asked_of (where_holds b c) ≡ None
 not_where_holds true c h = h
@@ -95,11 +95,11 @@ where_false false c d e h = h
 apart : (w v : Name) → (w ≡ v → ⊥) → same_name w v ≡ false
 apart w v h = false_from_ne_true (same_name w v) (λ e. h (name_is w v e))
 
-other_word : (w : Name) (ws : List Name) → (w ≡ codes "show" → ⊥) → (w ≡ codes "print" → ⊥) → asked_of (command_of (w ∷ ws)) ≡ None
-other_word w ws h k =
+other_word : (w : Name) (ws : List Name) → (w ≡ codes "show" → ⊥) → (w ≡ codes "print" → ⊥) → (w ≡ codes "translate" → ⊥) → asked_of (command_of (w ∷ ws)) ≡ None
+other_word w ws h k l =
     where_false (same_name w (codes "show")) _ _ (apart w (codes "show") h)
     (where_false (same_name w (codes "print")) _ _ (apart w (codes "print") k)
-    (not_either (same_name w (codes "translate")) _ _ (not_with_options Translate (λ _ _. refl) ws)
+    (where_false (same_name w (codes "translate")) _ _ (apart w (codes "translate") l)
     (not_either (same_name w (codes "check")) _ _ (not_check_of ws)
     (not_either (same_name w (codes "run")) _ _ (not_of_three Run (λ _ _ _ _. refl) ws)
     (not_either (same_name w (codes "prove")) _ _ (not_of_three Prove (λ _ _ _ _. refl) ws)
@@ -108,13 +108,14 @@ other_word w ws h k =
 
 -- no word, or another first one
 pub asks_nothing : {X : Type 0} (f : X → Name) (xs : List X) (x : X) (rest : List X) → xs ≡ x ∷ rest → (f x ≡ codes "show" → ⊥) →
-    (f x ≡ codes "print" → ⊥) → asked_of (command_of (map f xs)) ≡ None
-asks_nothing f xs x rest e h k = ap (λ ys. asked_of (command_of (map f ys))) e ∙ other_word (f x) (map f rest) h k
+    (f x ≡ codes "print" → ⊥) → (f x ≡ codes "translate" → ⊥) → asked_of (command_of (map f xs)) ≡ None
+asks_nothing f xs x rest e h k l = ap (λ ys. asked_of (command_of (map f ys))) e ∙ other_word (f x) (map f rest) h k l
 
 -- a word that asks for programs, and no file
 bare_word : (w : Writing) → asked_of (command_of (word_of w ∷ [])) ≡ None
 bare_word Tree = refl
 bare_word Notation = refl
+bare_word Certificate = refl
 
 pub asks_no_file : {X : Type 0} (f : X → Name) (xs : List X) (x : X) (rest : List X) (w : Writing) → xs ≡ x ∷ rest → f x ≡ word_of w → rest ≡ [] →
     asked_of (command_of (map f xs)) ≡ None
@@ -131,10 +132,15 @@ with_file Notation file ws = by (are_options ws) where
   by : (b : Bool) → asked_of (where_holds b (Print file ws)) ≡ cond b (Some (file, ws)) None
   by true = refl
   by false = refl
+with_file Certificate file ws = by (are_options ws) where
+  by : (b : Bool) → asked_of (where_holds b (Translate file ws)) ≡ cond b (Some (file, ws)) None
+  by true = refl
+  by false = refl
 
-written_with : (w : Writing) (file : Name) (ws : List Name) → are_options ws ≡ true → is_printed (command_of (word_of w ∷ file ∷ ws)) ≡ is_notation w
-written_with Tree file ws h = ap (λ b. is_printed (where_holds b (Show file ws))) h
-written_with Notation file ws h = ap (λ b. is_printed (where_holds b (Print file ws))) h
+written_with : (w : Writing) (file : Name) (ws : List Name) → are_options ws ≡ true → form_of (command_of (word_of w ∷ file ∷ ws)) ≡ form_in w
+written_with Tree file ws h = ap (λ b. form_of (where_holds b (Show file ws))) h
+written_with Notation file ws h = ap (λ b. form_of (where_holds b (Print file ws))) h
+written_with Certificate file ws h = ap (λ b. form_of (where_holds b (Translate file ws))) h
 
 module _ {X : Type 0} (f : X → Name) (xs : List X) (x : X) (rest : List X) (file : X) (ws : List X) (w : Writing) (e : xs ≡ x ∷ rest) (h : f x ≡ word_of w) (k : rest ≡ file ∷ ws) where
   words_are : map f xs ≡ word_of w ∷ f file ∷ map f ws
@@ -146,8 +152,8 @@ module _ {X : Type 0} (f : X → Name) (xs : List X) (x : X) (rest : List X) (fi
   pub asks_other : are_options (map f ws) ≡ false → asked_of (command_of (map f xs)) ≡ None
   asks_other o = ap (λ ys. asked_of (command_of ys)) words_are ∙ with_file w (f file) (map f ws) ∙ ap (λ b. cond b (Some (f file, map f ws)) None) o
 
-  pub asks_written : are_options (map f ws) ≡ true → is_printed (command_of (map f xs)) ≡ is_notation w
-  asks_written o = ap (λ ys. is_printed (command_of ys)) words_are ∙ written_with w (f file) (map f ws) o
+  pub asks_written : are_options (map f ws) ≡ true → form_of (command_of (map f xs)) ≡ form_in w
+  asks_written o = ap (λ ys. form_of (command_of ys)) words_are ∙ written_with w (f file) (map f ws) o
 
 -- only `sample` asks for so many functions
 

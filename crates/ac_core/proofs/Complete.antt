@@ -7,7 +7,6 @@ use Rattle.c_lex.specs.Tokens.{Tokens}
 use Rattle.c_grammar.specs.Tree.{External}
 use Rattle.c_meaning.specs.Levels.{AreDefaultLevels}
 use Rattle.generation.specs.Generate.{generated}
-use Rattle.monad_lang.specs.Program.{FinalUnit}
 use Rattle.c_lang.specs.Typed.{TypedUnit}
 use Rattle.typing_rules.specs.Checked.{Checked, Good, Bad}
 use Rattle.typing_rules.specs.Unit.{checked, IsTyped}
@@ -16,15 +15,15 @@ use Rattle.c_grammar.proofs.Texts.{one_tree}
 use Rattle.c_limits.specs.Limits.{first_limit}
 use Rattle.ac_base.specs.Count.{Rose}
 use Rattle.ac_base.specs.Sink.{grown}
-use Rattle.ac_core.specs.Words.{command_of, asked_of, is_printed, target_of, bytes_names, words_names, first_unknown, sampled_of, number_of}
+use Rattle.ac_core.specs.Words.{command_of, asked_of, form_of, target_of, bytes_names, words_names, first_unknown, sampled_of, number_of}
 use Rattle.typing_rules.specs.declared.fault.TypeKind.{TypeKind}
-use Rattle.ac_core.specs.Answer.{text_of, source_limit, is_function, has_long_function, IsWithin, IsTree, OfTree, IsTokensAnswer, OfTokens, IsTextAnswer, Reads, IsFileAnswer, IsUnread, IsAnswerTo, IsAnswer, EndsWith}
+use Rattle.ac_core.specs.Answer.{gives, source_limit, is_function, has_long_function, IsWithin, IsTree, OfTree, IsTokensAnswer, OfTokens, IsTextAnswer, Reads, IsFileAnswer, IsUnread, IsAnswerTo, IsAnswer, EndsWith}
 use Rattle.ac_core.specs.declared.status.Status.{Status}
 use Rattle.ac_core.specs.declared.status.Status.TheVariants.{Done, No, Words, Source, Text, ReadFault, WriteFault, Limit, Memory, NotYet}
 
 module _ (words : List Name) (contents : Name → Option (List ℕ)) (before after : Name → ℕ) (taken taken' : Option (List ℕ)) (sink_before sink_after : ℕ) where
-  abbrev writing : FinalUnit → List ℕ
-  writing = text_of (is_printed (command_of words))
+  abbrev given : List Name → TypedUnit → List ℕ → Type 0
+  given = gives (form_of (command_of words))
 
   nothing_unread : (asked : Option ℕ) (status : Status) (lines : List ℕ) → IsUnread asked words status lines → (status ≡ WriteFault → ⊥) × (status ≡ Memory → ⊥)
   nothing_unread (Some n) Done lines h = (λ e. cc, λ e. cc)
@@ -34,7 +33,7 @@ module _ (words : List Name) (contents : Name → Option (List ℕ)) (before aft
   nothing_unread None NotYet lines h = (λ e. cc, λ e. cc)
   nothing_unread None _ lines h = absurd h
 
-  nothing_to : (asked : Option (Name × List Name)) (status : Status) (lines : List ℕ) → IsAnswerTo writing asked words contents before after status lines → (status ≡ WriteFault → ⊥) × (status ≡ Memory → ⊥)
+  nothing_to : (asked : Option (Name × List Name)) (status : Status) (lines : List ℕ) → IsAnswerTo given asked words contents before after status lines → (status ≡ WriteFault → ⊥) × (status ≡ Memory → ⊥)
   nothing_to (Some (file, options)) Done lines h = (λ e. cc, λ e. cc)
   nothing_to (Some (file, options)) No lines h = (λ e. cc, λ e. cc)
   nothing_to (Some (file, options)) Words lines h = (λ e. cc, λ e. cc)
@@ -64,14 +63,14 @@ module _ (words : List Name) (contents : Name → Option (List ℕ)) (before aft
       (is_text : contents file ≡ Some text) (within : length text ≤ source_limit) (are_tokens : Tokens text ts) (is_tree : IsTree ts tree)
       (typed : IsTyped (target_of options) tree unit) (named : first_unknown (is_function unit) options ≡ None) (short : IsWithin options unit)
       (readable : Rose (before file) (after file) → ⊥) where
-    of_file : (status : Status) (lines : List ℕ) → IsAnswer words contents before after status lines → IsFileAnswer writing options file (Some text) (before file) (after file) status lines
+    of_file : (status : Status) (lines : List ℕ) → IsAnswer words contents before after status lines → IsFileAnswer (given options) options file (Some text) (before file) (after file) status lines
     of_file status lines h =
-        subst (λ c. IsFileAnswer writing options file c (before file) (after file) status lines) is_text
-        (subst (λ (s : Option (Name × List Name)). IsAnswerTo writing s words contents before after status lines) asks h)
+        subst (λ c. IsFileAnswer (given options) options file c (before file) (after file) status lines) is_text
+        (subst (λ (s : Option (Name × List Name)). IsAnswerTo given s words contents before after status lines) asks h)
 
     -- the text has no other tokens, and these have no other tree
-    of_tokens : (status : Status) (lines : List ℕ) → OfTokens writing options text status lines → IsTokensAnswer writing options ts status lines
-    of_tokens status lines h = subst (λ us. IsTokensAnswer writing options us status lines) (one_list text h.tokens ts h.are_tokens are_tokens) h.answer
+    of_tokens : (status : Status) (lines : List ℕ) → OfTokens (given options) options text status lines → IsTokensAnswer (given options) options ts status lines
+    of_tokens status lines h = subst (λ us. IsTokensAnswer (given options) options us status lines) (one_list text h.tokens ts h.are_tokens are_tokens) h.answer
 
     -- a tree of these tokens is this one
     this_tree : (other : List External) → IsTree ts other → other ≡ tree
@@ -87,16 +86,16 @@ module _ (words : List Name) (contents : Name → Option (List ℕ)) (before aft
     this_unit : (other : TypedUnit) (xs : List External) → IsTree ts xs → IsTyped (target_of options) xs other → other ≡ unit
     this_unit other xs is t = same_unit (checked (target_of options) tree) other (subst (λ ys. IsTyped (target_of options) ys other) (this_tree xs is) t) typed
 
-    not_untyped : (lines : List ℕ) → OfTree writing options ts Source lines → ⊥
+    not_untyped : (lines : List ℕ) → OfTree (given options) options ts Source lines → ⊥
     not_untyped lines h =
         not_bad (checked (target_of options) tree) h.answer.at h.answer.kind typed
         (subst (λ t. checked (target_of options) t ≡ Bad h.answer.at h.answer.kind) (this_tree h.tree h.is_tree) h.answer.first_bad)
 
-    not_source : (lines : List ℕ) → IsTokensAnswer writing options ts Source lines → ⊥
+    not_source : (lines : List ℕ) → IsTokensAnswer (given options) options ts Source lines → ⊥
     not_source lines (inl h) = h.no_tree tree is_tree.spells
     not_source lines (inr h) = not_untyped lines h
 
-    not_refused : (lines : List ℕ) → IsTextAnswer writing options text Source lines → ⊥
+    not_refused : (lines : List ℕ) → IsTextAnswer (given options) options text Source lines → ⊥
     not_refused lines (inl h) = tokens_or_fault text ts h.cause h.at are_tokens h.fault
     not_refused lines (inr h) = not_source lines (of_tokens Source lines h)
 
@@ -104,7 +103,7 @@ module _ (words : List Name) (contents : Name → Option (List ℕ)) (before aft
     some_none : (o : Option Name) (name : Name) → o ≡ Some name → o ≡ None → ⊥
     some_none o name h k = absurd cc
 
-    not_unknown : (lines : List ℕ) → IsTextAnswer writing options text Words lines → ⊥
+    not_unknown : (lines : List ℕ) → IsTextAnswer (given options) options text Words lines → ⊥
     not_unknown lines h =
         let of = of_tokens Words lines h in
         some_none (first_unknown (is_function unit) options) of.answer.answer.name
@@ -114,7 +113,7 @@ module _ (words : List Name) (contents : Name → Option (List ℕ)) (before aft
     not_long : (b : Bool) → b ≡ true → b ≡ false → ⊥
     not_long b h k = absurd cc
 
-    not_past : (lines : List ℕ) → IsTokensAnswer writing options ts Limit lines → ⊥
+    not_past : (lines : List ℕ) → IsTokensAnswer (given options) options ts Limit lines → ⊥
     not_past lines (inl past) =
         let e = one_tree past.passes.tree tree ts past.passes.spells is_tree.spells in
         let first = subst (λ t. first_limit t ≡ Some (past.limit, past.at)) e past.passes.first in
@@ -125,10 +124,10 @@ module _ (words : List Name) (contents : Name → Option (List ℕ)) (before aft
         not_long (has_long_function (generated unit long.levels)) (subst (λ u. has_long_function (generated u long.levels) ≡ true) e long.long)
         (short long.levels (subst (λ u. AreDefaultLevels u (bytes_names options) (words_names options) long.levels) e long.default))
 
-    read : (status : Status) (lines : List ℕ) → (h : Reads writing options (Some text) status lines) → IsTextAnswer writing options text status lines
-    read status lines h = subst (λ t. IsTextAnswer writing options t status lines) h.is_text h.answer
+    read : (status : Status) (lines : List ℕ) → (h : Reads (given options) options (Some text) status lines) → IsTextAnswer (given options) options text status lines
+    read status lines h = subst (λ t. IsTextAnswer (given options) options t status lines) h.is_text h.answer
 
-    is_done : (status : Status) (lines : List ℕ) → IsFileAnswer writing options file (Some text) (before file) (after file) status lines → status ≡ Done
+    is_done : (status : Status) (lines : List ℕ) → IsFileAnswer (given options) options file (Some text) (before file) (after file) status lines → status ≡ Done
     is_done Done lines h = refl
     is_done No lines h = absurd h.answer.answer.answer.answer
     is_done Words lines h = absurd (not_unknown lines (read Words lines h))

@@ -1,5 +1,5 @@
 -- What is shown of a typed text: exact programs of its class, or those of an accepted certificate.
-use Rattle.std.proofs.Common.{◌≡◌, ℕ, Bool, true, false, cond, List, ◌∷◌, map, Option, Some, None, inl, inr, refl, sym, subst, ap, ◌∙◌}
+use Rattle.std.proofs.Common.{◌≡◌, ℕ, Bool, true, false, cond, List, ◌∷◌, map, Option, Some, None, ◌⊎◌, inl, inr, refl, sym, subst, ap, ◌∙◌}
 use Rattle.std.specs.Prelude.{codes}
 use Rattle.c_values.specs.Name.{Name}
 use Rattle.c_values.specs.Types.{Target, Ilp32}
@@ -13,6 +13,7 @@ use Rattle.c_lang.specs.WellTyped.{IsWellTyped}
 use Rattle.c_meaning.specs.Levels.{AreDefaultLevels}
 use Rattle.generation.specs.Generate.{generated}
 use Rattle.ac_expr.specs.SameExp.{same_exp}
+use Rattle.simpl_lang.specs.Command.{SimplUnit}
 use Rattle.monad_lang.specs.Program.{FinalUnit}
 use Rattle.monad_lang.specs.Sorted.{IsWellFormed}
 use Rattle.exactness.specs.Exact.{AreProgramsOf, IsExact}
@@ -27,8 +28,9 @@ use Rattle.ac_core.specs.Sum.{SumFunction, levels}
 use Rattle.ac_core.specs.Sum as sums
 use Rattle.ac_core.specs.Class.{class_of}
 use Rattle.ac_core.specs.Spelled.{IsSpelled}
-use Rattle.ac_core.specs.Words.{bytes_names, words_names, names_none}
-use Rattle.ac_core.specs.Answer.{AreInNumbers, shown_class, AreSums, AreTranslated}
+use Rattle.ac_core.specs.Words.{bytes_names, words_names, names_none, first_unknown}
+use Rattle.ac_core.specs.Answer.{AreInNumbers, is_function, has_long_function, shown_class, AreSums, AreTranslated, Shows, certificate_for, Translates}
+use Rattle.ac_core.specs.CodeAsked.{IsGenerated}
 use Rattle.ac_core.proofs.ClassIsSum.{found_is_sum, found_ilp32}
 use Rattle.ac_core.proofs.ExactSum.{sum_exact, all_numbers, sum_programs}
 use Rattle.ac_core.proofs.TextNames.{text_well_formed, text_spelled}
@@ -75,4 +77,32 @@ module _ (t : Target) (tree : List External) (options : List Name) (u : TypedUni
         exact = subst (λ (v : FinalUnit). IsExact u at v) (sym is) (made_is_exact u well_typed at calls);
         well_formed = subst IsWellFormed (sym is) (last_formed u at cs well_typed accepted);
         formed = subst (λ (v : FinalUnit). AreOfTheirForms v.functions) (sym is) (last_forms u at cs well_typed accepted);
+      }
+
+-- what is written, where this was generated
+module _ (options : List Name) (u : TypedUnit) (g : SimplUnit) (named : first_unknown (is_function u) options ≡ None) (is : IsGenerated options u g) where
+  within : has_long_function (generated u is.levels) ≡ false
+  within = subst (λ h. has_long_function h ≡ false) is.is is.within
+
+  pub shows : (w : FinalUnit → List ℕ) (programs : FinalUnit) (lines : List ℕ) → AreSums options u programs ⊎ AreTranslated options u is.levels programs → lines ≡ w programs → Shows w options u lines
+  shows w programs lines shown e = record { named = named; levels = is.levels; default = is.default; within = within; programs = programs; shown = shown; written = e }
+
+  pub translates : IsWellTyped u → (lines : List ℕ) → lines ≡ certificate_for options (certificate_made same_exp g) → Translates options u lines
+  translates typed lines e =
+      let at = is.levels in
+      let calls : CallsLifted at u.functions = default_calls_lifted u (bytes_names options) (words_names options) at is.default typed in
+      let cs = certificate_made same_exp (generated u at) in
+      let accepted = certificate_is_accepted u typed at calls in
+      record {
+        named = named;
+        levels = at;
+        default = is.default;
+        within = within;
+        certificate = cs;
+        accepted = accepted;
+        of_unit = last_programs u at cs typed accepted;
+        exact = made_is_exact u typed at calls;
+        well_formed = last_formed u at cs typed accepted;
+        formed = last_forms u at cs typed accepted;
+        written = e ∙ ap (λ h. certificate_for options (certificate_made same_exp h)) is.is;
       }

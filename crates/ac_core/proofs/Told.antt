@@ -11,7 +11,6 @@ use Rattle.c_parse.specs.declared.fault.ParseFault.TheVariants as parse
 use Rattle.expression_lang.specs.Sort.{Level}
 use Rattle.c_meaning.specs.Levels.{AreDefaultLevels}
 use Rattle.generation.specs.Generate.{generated}
-use Rattle.monad_lang.specs.Program.{FinalUnit}
 use Rattle.c_lang.specs.Typed.{TypedUnit}
 use Rattle.typing_rules.specs.Unit.{IsTyped, IsFirstBad}
 use Rattle.typing_rules.specs.declared.fault.TypeKind.{TypeKind}
@@ -21,7 +20,7 @@ use Rattle.ac_core.specs.Answer.{is_function, has_long_function, IsTree, IsUnitA
 use Rattle.ac_core.specs.declared.status.Status.{Status}
 use Rattle.ac_core.specs.declared.status.Status.TheVariants.{Done, Words, Source, Limit}
 
-module _ (w : FinalUnit → List ℕ) (options : List Name) where
+module _ (w : TypedUnit → List ℕ → Type 0) (options : List Name) where
   pub unit_answer : (tree : List External) (unit : TypedUnit) (status : Status) (lines : List ℕ) → IsTyped (target_of options) tree unit → IsUnitAnswer w options unit status lines → IsTreeAnswer w options tree status lines
   unit_answer tree unit Done lines t a = record { unit = unit; typed = t; answer = a }
   unit_answer tree unit Words lines t a = record { unit = unit; typed = t; answer = a }

@@ -22,13 +22,17 @@ use Rattle.monad_lang.specs.Sorted.{IsWellFormed}
 use Rattle.ac_base.specs.Count.{Rose}
 use Rattle.ac_base.specs.Shelf.{AreWhole, IsLonger}
 use Rattle.ac_base.specs.Sink.{grown, TakesPart}
-use Rattle.ac_core.specs.Words.{command_of, asked_of, is_printed, target_of, bytes_names, words_names, names_none, first_unknown, sampled_of, number_of}
+use Rattle.ac_core.specs.Words.{Form, AsTree, AsLines, AsCertificate, command_of, asked_of, form_of, target_of, bytes_names, words_names, names_none, first_unknown, sampled_of, number_of}
 use Rattle.c_lang.specs.Typed.{TypedUnit}
 use Rattle.typing_rules.specs.Unit.{IsTyped, IsFirstBad}
 use Rattle.typing_rules.specs.declared.fault.TypeKind.{TypeKind}
 use Rattle.c_meaning.specs.Levels.{AreDefaultLevels}
 use Rattle.generation.specs.Generate.{generated}
 use Rattle.unit_translation.specs.Forms.{AreOfTheirForms}
+use Rattle.acceptance.specs.Certificate.{Steps}
+use Rattle.acceptance.specs.Accepted.{IsAccepted}
+use Rattle.acceptance_laws.specs.Units.{last_unit}
+use Rattle.certificate_text.specs.CertificateText.{Certificate, Two, certificate_text}
 use Rattle.ac_core.specs.Sum.{SumFunction, levels}
 use Rattle.ac_core.specs.Class.{class_of}
 use Rattle.ac_core.specs.Refusal.{cause_text, kind_text, source_line, limit_line}
@@ -53,11 +57,6 @@ AreInNumbers (f ∷ fs) = (is_numbers f.body ≡ true) × AreInNumbers fs
 pub record IsTree (ts : List Lexeme) (tree : List External) : Type 0 where
   pub spells : Spells tree ts
   pub within : first_limit tree ≡ None
-
--- how programs are written: in do-notation for `print`, else as a tree
-abbrev pub text_of : Bool → FinalUnit → List ℕ
-text_of true u = unit_lines u
-text_of false u = unit_text u
 
 -- the most commands that a generated function may have
 abbrev pub commands_limit : ℕ
@@ -100,9 +99,8 @@ pub record AreTranslated (options : List Name) (unit : TypedUnit) (levels : Name
   pub well_formed : IsWellFormed programs
   pub formed : AreOfTheirForms programs.functions
 
--- What is answered to a text, by how programs are written and by the options.
 module _ (written_as : FinalUnit → List ℕ) (options : List Name) where
-  -- Each function that an option names is there, and no function has more commands than it may have once it is generated at the
+  -- Programs are shown of a typed text. Each function that an option names is there, and no function has more commands than it may have once it is generated at the
   -- levels that the functions have by default and by the options; what is written is the text of exact programs.
   pub record Shows (unit : TypedUnit) (lines : List ℕ) : Type 0 where
     pub named : first_unknown (is_function unit) options ≡ None
@@ -113,6 +111,33 @@ module _ (written_as : FinalUnit → List ℕ) (options : List Name) where
     pub shown : AreSums options unit programs ⊎ AreTranslated options unit levels programs
     pub written : lines ≡ written_as programs
 
+-- the text of a certificate for the target that the options choose
+abbrev pub certificate_for : List Name → List Steps → List ℕ
+certificate_for options cs = certificate_text (record { version = Two (target_of options); functions = cs })
+
+-- A certificate is written of a typed text, for the target that the options choose, under the same conditions: one that is accepted for
+-- what is generated, so that its last programs are exact.
+pub record Translates (options : List Name) (unit : TypedUnit) (lines : List ℕ) : Type 0 where
+  pub named : first_unknown (is_function unit) options ≡ None
+  pub levels : Name → Level
+  pub default : AreDefaultLevels unit (bytes_names options) (words_names options) levels
+  pub within : has_long_function (generated unit levels) ≡ false
+  pub certificate : List Steps
+  pub accepted : IsAccepted (generated unit levels) certificate
+  pub of_unit : AreProgramsOf unit levels (last_unit (generated unit levels) certificate)
+  pub exact : IsExact unit levels (last_unit (generated unit levels) certificate)
+  pub well_formed : IsWellFormed (last_unit (generated unit levels) certificate)
+  pub formed : AreOfTheirForms (last_unit (generated unit levels) certificate).functions
+  pub written : lines ≡ certificate_for options certificate
+
+-- what is written of a typed text, by the command's form
+abbrev pub gives : Form → List Name → TypedUnit → List ℕ → Type 0
+gives AsTree options = Shows unit_text options
+gives AsLines options = Shows unit_lines options
+gives AsCertificate options = Translates options
+
+-- What is answered to a text, by what is written where it is typed, and by the options.
+module _ (given : TypedUnit → List ℕ → Type 0) (options : List Name) where
   -- some function has more commands
   pub record IsLong (unit : TypedUnit) (lines : List ℕ) : Type 0 where
     pub named : first_unknown (is_function unit) options ≡ None
@@ -129,7 +154,7 @@ module _ (written_as : FinalUnit → List ℕ) (options : List Name) where
 
   -- the answer to a typed text
   abbrev pub IsUnitAnswer : TypedUnit → Status → List ℕ → Type 0
-  IsUnitAnswer unit Done lines = Shows unit lines
+  IsUnitAnswer unit Done lines = given unit lines
   IsUnitAnswer unit Words lines = NamesNone unit lines
   IsUnitAnswer unit Limit lines = IsLong unit lines
   IsUnitAnswer unit _ lines = ⊥
@@ -232,13 +257,13 @@ IsUnread (Some n) words status lines = IsSampled n status lines
 IsUnread None words status lines = IsUnshown words status lines
 
 -- the answer to words: of the file whose programs they ask for, or of words that ask for none
-abbrev pub IsAnswerTo : (FinalUnit → List ℕ) → Option (Name × List Name) → List Name → (Name → Option (List ℕ)) → (Name → ℕ) → (Name → ℕ) → Status → List ℕ → Type 0
-IsAnswerTo text (Some (file, options)) words contents before after status lines = IsFileAnswer text options file (contents file) (before file) (after file) status lines
-IsAnswerTo text None words contents before after status lines = IsUnread (option_map number_of (sampled_of (command_of words))) words status lines
+abbrev pub IsAnswerTo : (List Name → TypedUnit → List ℕ → Type 0) → Option (Name × List Name) → List Name → (Name → Option (List ℕ)) → (Name → ℕ) → (Name → ℕ) → Status → List ℕ → Type 0
+IsAnswerTo given (Some (file, options)) words contents before after status lines = IsFileAnswer (given options) options file (contents file) (before file) (after file) status lines
+IsAnswerTo given None words contents before after status lines = IsUnread (option_map number_of (sampled_of (command_of words))) words status lines
 
 -- The answer where the sink doesn't fail. `before` and `after` are a name's counts of faults.
 abbrev pub IsAnswer : List Name → (Name → Option (List ℕ)) → (Name → ℕ) → (Name → ℕ) → Status → List ℕ → Type 0
-IsAnswer words = IsAnswerTo (text_of (is_printed (command_of words))) (asked_of (command_of words)) words
+IsAnswer words = IsAnswerTo (gives (form_of (command_of words))) (asked_of (command_of words)) words
 
 -- all lines of the answer were taken
 pub record Writes (words : List Name) (contents : Name → Option (List ℕ)) (before after : Name → ℕ) (taken taken' : Option (List ℕ)) (status : Status) : Type 0 where

@@ -97,15 +97,23 @@ command_of (w ∷ ws) =
     (if same_name w (codes "sample") then sample_of ws else
     (if same_name w (codes "trial") then trial_of ws else None)))))))
 
--- what is asked of a C text: the file and the options of `show` or `print`
+-- what is asked of a C text: the file and the options of `show`, `print` or `translate`
 abbrev pub asked_of : Option Command → Option (Name × List Name)
 asked_of (Some (Show file ws)) = Some (file, ws)
 asked_of (Some (Print file ws)) = Some (file, ws)
+asked_of (Some (Translate file ws)) = Some (file, ws)
 asked_of _ = None
 
-abbrev pub is_printed : Option Command → Bool
-is_printed (Some (Print file ws)) = true
-is_printed _ = false
+-- what is written of it: its programs as a tree or as lines for readers, or a certificate
+pub data Form : Type 0 where
+  AsTree : Form
+  AsLines : Form
+  AsCertificate : Form
+
+abbrev pub form_of : Option Command → Form
+form_of (Some (Print file ws)) = AsLines
+form_of (Some (Translate file ws)) = AsCertificate
+form_of _ = AsTree
 
 -- the word of `sample`'s number
 abbrev pub sampled_of : Option Command → Option Name

@@ -8,7 +8,7 @@ ghost use Rattle.c_lex.specs.Lexeme.{lexemes_of};
 ghost use Rattle.c_lex.specs.Tokens.{Tokens};
 ghost use Rattle.c_grammar.specs.CodeTree.{unit_of as tree_of};
 ghost use Rattle.typing_laws.specs.Written.{AreWritten};
-ghost use Rattle.ac_core.specs.CodeAsked.{writing_of, options_of};
+ghost use Rattle.ac_core.specs.CodeAsked.{gives_of, options_of};
 ghost use Rattle.ac_core.specs.Answer.{IsAnswer, IsUnread, IsSampled, IsUnshown, IsFileAnswer, IsTextAnswer, IsTokensAnswer, IsTreeAnswer};
 ghost use Rattle.ac_core.specs.declared.status.Status.{Status};
 
@@ -37,7 +37,7 @@ const SOURCE_LIMIT: u64 = 262_144;
 /// The most functions of a sample.
 const COUNT_LIMIT: u8 = 200;
 
-/// The answer to words. The shelf is asked for the file of `show` and of `print` alone.
+/// The answer to words. The shelf is asked for the file of `show`, `print` and `translate` alone.
 pub(crate) fn answer_to<H: Shelf>(
     alloc: Global,
     words: &[String],
@@ -102,7 +102,7 @@ fn show<H: Shelf>(
     asked: Asked<'_>,
     shelf: &mut H,
 ) -> Result<Answer, AllocError>
-    ensures answer { IfOk result (λ a. IsFileAnswer (writing_of asked.entry) (options_of asked.entry) file.now
+    ensures answer { IfOk result (λ a. IsFileAnswer (gives_of asked.entry) (options_of asked.entry) file.now
         (H.contents shelf.old file.now) (H.faults shelf.old file.now)
         (H.faults shelf.new file.now) a.status a.lines.items) }
     ensures contents { (name : List ℕ) → H.contents shelf.new name ≡ H.contents shelf.old name }
@@ -119,7 +119,7 @@ fn show<H: Shelf>(
 // What is shown of a text.
 fn show_text(alloc: Global, text: &[u8], asked: Asked<'_>) -> Result<Answer, AllocError>
     ensures { IfOk result (λ a.
-        IsTextAnswer (writing_of asked.entry) (options_of asked.entry) text.now a.status a.lines.items) }
+        IsTextAnswer (gives_of asked.entry) (options_of asked.entry) text.now a.status a.lines.items) }
 {
     match tokens(alloc, text) {
         Ok(tokens) => show_tokens(alloc, &tokens, asked),
@@ -130,7 +130,7 @@ fn show_text(alloc: Global, text: &[u8], asked: Asked<'_>) -> Result<Answer, All
 // What is shown of the tokens of a text.
 fn show_tokens(alloc: Global, tokens: &[Token], asked: Asked<'_>) -> Result<Answer, AllocError>
     requires { (text : List ℕ) × (length text < 2 ^ 64) × Tokens text (lexemes_of tokens.now) }
-    ensures { IfOk result (λ a. IsTokensAnswer (writing_of asked.entry) (options_of asked.entry)
+    ensures { IfOk result (λ a. IsTokensAnswer (gives_of asked.entry) (options_of asked.entry)
         (lexemes_of tokens.now) a.status a.lines.items) }
 {
     match parse(alloc, tokens) {
@@ -142,7 +142,7 @@ fn show_tokens(alloc: Global, tokens: &[Token], asked: Asked<'_>) -> Result<Answ
 // What is shown of a tree.
 fn show_tree(alloc: Global, tree: &Unit, asked: Asked<'_>) -> Result<Answer, AllocError>
     requires { AreWritten (tree_of tree.now) }
-    ensures { IfOk result (λ a. IsTreeAnswer (writing_of asked.entry) (options_of asked.entry)
+    ensures { IfOk result (λ a. IsTreeAnswer (gives_of asked.entry) (options_of asked.entry)
         (tree_of tree.now) a.status a.lines.items) }
 {
     match check_unit(alloc, target_of(asked.options), tree) {

@@ -12,11 +12,13 @@ ghost use Rattle.c_meaning.specs.Levels.{AreDefaultLevels};
 ghost use Rattle.simpl_lang.specs.CodeCommand.{simpl_unit_of};
 ghost use Rattle.monad_lang.specs.CodeProgram.{final_unit_of};
 ghost use Rattle.generation.specs.Generate as rules;
+ghost use Rattle.ac_expr.specs.SameExp.{same_exp};
+ghost use Rattle.acceptance_laws.specs.Made.{certificate_made};
+ghost use Rattle.unit_translation.specs.CodeTranslated.{AllReadyToLift};
 ghost use Rattle.ac_core.specs.CodeSum as sums;
-ghost use Rattle.ac_core.specs.CodeAsked.{writing_of, options_of};
-ghost use Rattle.ac_core.specs.CodeWriting.{is_notation};
+ghost use Rattle.ac_core.specs.CodeAsked.{gives_of, options_of, IsGenerated};
 ghost use Rattle.ac_core.specs.Words.{bytes_names, words_names, names_none, target_of, first_unknown};
-ghost use Rattle.ac_core.specs.Answer.{text_of, is_function, shown_class, AreSums, AreTranslated, IsUnitAnswer};
+ghost use Rattle.ac_core.specs.Answer.{certificate_for, is_function, shown_class, AreSums, AreTranslated, IsUnitAnswer};
 
 use crate::Status;
 use crate::answer::{Answer, line};
@@ -25,17 +27,18 @@ use crate::limits::has_long_function;
 use crate::refusal::unknown_name;
 use crate::shown_programs::write_program;
 use crate::sum::{SumFunction, translate};
-use crate::words::{Asked, Writing, first_unknown, names_after, names_none};
+use crate::words::{Asked, Writing, first_unknown, names_after, names_none, target_of};
 use abs_print::print;
 use c_lang::tree::TypedFn;
 use c_levels::default_modes;
 use c_types::TypedUnit;
+use certificate_text::{Certificate, Version, write};
 use monad_lang::FinalUnit;
 use simpl_gen::generate;
 use simpl_lang::SimplUnit;
 use std::alloc::{AllocError, Global};
 use std::collections::HashSet;
-use unit_translation::translate_generated;
+use unit_translation::{translate_functions, translate_generated};
 
 /// What is shown of a typed text.
 pub(crate) fn show_unit(
@@ -45,7 +48,7 @@ pub(crate) fn show_unit(
 ) -> Result<Answer, AllocError>
     requires { (tree : List External) × AreWritten tree
         × IsTyped (target_of (options_of asked)) tree (unit_of unit) }
-    ensures { IfOk result (λ a. IsUnitAnswer (writing_of asked.entry) (options_of asked.entry)
+    ensures { IfOk result (λ a. IsUnitAnswer (gives_of asked.entry) (options_of asked.entry)
         (unit_of unit) a.status a.lines.items) }
 {
     let functions = function_names(alloc, &unit.functions)?;
@@ -74,7 +77,7 @@ fn show_named(alloc: Global, unit: TypedUnit, asked: Asked<'_>) -> Result<Answer
     requires typed { (tree : List External) × AreWritten tree
         × IsTyped (target_of (options_of asked)) tree (unit_of unit) }
     requires named { first_unknown (is_function (unit_of unit)) (options_of asked) ≡ None }
-    ensures { IfOk result (λ a. IsUnitAnswer (writing_of asked.entry) (options_of asked.entry)
+    ensures { IfOk result (λ a. IsUnitAnswer (gives_of asked.entry) (options_of asked.entry)
         (unit_of unit) a.status a.lines.items) }
 {
     let bytes = names_after(alloc, "bytes=", asked.options)?;
@@ -84,11 +87,53 @@ fn show_named(alloc: Global, unit: TypedUnit, asked: Asked<'_>) -> Result<Answer
     if has_long_function(&generated) {
         return line(alloc, Status::Limit, "limit: commands\n");
     }
-    let programs = programs(alloc, unit, generated, asked.options)?;
+    let lines = written(alloc, unit, generated, asked)?;
     Ok(Answer {
         status: Status::Done,
-        lines: written(alloc, &programs, asked.writing)?,
+        lines,
     })
+}
+
+// What is written of a unit, once the levels that its functions have are chosen.
+fn written(
+    alloc: Global,
+    unit: TypedUnit,
+    generated: SimplUnit,
+    asked: Asked<'_>,
+) -> Result<Vec<u8>, AllocError>
+    requires typed { (tree : List External) × AreWritten tree
+        × IsTyped (target_of (options_of asked)) tree (unit_of unit) }
+    requires named { first_unknown (is_function (unit_of unit)) (options_of asked) ≡ None }
+    requires generated { IsGenerated (options_of asked) (unit_of unit) (simpl_unit_of generated) }
+    ensures { IfOk result (λ lines. gives_of asked.entry (unit_of unit) lines.items) }
+{
+    match asked.writing {
+        Writing::Tree => {
+            let programs = programs(alloc, unit, generated, asked.options)?;
+            write_program(alloc, &programs)
+        }
+        Writing::Notation => {
+            let programs = programs(alloc, unit, generated, asked.options)?;
+            print(alloc, &programs)
+        }
+        Writing::Certificate => certificate(alloc, &generated, asked.options),
+    }
+}
+
+// The certificate of what was generated, for the target that the options choose.
+fn certificate(
+    alloc: Global,
+    generated: &SimplUnit,
+    options: &[String],
+) -> Result<Vec<u8>, AllocError>
+    requires ready { AllReadyToLift (simpl_unit_of generated.now).functions
+        (simpl_unit_of generated.now).signatures }
+    ensures { IfOk result (λ lines. lines.items ≡ certificate_for (map string_bytes options.now)
+        (certificate_made same_exp (simpl_unit_of generated.now))) }
+{
+    let functions = translate_functions(alloc, generated)?;
+    let version = Version::Two(target_of(options));
+    write(alloc, &Certificate { version, functions })
 }
 
 // Exact programs: tidy ones of a text of the class, else those that the steps give.
@@ -128,15 +173,5 @@ fn shown_class(
         class_of(alloc, unit)
     } else {
         Ok(None)
-    }
-}
-
-fn written(alloc: Global, programs: &FinalUnit, writing: Writing) -> Result<Vec<u8>, AllocError>
-    ensures { IfOk result
-        (λ text. text.items ≡ text_of (is_notation writing) (final_unit_of programs.now)) }
-{
-    match writing {
-        Writing::Tree => write_program(alloc, programs),
-        Writing::Notation => print(alloc, programs),
     }
 }

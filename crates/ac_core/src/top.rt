@@ -18,7 +18,7 @@ use std::alloc::Global;
 /// Does what the words ask for: reads the files that they name from the shelf, and writes the
 /// answer, or the line of a fault, to the sink.
 ///
-/// So far `show`, `print` and `sample` are built. A text without globals that has at most one function, of
+/// So far `show`, `print`, `translate` and `sample` are built. A text without globals that has at most one function, of
 /// unsigned parameters, which returns a sum of them and of constants, is shown as tidy programs where
 /// no option names its function; of any other text the programs aren't made tidy yet.
 pub fn autocorres<H: Shelf, K: Sink>(

@@ -6,8 +6,8 @@ ghost use Rattle.std.specs.Option.{option_map};
 ghost use Rattle.std.specs.HashSet.{contains_text};
 ghost use Rattle.c_values.specs.Name.{is_among};
 ghost use Rattle.c_values.specs.CodeTypes as types;
-ghost use Rattle.ac_core.specs.CodeWriting.{is_notation, word_of};
-ghost use Rattle.ac_core.specs.Words.{command_of, asked_of, is_printed, ilp32_word, lp64_word, is_option, are_options, is_target, has_options, has_files, has_count, is_last_target, is_count, target_of, after_start, named, names_none, first_unknown, sampled_of, sample_of, number_of};
+ghost use Rattle.ac_core.specs.CodeWriting.{form_in, word_of};
+ghost use Rattle.ac_core.specs.Words.{command_of, asked_of, form_of, ilp32_word, lp64_word, is_option, are_options, is_target, has_options, has_files, has_count, is_last_target, is_count, target_of, after_start, named, names_none, first_unknown, sampled_of, sample_of, number_of};
 
 use c_values::Target;
 use std::alloc::{AllocError, Global};
@@ -20,6 +20,8 @@ pub(crate) enum Writing {
     Tree,
     /// In do-notation, for readers.
     Notation,
+    /// With all steps that lead to them, each with its tree of rules.
+    Certificate,
 }
 
 /// What is asked of a C text: how its programs are written, by which options.
@@ -29,13 +31,13 @@ pub(crate) struct Asked<'a> {
     pub(crate) options: &'a [String],
 }
 
-/// The file of `show` or `print`, and what is asked of it, where the words are of such a form.
+/// The file of `show`, `print` or `translate`, and what is asked of it, where the words are of such a form.
 pub(crate) fn asked_file(words: &[String]) -> Option<(&str, Asked<'_>)>
     ensures asked { IfSome result (λ (file, asked).
         asked_of (command_of (map string_bytes words.now))
         ≡ Some (file.now, map string_bytes asked.options.now)) }
-    ensures printed { IfSome result (λ (file, asked).
-        is_printed (command_of (map string_bytes words.now)) ≡ is_notation asked.writing) }
+    ensures form { IfSome result (λ (file, asked).
+        form_of (command_of (map string_bytes words.now)) ≡ form_in asked.writing) }
     ensures other { IfNone result (asked_of (command_of (map string_bytes words.now)) ≡ None) }
 {
     let Some((command, rest)) = words.split_first() else {
@@ -102,10 +104,12 @@ fn writing_of(command: &str) -> Option<Writing>
     ensures some { IfSome result (λ w. command.now ≡ word_of w) }
     ensures tree { IfNone result (command.now ≡ codes "show" → ⊥) }
     ensures notation { IfNone result (command.now ≡ codes "print" → ⊥) }
+    ensures certificate { IfNone result (command.now ≡ codes "translate" → ⊥) }
 {
     match command {
         "show" => Some(Writing::Tree),
         "print" => Some(Writing::Notation),
+        "translate" => Some(Writing::Certificate),
         _ => None,
     }
 }

@@ -7,3 +7,4 @@ pub returns-in_default-writing_of-clause-other : goal.returns-in_default-writing
 returns-in_default-writing_of-clause-other c =
     asks_nothing string_bytes _ _ _ c.in-Some.ensures.cases.0
     (λ e. c.in_default-writing_of.ensures.tree (c.as_str.ensures.value ∙ e)) (λ e. c.in_default-writing_of.ensures.notation (c.as_str.ensures.value ∙ e))
+    (λ e. c.in_default-writing_of.ensures.certificate (c.as_str.ensures.value ∙ e))
