@@ -19,8 +19,9 @@ use Rattle.monad_lang.specs.Sorted.{IsWellFormed}
 use Rattle.exactness.specs.Exact.{AreProgramsOf, IsExact}
 use Rattle.heap_ready.specs.Ready.{CallsLifted}
 use Rattle.heap_ready.proofs.DefaultLevels.{default_calls_lifted}
-use Rattle.acceptance_laws.specs.Made.{certificate_made}
+use Rattle.acceptance_laws.specs.Made.{tidy_certificate, AreTidy}
 use Rattle.acceptance_laws.specs.Units.{last_unit}
+use Rattle.acceptance_laws.proofs.MadeAccepted.{last_are_tidy}
 use Rattle.unit_translation.specs.Forms.{AreOfTheirForms}
 use Rattle.unit_translation.proofs.LastUnit.{certificate_is_accepted, made_is_exact}
 use Rattle.unit_translation.proofs.Formed.{last_formed, last_programs, last_forms}
@@ -66,16 +67,17 @@ module _ (t : Target) (tree : List External) (options : List Name) (u : TypedUni
   well_typed = typed_units_are_well_typed t tree u written typed
 
   pub translated_shown : shown_class options u ≡ None → (at : Name → Level) → AreDefaultLevels u (bytes_names options) (words_names options) at →
-      programs ≡ last_unit (generated u at) (certificate_made same_exp (generated u at)) → AreTranslated options u at programs
+      programs ≡ last_unit (generated u at) (tidy_certificate same_exp (generated u at)) → AreTranslated options u at programs
   translated_shown e at default' is =
       let calls : CallsLifted at u.functions = default_calls_lifted u (bytes_names options) (words_names options) at default' well_typed in
-      let cs = certificate_made same_exp (generated u at) in
+      let cs = tidy_certificate same_exp (generated u at) in
       let accepted = certificate_is_accepted u well_typed at calls in
       record {
         of_no_class = e;
         of_unit = subst (λ (v : FinalUnit). AreProgramsOf u at v) (sym is) (last_programs u at cs well_typed accepted);
         exact = subst (λ (v : FinalUnit). IsExact u at v) (sym is) (made_is_exact u well_typed at calls);
         well_formed = subst IsWellFormed (sym is) (last_formed u at cs well_typed accepted);
+        tidy = subst (λ (v : FinalUnit). AreTidy v.functions) (sym is) (last_are_tidy same_exp (generated u at) (generated u at).functions (generated u at).signatures);
         formed = subst (λ (v : FinalUnit). AreOfTheirForms v.functions) (sym is) (last_forms u at cs well_typed accepted);
       }
 

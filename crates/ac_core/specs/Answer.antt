@@ -28,6 +28,7 @@ use Rattle.typing_rules.specs.Unit.{IsTyped, IsFirstBad}
 use Rattle.typing_rules.specs.declared.fault.TypeKind.{TypeKind}
 use Rattle.c_meaning.specs.Levels.{AreDefaultLevels}
 use Rattle.generation.specs.Generate.{generated}
+use Rattle.acceptance_laws.specs.Made.{AreTidy}
 use Rattle.unit_translation.specs.Forms.{AreOfTheirForms}
 use Rattle.acceptance.specs.Certificate.{Steps}
 use Rattle.acceptance.specs.Accepted.{IsAccepted}
@@ -75,7 +76,7 @@ IsWithin options unit = (levels : Name → Level) → AreDefaultLevels unit (byt
 abbrev pub is_function : TypedUnit → Name → Bool
 is_function u x = is_among x (map (λ f. f.name) u.functions)
 
--- the class whose programs are tidy, where no option names a function
+-- the class whose programs are told to have names and numbers of the text alone, where no option names a function
 abbrev pub shown_class : List Name → TypedUnit → Option (List SumFunction)
 shown_class options u = if names_none options then class_of u else None
 
@@ -90,14 +91,14 @@ pub record AreSums (options : List Name) (unit : TypedUnit) (programs : FinalUni
   pub spelled : IsSpelled programs
   pub numbers : AreInNumbers programs.functions
 
--- These are the programs that the C functions are translated to, at their levels: well-formed, each of its level's form, and exact. They
--- aren't made tidy, so units of the class have programs as above.
+-- These are the programs that the C functions are translated to, at their levels: well-formed, each of its level's form, tidy, and exact.
 pub record AreTranslated (options : List Name) (unit : TypedUnit) (levels : Name → Level) (programs : FinalUnit) : Type 0 where
   pub of_no_class : shown_class options unit ≡ None
   pub of_unit : AreProgramsOf unit levels programs
   pub exact : IsExact unit levels programs
   pub well_formed : IsWellFormed programs
   pub formed : AreOfTheirForms programs.functions
+  pub tidy : AreTidy programs.functions
 
 module _ (written_as : FinalUnit → List ℕ) (options : List Name) where
   -- Programs are shown of a typed text. Each function that an option names is there, and no function has more commands than it may have once it is generated at the

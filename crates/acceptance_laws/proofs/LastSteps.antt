@@ -13,7 +13,10 @@ use Rattle.rule_eq.specs.Table.{point, Takes}
 use Rattle.rule_eq.specs.Tidy.{KeepsForms}
 use Rattle.acceptance.specs.Certificate.{Step, Steps}
 use Rattle.acceptance.specs.Accepted.{is_on_numbers, IsWordStep, IsEqualStep}
-use Rattle.acceptance_laws.specs.Made.{unchanged}
+use Rattle.c_values.specs.Layout.{IsLayout}
+use Rattle.monad_sorts.proofs.ValuesTold.{scalars_are}
+use Rattle.polish.proofs.Translated.{translation_is_tidy}
+use Rattle.acceptance_laws.specs.Made.{unchanged, begins_at, tidy_last}
 
 form_stays : (level : Level) (m n : Mon) → KeepsForms m n → is_form_of level m ≡ true → is_form_of level n ≡ true
 form_stays Bytes m n h k = h.bytes k
@@ -34,6 +37,18 @@ module _ (u : SimplUnit) (s : Signature) (c : Steps) where
             (form_stays c.level c.word.program c.equal.program forms p.1);
         takes = takes;
       }
+
+  -- to a tidy program
+  pub tidy_step : IsLayout u.layout → c.equal ≡ tidy_last u s c.word.program → IsWordStep u s c → IsEqualStep u s c
+  tidy_step laid e h =
+      let at = begins_at u s in
+      let p = and_parts (is_on_numbers u s c.word.program) (is_form_of c.level c.word.program) h.formed in
+      let given = scalars_are (result_scalars sort_of_kind s.result) (scalars_given at.setting c.word.program) p.0 in
+      let t = translation_is_tidy at laid c.word.program (result_scalars sort_of_kind s.result) given in
+      simpler_step
+      (subst (λ (x : Step Mon R.Rule). Takes at x.tree c.word.program x.program) (sym e) t.takes)
+      (ap (λ (x : Step Mon R.Rule). scalars_given at.setting x.program) e ∙ t.gives ∙ sym given)
+      (subst (λ (x : Step Mon R.Rule). KeepsForms c.word.program x.program) (sym e) t.forms) h
 
   -- to the program itself
   pub unchanged_step : c.equal ≡ unchanged c.word.program → IsWordStep u s c → IsEqualStep u s c

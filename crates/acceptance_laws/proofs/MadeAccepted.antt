@@ -32,15 +32,16 @@ use Rattle.heap_ready.proofs.UnitsReady.{generates_ready}
 use Rattle.word_ready.specs.GeneratesReady.{kinds_of_functions, kinds_in, on_words as after_heaps, IsWordReady, AreWordReady}
 use Rattle.word_ready.proofs.SignaturesAlike.{in_words_all, same_signatures}
 use Rattle.acceptance.specs.Certificate.{Steps}
-use Rattle.acceptance.specs.Accepted.{calls_only, is_lifted_there, calls_lifted, is_on_words, is_on_numbers, word_context, IsFunctionAccepted, AreFunctionsAccepted, IsAccepted}
-use Rattle.acceptance_laws.specs.Made.{local_made, word_made, IsMade, AreMade, steps_made, all_steps_made, certificate_made}
-use Rattle.acceptance_laws.specs.Units.{on_words, on_numbers}
+use Rattle.acceptance.specs.Accepted.{calls_only, is_lifted_there, calls_lifted, is_on_words, is_on_numbers, word_context, IsWordStep, IsEqualStep, IsFunctionAccepted, AreFunctionsAccepted, IsAccepted}
+use Rattle.acceptance_laws.specs.Made.{local_made, word_made, IsMade, AreMade, LastStep, steps_with, all_steps_with, certificate_with, unchanged_last, certificate_made, begins_at, tidy_last, tidy_certificate, AreTidy}
+use Rattle.acceptance_laws.specs.Units.{on_words, on_numbers, functions_with}
 use Rattle.acceptance_laws.proofs.Signed.{made, signed}
 use Rattle.acceptance_laws.proofs.UnitsMade.{words_signed, numbers_signed, gives_words, gives_numbers}
 use Rattle.acceptance_laws.proofs.UnreadCommands.{generated_on_bytes}
 use Rattle.acceptance_laws.proofs.MadeCalls.{level_there, calls_there}
 use Rattle.acceptance_laws.proofs.MadeSteps.{exception_accepted, local_accepted, heap_accepted, before_is, heap_form, word_there, word_accepted}
-use Rattle.acceptance_laws.proofs.LastSteps.{unchanged_step}
+use Rattle.acceptance_laws.proofs.LastSteps.{unchanged_step, tidy_step}
+use Rattle.polish.proofs.MadeTidy.{made_tidy}
 use Rattle.word_ready.proofs.UnitsReady.{generates_word_ready}
 use Rattle.pipeline.proofs.TranslatedExact.{translated_is_taken}
 
@@ -284,29 +285,48 @@ made_is_accepted same is_same finds u typed levels calls cs h =
     taken.local_formed.functions taken.heap_formed.functions taken.last_formed.functions (generates_ready u typed levels calls)
     (generates_word_ready u typed same finds levels) calls) h
 
--- so there is a certificate that is accepted
-steps_are_made : (same : Exp → Exp → Bool) (u : SimplUnit) (f : SimplFn) (s : Signature) →
-    IsMade same u f s (steps_made same u f s)
-steps_are_made same u f s = record {
-  name = refl;
-  level = refl;
-  exception = refl;
-  local = refl;
-  heap = refl;
-  word = ap (λ m. word_made same u f s m) (sym (before_is u f s (steps_made same u f s) refl refl));
-  equal = unchanged_step u s (steps_made same u f s) refl;
-}
+-- so a certificate is accepted whose last steps are
+module _ (last : LastStep) (same : Exp → Exp → Bool) (g : SimplUnit)
+    (ends : (s : Signature) (c : Steps) → c.equal ≡ last g s c.word.program → IsWordStep g s c → IsEqualStep g s c) where
+  steps_are_made : (f : SimplFn) (s : Signature) → IsMade same g f s (steps_with last same g f s)
+  steps_are_made f s = record {
+    name = refl;
+    level = refl;
+    exception = refl;
+    local = refl;
+    heap = refl;
+    word = ap (λ m. word_made same g f s m) (sym (before_is g f s (steps_with last same g f s) refl refl));
+    equal = ends s (steps_with last same g f s) refl;
+  }
 
-all_are_made : (same : Exp → Exp → Bool) (g : SimplUnit) (u : TypedUnit) (levels : Name → Level) (fs : List TypedFn) →
-    AreMade same g (made u.layout levels fs) (signed u.layout levels fs)
-    (all_steps_made same g (made u.layout levels fs) (signed u.layout levels fs))
-all_are_made same g u levels [] = tt
-all_are_made same g u levels (f ∷ fs) =
-    (steps_are_made same g (the_function u.layout levels f) (the_signature u.layout levels f), all_are_made same g u levels fs)
+  all_are_made : (u : TypedUnit) (levels : Name → Level) (fs : List TypedFn) →
+      AreMade same g (made u.layout levels fs) (signed u.layout levels fs)
+      (all_steps_with last same g (made u.layout levels fs) (signed u.layout levels fs))
+  all_are_made u levels [] = tt
+  all_are_made u levels (f ∷ fs) =
+      (steps_are_made (the_function u.layout levels f) (the_signature u.layout levels f), all_are_made u levels fs)
 
-pub certificates_are_there : (same : Exp → Exp → Bool) → ((a b : Exp) → same a b ≡ true → a ≡ b) →
-    ((e : Exp) → same e e ≡ true) → (u : TypedUnit) → IsWellTyped u → (levels : Name → Level) →
-    CallsLifted levels u.functions → IsAccepted (generated u levels) (certificate_made same (generated u levels))
-certificates_are_there same is_same finds u typed levels calls =
-    made_is_accepted same is_same finds u typed levels calls (certificate_made same (generated u levels))
-    (all_are_made same (generated u levels) u levels u.functions)
+module _ (same : Exp → Exp → Bool) (is_same : (a b : Exp) → same a b ≡ true → a ≡ b) (finds : (e : Exp) → same e e ≡ true)
+    (u : TypedUnit) (typed : IsWellTyped u) (levels : Name → Level) (calls : CallsLifted levels u.functions) where
+  pub accepted_with : (last : LastStep) →
+      ((s : Signature) (c : Steps) → c.equal ≡ last (generated u levels) s c.word.program → IsWordStep (generated u levels) s c → IsEqualStep (generated u levels) s c) →
+      IsAccepted (generated u levels) (certificate_with last same (generated u levels))
+  accepted_with last ends =
+      made_is_accepted same is_same finds u typed levels calls (certificate_with last same (generated u levels))
+      (all_are_made last same (generated u levels) ends u levels u.functions)
+
+  -- with last steps that change nothing
+  pub certificates_are_there : IsAccepted (generated u levels) (certificate_made same (generated u levels))
+  certificates_are_there = accepted_with unchanged_last (λ s c e. unchanged_step (generated u levels) s c e)
+
+  -- with last steps that make programs tidy
+  pub tidy_is_accepted : IsAccepted (generated u levels) (tidy_certificate same (generated u levels))
+  tidy_is_accepted = accepted_with tidy_last (λ s c e. tidy_step (generated u levels) s c typed.layout e)
+
+pub last_are_tidy : (same : Exp → Exp → Bool) (g : SimplUnit) (fs : List SimplFn) (ss : List Signature) →
+    AreTidy (functions_with on_numbers (λ c. c.equal.program) ss (all_steps_with tidy_last same g fs ss))
+last_are_tidy same g [] [] = tt
+last_are_tidy same g [] (s ∷ ss) = tt
+last_are_tidy same g (f ∷ fs) [] = tt
+last_are_tidy same g (f ∷ fs) (s ∷ ss) =
+    (made_tidy (begins_at g s) (steps_with tidy_last same g f s).word.program, last_are_tidy same g fs ss)

@@ -3,10 +3,12 @@
 -- accepted behind them, as one that changes nothing.
 use Rattle.std.specs.Prelude.{◌≡◌, Bool, true, false, List, [], ◌∷◌, Option, Some, None, if◌then◌else◌}
 use Rattle.expression_lang.specs.Expression.{Exp}
-use Rattle.expression_lang.specs.Sort.{is_lifted}
+use Rattle.expression_lang.specs.Sort.{is_lifted, sort_of_kind}
 use Rattle.expression_lang.specs.Signature.{Signature, names_of, kinds_of}
 use Rattle.simpl_lang.specs.Command.{Simpl, SimplFn, SimplUnit}
-use Rattle.monad_lang.specs.Program.{Mon}
+use Rattle.monad_lang.specs.Program.{Mon, FinalFn}
+use Rattle.monad_lang.specs.Form.{is_tidy}
+use Rattle.monad_lang.specs.Sorted.{setting_signed}
 use Rattle.rule_trees.specs.RuleTree.{node, no_trees}
 use Rattle.rule_exn.specs.Rule as Exceptions
 use Rattle.rule_exn.specs.Eliminated.{exceptions_eliminated}
@@ -20,6 +22,9 @@ use Rattle.rule_word.specs.Scopes.{names_in, with_kinds, result_as_list}
 use Rattle.rule_word.specs.ProgramsAbstracted.{program_abstracted}
 use Rattle.rule_word.specs.Ready.{is_numbers_level}
 use Rattle.rule_eq.specs.Rule as Equality
+use Rattle.rule_eq.specs.Rule.{Point}
+use Rattle.rule_eq.specs.Table.{point}
+use Rattle.polish.specs.Translation.{translation}
 use Rattle.acceptance.specs.Certificate.{Step, Steps, before_words}
 use Rattle.acceptance.specs.Accepted.{word_context, IsWordStep, IsEqualStep}
 
@@ -57,13 +62,13 @@ AreMade same u [] [] [] = Unit {0}
 AreMade same u (f ∷ fs) (s ∷ ss) (c ∷ cs) = IsMade same u f s c × AreMade same u fs ss cs
 AreMade same u _ _ _ = ⊥
 
--- A certificate whose last steps change nothing.
+-- Certificates, by what the last steps are.
 
-abbrev pub unchanged : Mon → Step Mon Equality.Rule
-unchanged m = record { program = m; tree = node Equality.Refl no_trees }
+abbrev pub LastStep : Type 0
+LastStep = SimplUnit → Signature → Mon → Step Mon Equality.Rule
 
-abbrev pub steps_made : (Exp → Exp → Bool) → SimplUnit → SimplFn → Signature → Steps
-steps_made same u f s =
+abbrev pub steps_with : LastStep → (Exp → Exp → Bool) → SimplUnit → SimplFn → Signature → Steps
+steps_with last same u f s =
     let local = local_made f s in
     let word = word_made same u f s (if is_lifted f.level then on_heaps local.program else local.program) in
     record {
@@ -73,12 +78,39 @@ steps_made same u f s =
       local = local;
       heap = heap_made (is_lifted f.level) local.program;
       word = word;
-      equal = unchanged word.program;
+      equal = last u s word.program;
     }
 
-abbrev pub all_steps_made : (Exp → Exp → Bool) → SimplUnit → List SimplFn → List Signature → List Steps
-all_steps_made same u (f ∷ fs) (s ∷ ss) = steps_made same u f s ∷ all_steps_made same u fs ss
-all_steps_made same u _ _ = []
+abbrev pub all_steps_with : LastStep → (Exp → Exp → Bool) → SimplUnit → List SimplFn → List Signature → List Steps
+all_steps_with last same u (f ∷ fs) (s ∷ ss) = steps_with last same u f s ∷ all_steps_with last same u fs ss
+all_steps_with last same u _ _ = []
+
+abbrev pub certificate_with : LastStep → (Exp → Exp → Bool) → SimplUnit → List Steps
+certificate_with last same u = all_steps_with last same u u.functions u.signatures
+
+-- A certificate whose last steps change nothing.
+
+abbrev pub unchanged : Mon → Step Mon Equality.Rule
+unchanged m = record { program = m; tree = node Equality.Refl no_trees }
+
+abbrev pub unchanged_last : LastStep
+unchanged_last u s m = unchanged m
 
 abbrev pub certificate_made : (Exp → Exp → Bool) → SimplUnit → List Steps
-certificate_made same u = all_steps_made same u u.functions u.signatures
+certificate_made same u = certificate_with unchanged_last same u
+
+-- A certificate whose last steps make programs tidy.
+
+abbrev pub begins_at : SimplUnit → Signature → Point
+begins_at u s = point [] (setting_signed sort_of_kind u.layout u.globals u.signatures s)
+
+abbrev pub tidy_last : LastStep
+tidy_last u s m = let p = translation (begins_at u s) m in record { program = p.program; tree = p.tree }
+
+abbrev pub tidy_certificate : (Exp → Exp → Bool) → SimplUnit → List Steps
+tidy_certificate same u = certificate_with tidy_last same u
+
+-- each program is tidy
+abbrev pub AreTidy : List FinalFn → Type 0
+AreTidy [] = Unit {0}
+AreTidy (f ∷ fs) = (is_tidy f.body ≡ true) × AreTidy fs

@@ -13,7 +13,7 @@ ghost use Rattle.pipeline.specs.Taken.{AreTaken};
 ghost use Rattle.acceptance.specs.Certificate.{Steps};
 ghost use Rattle.acceptance.specs.Accepted.{IsAccepted};
 ghost use Rattle.acceptance_laws.specs.Units.{flat_unit, local_unit, heap_unit, word_unit, last_unit};
-ghost use Rattle.acceptance_laws.specs.Made.{AreMade, certificate_made};
+ghost use Rattle.acceptance_laws.specs.Made.{AreMade, certificate_made, tidy_certificate, AreTidy};
 
 /// The units that a certificate makes, where it is accepted for what generation makes of a
 /// well-typed unit, are ones that the rules take to each other. So its last programs are exact, by
@@ -31,8 +31,8 @@ pub fn accepted_programs_are_exact()
 
 /// What the translations make of a well-typed unit is accepted, whatever its levels, where a
 /// function on typed heaps calls such functions alone, and with any last steps that are accepted
-/// behind them. So there is an accepted certificate, whose last steps change nothing. Expressions
-/// are compared by any test that holds of equal ones and of no others.
+/// behind them: with steps that change nothing, and with the steps that make programs tidy.
+/// Expressions are compared by any test that holds of equal ones and of no others.
 pub fn translations_are_accepted()
     ensures made { (same : Exp → Exp → Bool) → ((a b : Exp) → same a b ≡ true → a ≡ b) →
         ((e : Exp) → same e e ≡ true) → (u : TypedUnit) → IsWellTyped u → (levels : Name → Level) →
@@ -44,4 +44,9 @@ pub fn translations_are_accepted()
         ((e : Exp) → same e e ≡ true) → (u : TypedUnit) → IsWellTyped u → (levels : Name → Level) →
         CallsLifted levels u.functions →
         IsAccepted (generated u levels) (certificate_made same (generated u levels)) }
+    ensures tidy { (same : Exp → Exp → Bool) → ((a b : Exp) → same a b ≡ true → a ≡ b) →
+        ((e : Exp) → same e e ≡ true) → (u : TypedUnit) → IsWellTyped u → (levels : Name → Level) →
+        CallsLifted levels u.functions →
+        IsAccepted (generated u levels) (tidy_certificate same (generated u levels))
+        × AreTidy (last_unit (generated u levels) (tidy_certificate same (generated u levels))).functions }
 {}

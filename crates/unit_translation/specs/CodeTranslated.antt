@@ -13,7 +13,7 @@ use Rattle.rule_local.specs.Rule as Locals
 use Rattle.rule_heap.specs.Rule as Heaps
 use Rattle.acceptance.specs.Certificate.{Step}
 use Rattle.c_lang.specs.Typed.{TypedFn}
-use Rattle.acceptance_laws.specs.Made.{steps_made}
+use Rattle.acceptance_laws.specs.Made.{tidy_last, steps_with}
 use Rattle.acceptance_laws.specs.Units.{on_numbers}
 
 -- the program before words become numbers
@@ -22,7 +22,7 @@ program_before local None = local.program
 program_before local (Some heap) = heap.program
 
 abbrev pub last_program : SimplUnit → SimplFn → Signature → Mon
-last_program u f s = (steps_made same_exp u f s).equal.program
+last_program u f s = (steps_with tidy_last same_exp u f s).equal.program
 
 abbrev pub last_functions : SimplUnit → List SimplFn → List Signature → List FinalFn
 last_functions u (f ∷ fs) (s ∷ ss) = on_numbers s (last_program u f s) ∷ last_functions u fs ss

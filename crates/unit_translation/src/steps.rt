@@ -16,18 +16,19 @@ ghost use Rattle.rule_heap.specs.CodeRule as heaps;
 ghost use Rattle.rule_word.specs.CodeRule as words;
 ghost use Rattle.rule_eq.specs.CodeRule as equality;
 ghost use Rattle.acceptance.specs.CodeCertificate.{step_of, steps_of};
-ghost use Rattle.acceptance_laws.specs.Made.{exception_made, local_made, heap_made, word_made, unchanged, steps_made};
+ghost use Rattle.acceptance_laws.specs.Made.{exception_made, local_made, heap_made, word_made, tidy_last, steps_with};
 ghost use Rattle.unit_translation.specs.CodeTranslated.{IsReadyToLift, program_before};
 
 use acceptance::{Step, Steps};
 use expression_lang::{Kind, Level, Signature};
+use given_scalars::Unit;
 use monad_lang::Mon;
-use rule_trees::Tree;
+use program_sorts::Phase;
 use simpl_lang::{Simpl, SimplFn, SimplUnit};
 use std::alloc::{AllocError, Global};
 use word_abstract::FunctionKinds;
 
-/// What a certificate has for a function. Its last step changes nothing.
+/// What a certificate has for a function.
 pub(crate) fn steps(
     alloc: Global,
     u: &SimplUnit,
@@ -35,14 +36,14 @@ pub(crate) fn steps(
     s: &Signature,
 ) -> Result<Steps, AllocError>
     requires ready { IsReadyToLift (simpl_fn_of f.now) (signature_of s.now) }
-    ensures { IfOk result (λ c. steps_of c ≡ steps_made same_exp (simpl_unit_of u.now)
-        (simpl_fn_of f.now) (signature_of s.now)) }
+    ensures { IfOk result (λ c. steps_of c ≡ steps_with tidy_last same_exp
+        (simpl_unit_of u.now) (simpl_fn_of f.now) (signature_of s.now)) }
 {
     let exception = exception_step(alloc, f)?;
     let local = local_step(alloc, &exception.program, f, s)?;
     let heap = heap_step(alloc, &local.program, f.level)?;
     let word = word_step(alloc, before_words(&local, &heap), u, f, s)?;
-    let equal = unchanged(alloc, &word.program)?;
+    let equal = equal_step(alloc, &word.program, u, s)?;
     Ok(Steps {
         name: f.name.clone()?,
         level: f.level,
@@ -154,15 +155,22 @@ fn word_step(
     Ok(Step { program, tree })
 }
 
-// A step that changes nothing.
-fn unchanged(alloc: Global, m: &Mon) -> Result<Step<Mon, rule_eq::Rule>, AllocError>
-    ensures { IfOk result
-        (λ step. step_of mon_of equality.rule_of step ≡ unchanged (mon_of m.now)) }
+// Made tidy.
+fn equal_step(
+    alloc: Global,
+    left: &Mon,
+    u: &SimplUnit,
+    s: &Signature,
+) -> Result<Step<Mon, rule_eq::Rule>, AllocError>
+    ensures { IfOk result (λ step. step_of mon_of equality.rule_of step
+        ≡ tidy_last (simpl_unit_of u.now) (signature_of s.now) (mon_of left.now)) }
 {
-    let program = m.copy(alloc)?;
-    let tree = Tree {
-        rule: rule_eq::Rule::Refl,
-        parts: Vec::new(alloc),
+    let unit = Unit {
+        layout: &u.layout,
+        globals: &u.globals,
+        functions: &u.signatures,
+        phase: Phase::OnNumbers,
     };
+    let (program, tree) = polish::translate(alloc, left, unit, &s.params)?;
     Ok(Step { program, tree })
 }

@@ -15,7 +15,7 @@ ghost use Rattle.exactness.specs.Exact.{AreProgramsOf, IsExact};
 ghost use Rattle.heap_ready.specs.Ready.{CallsLifted};
 ghost use Rattle.acceptance.specs.Accepted.{IsAccepted};
 ghost use Rattle.acceptance.specs.CodeCertificate.{steps_of};
-ghost use Rattle.acceptance_laws.specs.Made.{certificate_made};
+ghost use Rattle.acceptance_laws.specs.Made.{tidy_certificate, AreTidy};
 ghost use Rattle.acceptance_laws.specs.Units.{last_unit};
 ghost use Rattle.c_levels.specs.CodeModes.{AreLevels};
 ghost use Rattle.unit_translation.specs.CodeTranslated.{AllReadyToLift, last_functions};
@@ -32,21 +32,21 @@ use simpl_lang::SimplUnit;
 use std::alloc::{AllocError, Global};
 
 /// The programs of a well-typed unit at the levels of its functions: exceptions taken out, locals
-/// lifted, loads made reads where a function is lifted, and words made numbers where its level says
-/// so. They are those of an accepted certificate, whose last steps change nothing; so where a lifted
-/// function calls lifted ones alone, they are exact. There is no answer only where memory is wanting.
+/// lifted, loads made reads where a function is lifted, words made numbers where its level says so,
+/// and all of it made tidy. They are those of an accepted certificate; so where a lifted function
+/// calls lifted ones alone, they are exact. There is no answer only where memory is wanting.
 pub fn translate_unit(alloc: Global, u: &TypedUnit, modes: &Modes) -> Result<FinalUnit, AllocError>
     requires typed { IsWellTyped (unit_of u.now) }
     requires one_each { length modes.now.levels.items ≡ length u.now.functions.items }
     ensures translated { IfOk result
         (λ v. (levels : Name → sorts.Level) → AreLevels (unit_of u.now) modes.now levels →
         final_unit_of v ≡ last_unit (generated (unit_of u.now) levels)
-        (certificate_made same_exp (generated (unit_of u.now) levels))) }
+        (tidy_certificate same_exp (generated (unit_of u.now) levels))) }
     ensures accepted { IfOk result
         (λ v. (levels : Name → sorts.Level) → AreLevels (unit_of u.now) modes.now levels →
         CallsLifted levels (unit_of u.now).functions →
         IsAccepted (generated (unit_of u.now) levels)
-        (certificate_made same_exp (generated (unit_of u.now) levels))) }
+        (tidy_certificate same_exp (generated (unit_of u.now) levels))) }
     ensures of_unit { IfOk result
         (λ v. (levels : Name → sorts.Level) → AreLevels (unit_of u.now) modes.now levels →
         CallsLifted levels (unit_of u.now).functions →
@@ -55,6 +55,7 @@ pub fn translate_unit(alloc: Global, u: &TypedUnit, modes: &Modes) -> Result<Fin
         (λ v. (levels : Name → sorts.Level) → AreLevels (unit_of u.now) modes.now levels →
         CallsLifted levels (unit_of u.now).functions →
         IsWellFormed (final_unit_of v) × AreOfTheirForms (final_unit_of v).functions) }
+    ensures tidy { IfOk result (λ v. AreTidy (final_unit_of v).functions) }
     ensures exact { IfOk result
         (λ v. (levels : Name → sorts.Level) → AreLevels (unit_of u.now) modes.now levels →
         CallsLifted levels (unit_of u.now).functions →
@@ -68,8 +69,9 @@ pub fn translate_unit(alloc: Global, u: &TypedUnit, modes: &Modes) -> Result<Fin
 /// they can be where it was generated for a well-typed unit.
 pub fn translate_generated(alloc: Global, u: SimplUnit) -> Result<FinalUnit, AllocError>
     requires ready { AllReadyToLift (simpl_unit_of u).functions (simpl_unit_of u).signatures }
-    ensures { IfOk result (λ v. final_unit_of v
-        ≡ last_unit (simpl_unit_of u) (certificate_made same_exp (simpl_unit_of u))) }
+    ensures last { IfOk result (λ v. final_unit_of v
+        ≡ last_unit (simpl_unit_of u) (tidy_certificate same_exp (simpl_unit_of u))) }
+    ensures tidy { IfOk result (λ v. AreTidy (final_unit_of v).functions) }
 {
     let functions = functions(alloc, &u)?;
     let SimplUnit {
@@ -90,7 +92,7 @@ pub fn translate_generated(alloc: Global, u: SimplUnit) -> Result<FinalUnit, All
 pub fn translate_functions(alloc: Global, u: &SimplUnit) -> Result<Vec<Steps>, AllocError>
     requires ready { AllReadyToLift (simpl_unit_of u.now).functions (simpl_unit_of u.now).signatures }
     ensures { IfOk result (λ steps. map steps_of steps.items
-        ≡ certificate_made same_exp (simpl_unit_of u.now)) }
+        ≡ tidy_certificate same_exp (simpl_unit_of u.now)) }
 {
     let mut made = Vec::new(alloc);
     let mut functions = u.functions.as_slice();

@@ -6,7 +6,7 @@ use Rattle.simpl_lang.specs.Command.{SimplUnit}
 use Rattle.simpl_lang.specs.CodeCommand.{simpl_unit_of}
 use Rattle.monad_lang.specs.CodeProgram.{final_unit_of}
 use Rattle.generation.specs.Generate.{generated}
-use Rattle.acceptance_laws.specs.Made.{certificate_made}
+use Rattle.acceptance_laws.specs.Made.{tidy_certificate}
 use Rattle.acceptance_laws.specs.Units.{last_unit}
 use Rattle.unit_translation.specs.CodeTranslated.{AllReadyToLift}
 use Rattle.unit_translation.proofs.ReadyToLift.{generated_are_ready}
@@ -31,8 +31,8 @@ returns-in-None c =
     of_result c.translate_generated.result _ _
     (λ v e levels default' is. inr (translated_shown (target_of (map string_bytes c.args.options.now)) c.requires.typed.0 (map string_bytes c.args.options.now) (unit_of c.args.unit)
     c.requires.typed.1 c.requires.typed.2 (final_unit_of v) (sym c.in_ok-functions.ensures ∙ ap (option_map (λ us. map function_of us.items)) c.in-None.is) levels default'
-    (e ∙ ap (λ g. last_unit g (certificate_made same_exp g)) is)))
-    c.translate_generated.ensures
+    (e ∙ ap (λ g. last_unit g (tidy_certificate same_exp g)) is)))
+    c.translate_generated.ensures.last
 
 pub translate-requires : goal.translate-requires
 translate-requires c =

@@ -4,14 +4,14 @@ use Rattle.ac_expr.specs.SameExp.{same_exp}
 use Rattle.expression_lang.specs.CodeSignature.{signature_of}
 use Rattle.simpl_lang.specs.CodeCommand.{simpl_fn_of, simpl_unit_of}
 use Rattle.acceptance.specs.CodeCertificate.{steps_of}
-use Rattle.acceptance_laws.specs.Made.{all_steps_made, certificate_made}
+use Rattle.acceptance_laws.specs.Made.{tidy_last, all_steps_with, tidy_certificate}
 use Rattle.unit_translation.specs.CodeTranslated.{AllReadyToLift}
 use Rattle.unit_translation.proofs.units.translate_functions.Given as goal
 
 abbrev pub invariant-functions : goal.invariant-functions
 invariant-functions l = record {
-  made : map steps_of l.made.items ++ all_steps_made same_exp (simpl_unit_of l.u) (map simpl_fn_of l.functions) (map signature_of l.signatures)
-      ≡ certificate_made same_exp (simpl_unit_of l.u);
+  made : map steps_of l.made.items ++ all_steps_with tidy_last same_exp (simpl_unit_of l.u) (map simpl_fn_of l.functions) (map signature_of l.signatures)
+      ≡ tidy_certificate same_exp (simpl_unit_of l.u);
   ready : AllReadyToLift (map simpl_fn_of l.functions) (map signature_of l.signatures);
 }
 

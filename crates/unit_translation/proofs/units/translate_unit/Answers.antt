@@ -10,7 +10,7 @@ use Rattle.monad_lang.specs.Sorted.{IsWellFormed}
 use Rattle.c_lang.specs.CodeTyped.{unit_of}
 use Rattle.generation.specs.Generate.{generated}
 use Rattle.exactness.specs.Exact.{AreProgramsOf, IsExact}
-use Rattle.acceptance_laws.specs.Made.{certificate_made}
+use Rattle.acceptance_laws.specs.Made.{tidy_certificate}
 use Rattle.acceptance_laws.specs.Units.{last_unit}
 use Rattle.unit_translation.specs.CodeTranslated.{AllReadyToLift}
 use Rattle.unit_translation.specs.Forms.{AreOfTheirForms}
@@ -34,19 +34,19 @@ translate_generated-requires c =
 pub returns-clause-translated : goal.returns-clause-translated
 returns-clause-translated c =
     on_ok c.translate_generated.result _ _
-    (λ v e levels are. e ∙ ap (λ h. last_unit h (certificate_made same_exp h)) (c.in_ok-generated.ensures.generated levels are))
-    c.translate_generated.ensures
+    (λ v e levels are. e ∙ ap (λ h. last_unit h (tidy_certificate same_exp h)) (c.in_ok-generated.ensures.generated levels are))
+    c.translate_generated.ensures.last
 
 pub returns-clause-accepted : goal.returns-clause-accepted
 returns-clause-accepted c =
-    on_ok c.translate_generated.result _ _ (λ v e levels are calls. certificate_is_accepted (unit_of c.args.u.now) c.requires.typed levels calls) c.translate_generated.ensures
+    on_ok c.translate_generated.result _ _ (λ v e levels are calls. certificate_is_accepted (unit_of c.args.u.now) c.requires.typed levels calls) c.translate_generated.ensures.last
 
 pub returns-clause-of_unit : goal.returns-clause-of_unit
 returns-clause-of_unit c =
     on_ok c.translate_generated.result _ _
     (λ v is levels are calls.
     let u = unit_of c.args.u.now in
-    let cs = certificate_made same_exp (generated u levels) in
+    let cs = tidy_certificate same_exp (generated u levels) in
     subst (λ (v : FinalUnit). AreProgramsOf u levels v) (sym (is levels are))
     (last_programs u levels cs c.requires.typed (certificate_is_accepted u c.requires.typed levels calls)))
     (returns-clause-translated c)
@@ -56,7 +56,7 @@ returns-clause-formed c =
     on_ok c.translate_generated.result _ _
     (λ v is levels are calls.
     let u = unit_of c.args.u.now in
-    let cs = certificate_made same_exp (generated u levels) in
+    let cs = tidy_certificate same_exp (generated u levels) in
     let accepted = certificate_is_accepted u c.requires.typed levels calls in
     subst (λ (v : FinalUnit). IsWellFormed v × AreOfTheirForms v.functions) (sym (is levels are))
     (last_formed u levels cs c.requires.typed accepted, last_forms u levels cs c.requires.typed accepted))
