@@ -89,11 +89,11 @@ module _ (options : List Name) (u : TypedUnit) (g : SimplUnit) (named : first_un
   pub shows : (w : FinalUnit → List ℕ) (programs : FinalUnit) (lines : List ℕ) → AreSums options u programs ⊎ AreTranslated options u is.levels programs → lines ≡ w programs → Shows w options u lines
   shows w programs lines shown e = record { named = named; levels = is.levels; default = is.default; within = within; programs = programs; shown = shown; written = e }
 
-  pub translates : IsWellTyped u → (lines : List ℕ) → lines ≡ certificate_for options (certificate_made same_exp g) → Translates options u lines
+  pub translates : IsWellTyped u → (lines : List ℕ) → lines ≡ certificate_for options (tidy_certificate same_exp g) → Translates options u lines
   translates typed lines e =
       let at = is.levels in
       let calls : CallsLifted at u.functions = default_calls_lifted u (bytes_names options) (words_names options) at is.default typed in
-      let cs = certificate_made same_exp (generated u at) in
+      let cs = tidy_certificate same_exp (generated u at) in
       let accepted = certificate_is_accepted u typed at calls in
       record {
         named = named;
@@ -106,5 +106,6 @@ module _ (options : List Name) (u : TypedUnit) (g : SimplUnit) (named : first_un
         exact = made_is_exact u typed at calls;
         well_formed = last_formed u at cs typed accepted;
         formed = last_forms u at cs typed accepted;
-        written = e ∙ ap (λ h. certificate_for options (certificate_made same_exp h)) is.is;
+        tidy = last_are_tidy same_exp (generated u at) (generated u at).functions (generated u at).signatures;
+        written = e ∙ ap (λ h. certificate_for options (tidy_certificate same_exp h)) is.is;
       }

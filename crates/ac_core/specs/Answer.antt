@@ -117,7 +117,7 @@ abbrev pub certificate_for : List Name → List Steps → List ℕ
 certificate_for options cs = certificate_text (record { version = Two (target_of options); functions = cs })
 
 -- A certificate is written of a typed text, for the target that the options choose, under the same conditions: one that is accepted for
--- what is generated, so that its last programs are exact.
+-- what is generated, so that its last programs are exact; they are tidy.
 pub record Translates (options : List Name) (unit : TypedUnit) (lines : List ℕ) : Type 0 where
   pub named : first_unknown (is_function unit) options ≡ None
   pub levels : Name → Level
@@ -129,6 +129,7 @@ pub record Translates (options : List Name) (unit : TypedUnit) (lines : List ℕ
   pub exact : IsExact unit levels (last_unit (generated unit levels) certificate)
   pub well_formed : IsWellFormed (last_unit (generated unit levels) certificate)
   pub formed : AreOfTheirForms (last_unit (generated unit levels) certificate).functions
+  pub tidy : AreTidy (last_unit (generated unit levels) certificate).functions
   pub written : lines ≡ certificate_for options certificate
 
 -- what is written of a typed text, by the command's form

@@ -13,7 +13,7 @@ ghost use Rattle.simpl_lang.specs.CodeCommand.{simpl_unit_of};
 ghost use Rattle.monad_lang.specs.CodeProgram.{final_unit_of};
 ghost use Rattle.generation.specs.Generate as rules;
 ghost use Rattle.ac_expr.specs.SameExp.{same_exp};
-ghost use Rattle.acceptance_laws.specs.Made.{certificate_made};
+ghost use Rattle.acceptance_laws.specs.Made.{tidy_certificate};
 ghost use Rattle.unit_translation.specs.CodeTranslated.{AllReadyToLift};
 ghost use Rattle.ac_core.specs.CodeSum as sums;
 ghost use Rattle.ac_core.specs.CodeAsked.{gives_of, options_of, IsGenerated};
@@ -129,7 +129,7 @@ fn certificate(
     requires ready { AllReadyToLift (simpl_unit_of generated.now).functions
         (simpl_unit_of generated.now).signatures }
     ensures { IfOk result (λ lines. lines.items ≡ certificate_for (map string_bytes options.now)
-        (certificate_made same_exp (simpl_unit_of generated.now))) }
+        (tidy_certificate same_exp (simpl_unit_of generated.now))) }
 {
     let functions = translate_functions(alloc, generated)?;
     let version = Version::Two(target_of(options));
