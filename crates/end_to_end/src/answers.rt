@@ -3,6 +3,7 @@
 use crate::type_rows::ROWS;
 use ac_base::{MemoryShelf, MemorySink};
 use ac_core::{Status, autocorres};
+use certificate_text::read;
 use std::alloc::{AllocError, Global};
 use std::test::Fail;
 
@@ -542,7 +543,11 @@ fn words_have_forms(rt: HostRuntime) -> Result<(), Fail> {
         ),
         (&["show", "a.c", "target=ilp32"], Status::Done, SUM_SHOWN),
         (&["print", "a.c"], Status::Done, SUM_PRINTED),
-        (&["translate", "a.c"], Status::NotYet, "not yet\n"),
+        (
+            &["translate", "a.c", "words=g"],
+            Status::Words,
+            "words: unknown g\n",
+        ),
         (&["check", "a.c", "c.cert"], Status::NotYet, "not yet\n"),
         (
             &["trial", "200", "target=lp64"],
@@ -556,6 +561,22 @@ fn words_have_forms(rt: HostRuntime) -> Result<(), Fail> {
         let (got, taken) = run(rt.alloc(), words, SUM, &SOUND)?;
         assert!(rt; got == *status);
         assert!(rt; taken.as_slice() == lines.as_bytes());
+    }
+    Ok(())
+}
+
+// The certificate of a text, for the target that options choose.
+#[test]
+fn certificates_are_written(rt: HostRuntime) -> Result<(), Fail> {
+    for (option, start) in [
+        ("target=ilp32", "(cert 2 ilp32 (fun f numbers (exception "),
+        ("target=lp64", "(cert 2 lp64 (fun f numbers (exception "),
+        ("bytes=f", "(cert 2 ilp32 (fun f bytes (exception "),
+    ] {
+        let (status, text) = run(rt.alloc(), &["translate", "a.c", option], SUM, &SOUND)?;
+        assert!(rt; status == Status::Done, "{option}");
+        assert!(rt; text.starts_with(start.as_bytes()), "{option}");
+        assert!(rt; read(rt.alloc(), &text).is_ok(), "{option}");
     }
     Ok(())
 }
@@ -619,10 +640,13 @@ fn functions_have_a_limit_of_commands(rt: HostRuntime) -> Result<(), Fail> {
     let (status, _) = run(rt.alloc(), &["show", "a.c"], &fits, &SOUND)?;
     assert!(rt; status == Status::Done);
     let long = stores(rt.alloc(), 200)?;
-    for command in ["show", "print"] {
+    for command in ["show", "print", "translate"] {
         let (status, taken) = run(rt.alloc(), &[command, "a.c"], &long, &SOUND)?;
         assert!(rt; status == Status::Limit, "{command}");
-        assert!(rt; taken.as_slice() == b"limit: commands\n", "{command}");
+        assert!(rt;
+            taken.as_slice() == "limit: commands\n".as_bytes(),
+            "{command}"
+        );
     }
     // On bytes no tag is watched, so a store is three commands.
     let (status, _) = run(rt.alloc(), &["show", "a.c", "bytes=w"], &long, &SOUND)?;

@@ -145,7 +145,8 @@ fn shows_plain_files(rt: HostRuntime) -> Result<(), Fail> {
         ("show ", "read fault: \n"),
         ("show f.c bytes=f target=lp64", "read fault: f.c\n"),
         ("print f.c words=f", "read fault: f.c\n"),
-        ("translate f.c", "not yet\n"),
+        ("translate f.c", "read fault: f.c\n"),
+        ("check f.c c.cert", "not yet\n"),
         (
             "sample 0",
             "struct node { unsigned v; struct node *next; };\n",

@@ -37,14 +37,14 @@ pub returns-in_ok-programs-in-Tree : goal.returns-in_ok-programs-in-Tree
 returns-in_ok-programs-in-Tree c =
     of_result c.write_program.result _ _
     (λ lines e. subst (λ w. gives (form_in w) (options_of c.args.asked) (unit_of c.args.unit) lines.items) (sym c.in-Tree.is)
-    (shows (options_of c.args.asked) (unit_of c.args.unit) (simpl_unit_of c.args.generated) c.requires.named c.requires.generated unit_text (final_unit_of c.in_ok-programs.programs) lines.items
-    (c.in_ok-programs.ensures c.requires.generated.levels c.requires.generated.default c.requires.generated.is) e))
+    (shows (options_of c.args.asked) (unit_of c.args.unit) (simpl_unit_of c.args.generated) c.requires.named c.requires.generated unit_text (final_unit_of c.in_ok-programs-in-Tree.programs) lines.items
+    (c.in_ok-programs-in-Tree.ensures c.requires.generated.levels c.requires.generated.default c.requires.generated.is) e))
     c.write_program.ensures
 
 pub returns-in_ok-programs-in-Notation : goal.returns-in_ok-programs-in-Notation
 returns-in_ok-programs-in-Notation c =
     of_result c.print.result _ _
     (λ lines e. subst (λ w. gives (form_in w) (options_of c.args.asked) (unit_of c.args.unit) lines.items) (sym c.in-Notation.is)
-    (shows (options_of c.args.asked) (unit_of c.args.unit) (simpl_unit_of c.args.generated) c.requires.named c.requires.generated unit_lines (final_unit_of c.in_ok-programs.programs) lines.items
-    (c.in_ok-programs.ensures c.requires.generated.levels c.requires.generated.default c.requires.generated.is) e))
+    (shows (options_of c.args.asked) (unit_of c.args.unit) (simpl_unit_of c.args.generated) c.requires.named c.requires.generated unit_lines (final_unit_of c.in_ok-programs-in-Notation.programs) lines.items
+    (c.in_ok-programs-in-Notation.ensures c.requires.generated.levels c.requires.generated.default c.requires.generated.is) e))
     c.print.ensures
