@@ -14,3 +14,5 @@ pub mod Formed
 pub mod Runs
 pub mod Calls
 pub mod Indexed
+pub mod Narrows
+pub mod WideOneEnd

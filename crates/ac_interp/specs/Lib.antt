@@ -2,3 +2,4 @@ pub mod Narrow
 pub mod Locals
 pub mod Guarded
 pub mod CodeRun
+pub mod WideRun

@@ -21,6 +21,7 @@ use std::alloc::AllocError;
 
 impl Frame<'_> {
     /// A local takes the value of an expression.
+    #[inline(never)]
     pub(crate) fn set(
         &self,
         name: &str,
@@ -42,6 +43,7 @@ impl Frame<'_> {
     }
 
     /// A local takes what is picked.
+    #[inline(never)]
     pub(crate) fn pick(&self, name: &str, locals: &mut Env, state: &CState)
         requires frame { IsFrame self.now }
         requires fits { Fits self.now locals.old.items state.now }
@@ -56,6 +58,7 @@ impl Frame<'_> {
     }
 
     /// The part of a global takes the value of an expression.
+    #[inline(never)]
     pub(crate) fn set_global(
         &self,
         name: &str,
@@ -80,6 +83,7 @@ impl Frame<'_> {
     }
 
     /// The part of an object in memory takes the value of an expression.
+    #[inline(never)]
     pub(crate) fn store(
         &self,
         t: &CType,

@@ -1,5 +1,6 @@
 //! Runs of commands. They go along the last parts of commands by a loop, since a text may have long
-//! sequences.
+//! sequences. What a step needs has functions of its own, which aren't inlined, so that few bytes of
+//! the stack are taken at each level.
 
 ghost use Rattle.std.specs.Prelude.{◌≡◌, ◌≤◌, true, map, string_bytes, OnOk, IfOk, Some};
 ghost use Rattle.std.specs.Option.{option_map};
@@ -25,6 +26,7 @@ use simpl_lang::{Condition, Simpl, SimplFn};
 impl Frame<'_> {
     /// Runs a command, at a bound of so many turns.
     #[cycle(runs)]
+    #[inline(never)]
     fn run(&self, c: &Simpl, turns: u32, locals: &mut Env, state: &mut CState) -> Result<Flow, Stop>
         requires frame { IsFrame self.now }
         requires fits { Fits self.now locals.old.items state.old }
@@ -94,6 +96,7 @@ impl Frame<'_> {
 
     // Runs a loop: its conditions and its test, and while it holds a turn.
     #[cycle(runs)]
+    #[inline(never)]
     fn repeat(
         &self,
         conditions: &[Condition],
@@ -137,6 +140,7 @@ impl Frame<'_> {
 
     // Calls a function, whose result goes to a local, if anywhere.
     #[cycle(runs)]
+    #[inline(never)]
     fn call(
         &self,
         target: &Option<String>,
@@ -180,6 +184,7 @@ impl Frame<'_> {
 
     /// Runs the body of a function, at a bound of so many turns. The frame is the function's.
     #[cycle(runs)]
+    #[inline(never)]
     pub(crate) fn returned(
         &self,
         function: &SimplFn,

@@ -27,6 +27,7 @@ use std::alloc::AllocError;
 
 impl Frame<'_> {
     /// The value of an expression.
+    #[inline(never)]
     pub(crate) fn value(&self, e: &Exp, locals: &Env, state: &CState) -> Result<Value, AllocError>
         requires frame { IsFrame self.now }
         requires fits { Fits self.now locals.now.items state.now }
@@ -51,6 +52,7 @@ impl Frame<'_> {
     }
 
     /// Whether a test holds.
+    #[inline(never)]
     pub(crate) fn test(&self, e: &Exp, locals: &Env, state: &CState) -> Result<bool, AllocError>
         requires frame { IsFrame self.now }
         requires fits { Fits self.now locals.now.items state.now }
@@ -97,6 +99,7 @@ impl Frame<'_> {
     }
 
     /// The kind of the first condition that doesn't hold.
+    #[inline(never)]
     pub(crate) fn broken(
         &self,
         conditions: &[Condition],
@@ -121,6 +124,7 @@ impl Frame<'_> {
     }
 
     /// The values of arguments, in order.
+    #[inline(never)]
     pub(crate) fn arguments(
         &self,
         exps: &[Exp],

@@ -8,6 +8,7 @@ mod evaluation;
 mod frame;
 mod functions;
 mod kinds;
+pub mod laws;
 mod locals;
 mod outcome;
 mod simpl;
