@@ -136,7 +136,7 @@ fn certificate(
     write(alloc, &Certificate { version, functions })
 }
 
-// Exact programs: tidy ones of a text of the class, else those that the steps give.
+// Exact programs: sums of a text of the class, else those that the steps give.
 fn programs(
     alloc: Global,
     unit: TypedUnit,

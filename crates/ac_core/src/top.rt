@@ -18,9 +18,10 @@ use std::alloc::Global;
 /// Does what the words ask for: reads the files that they name from the shelf, and writes the
 /// answer, or the line of a fault, to the sink.
 ///
-/// So far `show`, `print`, `translate` and `sample` are built. A text without globals that has at most one function, of
-/// unsigned parameters, which returns a sum of them and of constants, is shown as tidy programs where
-/// no option names its function; of any other text the programs aren't made tidy yet.
+/// So far `show`, `print`, `translate` and `sample` are built. Programs are tidy. Of a text without
+/// globals that has at most one function, of unsigned parameters, which returns a sum of them and of
+/// constants, it is also said that names and numbers of what is shown are those of the text, where
+/// no option names its function.
 pub fn autocorres<H: Shelf, K: Sink>(
     alloc: Global,
     words: &[String],
