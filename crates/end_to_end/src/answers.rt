@@ -581,13 +581,13 @@ fn certificates_are_written(rt: HostRuntime) -> Result<(), Fail> {
     Ok(())
 }
 
-// A sample's first functions, of each shape, and that the largest one is shown.
+// A sample's first functions, of each shape, which are shown, and that the largest one is written.
 #[test]
 fn samples_are_shown(rt: HostRuntime) -> Result<(), Fail> {
     let (status, sample) = run(rt.alloc(), &["sample", "6"], b"", &SOUND)?;
     assert!(rt; status == Status::Done);
     assert!(rt; sample.as_slice() == SAMPLE.as_bytes());
-    let (status, sample) = run(rt.alloc(), &["sample", "200"], b"", &SOUND)?;
+    let (status, _) = run(rt.alloc(), &["sample", "200"], b"", &SOUND)?;
     assert!(rt; status == Status::Done);
     let (status, programs) = run(rt.alloc(), &["show", "a.c"], &sample, &SOUND)?;
     assert!(rt; status == Status::Done);
