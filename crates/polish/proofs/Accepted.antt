@@ -23,17 +23,19 @@ use Rattle.rule_eq.specs.Rule.{Rule, Point}
 use Rattle.rule_eq.specs.Table.{Taken, before, taken_at, AreTaken, Takes, knowing, behind, within, with_values, row}
 use Rattle.rule_eq.proofs.SimplerKept.{simpler_gives}
 use Rattle.rule_eq.proofs.TidyPlaces.{put_stands, put_alike, one_in}
-use Rattle.polish.specs.Rewritten.{direct_step, more, direct_steps, direct_nodes}
-use Rattle.polish.specs.Shortened.{shortened}
-use Rattle.polish.specs.Known.{is_known}
+use Rattle.expression_steps.specs.Rewritten.{direct_nodes}
+use Rattle.polish.specs.Direct.{direct_step, more, direct_steps}
+use Rattle.expression_steps.specs.Shortened.{shortened}
+use Rattle.expression_steps.specs.Known.{is_known}
 use Rattle.polish.specs.Polished.{Polished, Way, leaf, exp_tree, bind_tree, if_tree, last_of, unchanged, at_once, and_then, shortened_in, what_is_bound, one_later, first_put, is_literal, first_constant, put_taken, put_at, turned, or_shorter, bound, then_all, settled, put_or_settled, parted, followed, chosen, turning, polished_with, polished_within, positions, polished}
 use Rattle.polish.proofs.Trees.{Gives, nothing_taken, joined_taken, bind_taken, if_taken, loop_taken}
 use Rattle.polish.proofs.Apart.{direct_apart}
 use Rattle.polish.proofs.Folds.{whole_constant}
 use Rattle.polish.proofs.Shortened.{shortened_steps, shortened_sorts, shortened_free}
-use Rattle.polish.proofs.KnownIs.{known_exactly}
+use Rattle.expression_steps.proofs.KnownIs.{known_exactly}
 use Rattle.polish.proofs.DirectSorts.{direct_gives}
-use Rattle.polish.proofs.Alike.{IsIf, IsLoop, steps_alike}
+use Rattle.polish.specs.Parts.{IsIf, IsLoop}
+use Rattle.polish.proofs.Alike.{steps_alike}
 
 -- the tree takes a program there, and it gives the same scalars
 pub record Reaches (at : Point) (t : Tree Rule) (m n : Mon) (cs : List Scalar) : Type 0 where

@@ -4,17 +4,11 @@ use Rattle.expression_lang.specs.Sort.{Scope}
 use Rattle.rule_eq.specs.Rule.{Point}
 use Rattle.monad_lang.specs.Program as M
 use Rattle.monad_lang.specs.Program.{Mon}
-use Rattle.polish.specs.Rewritten.{Choice, direct_step, more, direct_steps}
+use Rattle.expression_steps.specs.Rewritten.{Choice}
+use Rattle.polish.specs.Direct.{direct_step, more, direct_steps}
 use Rattle.polish.specs.Polished.{last_of}
+use Rattle.polish.specs.Parts.{IsIf, IsLoop}
 use Rattle.polish.proofs.Cases.{one_case, two_case, three_case}
-
-abbrev pub IsIf : Mon → Mon → Mon → Type 0
-IsIf m n (M.If e a b) = (a ≡ m) × (b ≡ n)
-IsIf m n r = ⊥
-
-abbrev pub IsLoop : Mon → Mon → Type 0
-IsLoop m (M.Loop starts guard test a) = a ≡ m
-IsLoop m r = ⊥
 
 -- no program is a part of it
 abbrev pub IsLeaf : Mon → Type 0

@@ -1,6 +1,6 @@
 -- Where a step is made, it is made in one of the parts.
 use Rattle.std.proofs.Common.{◌≡◌, Option, Some, None, refl, subst}
-use Rattle.polish.specs.Rewritten.{or_else, in_one, in_two, in_three}
+use Rattle.expression_steps.specs.Rewritten.{or_else, in_one, in_two, in_three}
 
 pub some_same : {A : Type 0} (a b : A) → ◌≡◌ {A = Option A} (Some a) (Some b) → a ≡ b
 some_same a b h = cc

@@ -9,7 +9,7 @@ use Rattle.rule_trees.specs.RuleTree.{Tree}
 use Rattle.rule_eq.specs.Rule as R
 use Rattle.rule_eq.specs.Rule.{Rule, Point}
 use Rattle.rule_eq.specs.Table.{taken_at, behind}
-use Rattle.polish.specs.Known.{is_known}
+use Rattle.expression_steps.specs.Known.{is_known}
 use Rattle.polish.specs.Polished.{Polished, Way, leaf, bind_tree, at_once, and_then, first_constant, put_taken, put_or_settled, turned, bound, then_all, settled, parted, followed}
 use Rattle.polish.specs.Climbed.{Made, after, Level, bottom, raised, climbed, Next, Enters, Skips, Stands, Turns, Puts, put_next, next_of}
 

@@ -20,7 +20,8 @@ use Rattle.monad_lang.specs.Sorted.{setting_with, start_scalars, place_sort, sca
 use Rattle.program_facts.proofs.Sorts.{none_is, then_parts, fits_parts, call_parts}
 use Rattle.rule_eq.specs.Rule.{Point}
 use Rattle.rule_eq.specs.Table.{within}
-use Rattle.polish.specs.Rewritten.{Choice, first_step, path_step, list_step, start_step, place_step, direct_step}
+use Rattle.expression_steps.specs.Rewritten.{Choice, first_step, path_step, list_step, start_step, place_step}
+use Rattle.polish.specs.Direct.{direct_step}
 use Rattle.polish.proofs.Cases.{one_case, two_case, three_case}
 use Rattle.polish.proofs.SortsKept.{KeepsSorts, step_sort, path_along}
 use Rattle.polish.proofs.TestsKept.{KeepsFree, step_has, path_has_step}

@@ -17,13 +17,14 @@ use Rattle.ac_expr.proofs.ConstantsComplete.{complete}
 use Rattle.ac_expr.proofs.Itself.{exp_itself}
 use Rattle.monad_lang.specs.Program.{Mon}
 use Rattle.rule_eq.specs.Rule.{Point}
-use Rattle.polish.specs.Rewritten.{or_else, direct_step, direct_nodes}
-use Rattle.polish.specs.Shortened.{folded, where_true, shorter_and, shorter_or, shorter_imp, shorter_if, is_flag, shorter_sum, shorter_value, shorter, shortened}
-use Rattle.polish.specs.Known.{is_known}
+use Rattle.expression_steps.specs.Rewritten.{or_else, direct_nodes}
+use Rattle.polish.specs.Direct.{direct_step}
+use Rattle.expression_steps.specs.Shortened.{folded, where_true, shorter_and, shorter_or, shorter_imp, shorter_if, is_flag, shorter_sum, shorter_value, shorter, shortened}
+use Rattle.expression_steps.specs.Known.{is_known}
 use Rattle.polish.specs.Polished.{shortened_in}
 use Rattle.polish.proofs.Cases.{some_same}
 use Rattle.polish.proofs.Fewer.{steps_end}
-use Rattle.polish.proofs.KnownIs.{known_exactly}
+use Rattle.expression_steps.proofs.KnownIs.{known_exactly}
 use Rattle.polish.proofs.Shortened.{shortened_nodes}
 
 -- after the steps in the expressions that stand in a program directly, none is left there

@@ -7,7 +7,8 @@ use Rattle.monad_lang.specs.Program as M
 use Rattle.monad_lang.specs.Program.{Mon, Place, Start}
 use Rattle.rule_eq.specs.Rule.{Point}
 use Rattle.rule_eq.specs.Table.{within}
-use Rattle.polish.specs.Rewritten.{Choice, first_step, path_step, list_step, start_step, place_step, direct_step, more, direct_steps, nodes, path_nodes, list_nodes, start_nodes, place_nodes, direct_nodes}
+use Rattle.expression_steps.specs.Rewritten.{Choice, first_step, path_step, list_step, start_step, place_step, nodes, path_nodes, list_nodes, start_nodes, place_nodes, direct_nodes}
+use Rattle.polish.specs.Direct.{direct_step, more, direct_steps}
 use Rattle.polish.specs.Polished.{last_of}
 use Rattle.polish.proofs.Cases.{first_case, one_case, two_case, three_case}
 

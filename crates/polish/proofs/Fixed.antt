@@ -12,7 +12,7 @@ use Rattle.rule_trees.specs.RuleTree.{Tree}
 use Rattle.rule_eq.specs.Rule as R
 use Rattle.rule_eq.specs.Rule.{Rule, Point}
 use Rattle.rule_eq.specs.Table.{Taken, taken_at, with_values, knowing, behind, within}
-use Rattle.polish.specs.Known.{is_known}
+use Rattle.expression_steps.specs.Known.{is_known}
 use Rattle.polish.specs.Polished.{Polished, Way, leaf, bind_tree, if_tree, loop_tree, unchanged, at_once, and_then, shortened_in, first_put, first_constant, put_taken, put_at, turned, or_shorter, bound, then_all, settled, put_or_settled, parted, followed, chosen, turning, polished_with, polished_within, positions, polished}
 use Rattle.polish.proofs.MadeTidy.{Tidied, positions_put, with_positions, one_fewer, tidy_parts, bound_made, followed_made, polished_made, within_made}
 

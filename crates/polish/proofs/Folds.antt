@@ -14,8 +14,8 @@ use Rattle.ac_expr.specs.Step.{is_open, no_state, constant_value, is_wide, AreCo
 use Rattle.program_facts.proofs.Sorts.{none_is}
 use Rattle.ac_expr.specs.CodeConstants.{computed, as_constant}
 use Rattle.ac_expr.proofs.ConstantsSound.{right}
-use Rattle.polish.specs.Rewritten.{nodes}
-use Rattle.polish.specs.Shortened.{folded}
+use Rattle.expression_steps.specs.Rewritten.{nodes}
+use Rattle.expression_steps.specs.Shortened.{folded}
 use Rattle.polish.proofs.Cases.{some_same}
 use Rattle.polish.proofs.Closed.{closed_sort, weaker, IsGood, closed_good}
 use Rattle.polish.proofs.Shorter.{some_nodes}

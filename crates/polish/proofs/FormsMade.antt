@@ -19,14 +19,16 @@ use Rattle.rule_eq.specs.Table.{AreTaken, taken_at, with_values, knowing, behind
 use Rattle.rule_eq.specs.Tidy.{KeepsForms}
 use Rattle.rule_eq.proofs.SimplerForms.{simpler_free}
 use Rattle.rule_eq.proofs.TidyPlaces.{put_stands}
-use Rattle.polish.specs.Rewritten.{Choice, first_step, list_step, start_step, place_step, direct_step, more, direct_steps, direct_nodes}
-use Rattle.polish.specs.Shortened.{shortened}
-use Rattle.polish.specs.Known.{is_known}
+use Rattle.expression_steps.specs.Rewritten.{Choice, first_step, list_step, start_step, place_step, direct_nodes}
+use Rattle.polish.specs.Direct.{direct_step, more, direct_steps}
+use Rattle.expression_steps.specs.Shortened.{shortened}
+use Rattle.expression_steps.specs.Known.{is_known}
 use Rattle.polish.specs.Polished.{Polished, Way, leaf, unchanged, at_once, and_then, last_of, shortened_in, what_is_bound, first_put, first_constant, put_taken, put_at, turned, or_shorter, bound, then_all, settled, put_or_settled, parted, followed, chosen, turning, polished_with, polished_within, positions, polished}
 use Rattle.polish.proofs.Cases.{one_case, two_case, three_case}
 use Rattle.polish.proofs.TestsKept.{KeepsFree, step_has, path_has_step, two_free}
 use Rattle.polish.proofs.Closed.{one_weaker, two_weaker, three_weaker}
-use Rattle.polish.proofs.Alike.{IsIf, IsLoop, steps_alike}
+use Rattle.polish.specs.Parts.{IsIf, IsLoop}
+use Rattle.polish.proofs.Alike.{steps_alike}
 use Rattle.polish.proofs.Accepted.{Put, constant_put, first_is_put, bound_holds}
 use Rattle.polish.proofs.Folds.{IsConstant}
 use Rattle.polish.proofs.Shortened.{shortened_free}

@@ -1,4 +1,3 @@
-pub mod KnownIs
 pub mod Cases
 pub mod Shorter
 pub mod Closed
@@ -23,3 +22,22 @@ pub mod StaysAccepted
 pub mod Shallow
 pub mod Translated
 pub mod Worked
+pub mod Walks
+pub mod Lists
+pub mod FirstPut
+pub mod Takings
+pub mod Nexts
+pub mod Descending
+pub mod Weighed
+pub mod Following
+pub mod Choices
+pub mod Putting
+pub mod Lightened
+pub mod Deeper
+pub mod Parting
+pub mod Starting
+pub mod Onward
+pub mod Passed
+pub mod Passing
+pub mod Rewriting
+pub mod Made

@@ -15,11 +15,12 @@ use Rattle.rule_eq.specs.Table.{Taken, before, taken_at, with_values, knowing, b
 use Rattle.rule_trees.specs.RuleTree.{Tree}
 use Rattle.ac_expr.specs.Fact.{Whole, NotTrue}
 use Rattle.rule_eq.proofs.PutIn.{some_taken}
-use Rattle.polish.specs.Rewritten.{direct_nodes}
-use Rattle.polish.specs.Shortened.{shortened}
-use Rattle.polish.specs.Known.{is_known}
+use Rattle.expression_steps.specs.Rewritten.{direct_nodes}
+use Rattle.expression_steps.specs.Shortened.{shortened}
+use Rattle.expression_steps.specs.Known.{is_known}
 use Rattle.polish.specs.Polished.{Polished, Way, leaf, unchanged, at_once, and_then, shortened_in, what_is_bound, one_later, first_put, first_constant, put_taken, put_at, turned, or_shorter, bound, then_all, settled, put_or_settled, parted, followed, chosen, turning, polished_with, polished_within, positions, polished}
-use Rattle.polish.proofs.Alike.{IsIf, IsLoop, IsLeaf, Alike, steps_alike}
+use Rattle.polish.specs.Parts.{IsIf, IsLoop}
+use Rattle.polish.proofs.Alike.{IsLeaf, Alike, steps_alike}
 use Rattle.polish.proofs.Accepted.{Put, constant_put, first_is_put}
 
 pub record Tidied (m : Mon) (n : ℕ) : Type 0 where

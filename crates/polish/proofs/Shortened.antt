@@ -7,8 +7,8 @@ use Rattle.expression_lang.specs.Form.{has}
 use Rattle.expression_lang.specs.Sort.{Sort, Scope, sort_of}
 use Rattle.ac_expr.specs.Fact.{Fact}
 use Rattle.ac_expr.specs.Step.{IsStep}
-use Rattle.polish.specs.Rewritten.{nodes}
-use Rattle.polish.specs.Shortened.{folded, shorter, shortened}
+use Rattle.expression_steps.specs.Rewritten.{nodes}
+use Rattle.expression_steps.specs.Shortened.{folded, shorter, shortened}
 use Rattle.polish.proofs.Cases.{first_case}
 use Rattle.polish.proofs.Folds.{IsConstant, folds, fold_free, fold_sorts, fold_nodes}
 use Rattle.polish.proofs.Shorter.{shorter_is, shortens_sorts, shortens_nodes, shortens_free}

@@ -12,11 +12,11 @@ use Rattle.ac_expr.specs.Fact.{Fact}
 use Rattle.ac_expr.specs.SameExp.{same_exp}
 use Rattle.ac_expr.specs.Step.{IsFlag, IsInWord, Shortens}
 use Rattle.ac_expr.proofs.SameExps.{exp_is}
-use Rattle.polish.specs.Rewritten.{nodes}
-use Rattle.polish.specs.Shortened.{where_true, by_right, shorter_and, shorter_or, shorter_imp, shorter_if, is_flag, shorter_unequal, shorter_not, shorter_sum, shorter_arith, shorter_word, shorter_value, shorter}
-use Rattle.polish.specs.Known.{is_known}
+use Rattle.expression_steps.specs.Rewritten.{nodes}
+use Rattle.expression_steps.specs.Shortened.{where_true, by_right, shorter_and, shorter_or, shorter_imp, shorter_if, is_flag, shorter_unequal, shorter_not, shorter_sum, shorter_arith, shorter_word, shorter_value, shorter}
+use Rattle.expression_steps.specs.Known.{is_known}
 use Rattle.polish.proofs.Cases.{some_same}
-use Rattle.polish.proofs.KnownIs.{known_exactly}
+use Rattle.expression_steps.proofs.KnownIs.{known_exactly}
 
 -- Rows
 

@@ -8,7 +8,7 @@ use Rattle.expression_lang.specs.Sort.{Sort, Scope, sort_of, shape_along, shape_
 use Rattle.ac_expr.specs.Fact.{Fact, Whole, NotTrue}
 use Rattle.ac_expr.specs.Heads.{path_children}
 use Rattle.ac_expr.proofs.PartsSorted.{IsSorted, AreSorted, children_sorted}
-use Rattle.polish.specs.Rewritten.{Choice, first_step, path_step}
+use Rattle.expression_steps.specs.Rewritten.{Choice, first_step, path_step}
 use Rattle.polish.proofs.Cases.{first_case, one_case, two_case, three_case}
 
 -- what stands in an expression's place has its sort

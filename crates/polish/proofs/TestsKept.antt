@@ -5,7 +5,7 @@ use Rattle.expression_lang.specs.Expression.{Exp, Var, WordLit, NumberLit, Truth
 use Rattle.expression_lang.specs.Form.{has, path_has}
 use Rattle.ac_expr.specs.Fact.{Fact, Whole, NotTrue}
 use Rattle.ac_expr.specs.Heads.{head, path_head, hole}
-use Rattle.polish.specs.Rewritten.{Choice, first_step, path_step}
+use Rattle.expression_steps.specs.Rewritten.{Choice, first_step, path_step}
 use Rattle.polish.proofs.Cases.{first_case, one_case, two_case, three_case}
 
 pub one_free : (t t' a a' : Bool) → t' ≡ t → (t || a) ≡ false → (a ≡ false → a' ≡ false) → (t' || a') ≡ false

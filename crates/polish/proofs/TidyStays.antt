@@ -12,9 +12,10 @@ use Rattle.ac_expr.specs.Fact.{Whole, NotTrue}
 use Rattle.rule_eq.specs.Rule as R
 use Rattle.rule_eq.specs.Rule.{Rule, Point}
 use Rattle.rule_eq.specs.Table.{knowing, behind, within}
-use Rattle.polish.specs.Rewritten.{direct_step, more, direct_steps, direct_nodes}
-use Rattle.polish.specs.Shortened.{shortened}
-use Rattle.polish.specs.Known.{is_known}
+use Rattle.expression_steps.specs.Rewritten.{direct_nodes}
+use Rattle.polish.specs.Direct.{direct_step, more, direct_steps}
+use Rattle.expression_steps.specs.Shortened.{shortened}
+use Rattle.expression_steps.specs.Known.{is_known}
 use Rattle.polish.specs.Polished.{Polished, Way, leaf, exp_tree, bind_tree, last_of, unchanged, at_once, and_then, shortened_in, what_is_bound, one_later, first_put, is_literal, first_constant, put_at, turned, or_shorter, bound, then_all, settled, put_or_settled, followed, chosen, turning, in_choice, in_loop, polished_with, polished_within, positions, polished}
 
 none_first : (front : List Name) (es : List Exp) (xs : List Name) (n : Mon) → some_can_be_put front es xs n ≡ false →

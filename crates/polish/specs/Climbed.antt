@@ -8,7 +8,7 @@ use Rattle.monad_lang.specs.Form.{is_bind_ret, all_kept}
 use Rattle.rule_trees.specs.RuleTree.{Tree}
 use Rattle.rule_eq.specs.Rule.{Rule, Point}
 use Rattle.rule_eq.specs.Table.{behind}
-use Rattle.polish.specs.Known.{is_known}
+use Rattle.expression_steps.specs.Known.{is_known}
 use Rattle.polish.specs.Polished.{Polished, Way, bind_tree, and_then, first_constant, bound}
 
 -- a tree, and the program that it leads to

@@ -20,9 +20,10 @@ use Rattle.rule_trees.specs.RuleTree.{Tree, node, no_trees, tree}
 use Rattle.rule_eq.specs.Rule as R
 use Rattle.rule_eq.specs.Rule.{Rule, Point}
 use Rattle.rule_eq.specs.Table.{Taken, taken_at, with_values, knowing, behind, within}
-use Rattle.polish.specs.Rewritten.{direct_steps, direct_nodes}
-use Rattle.polish.specs.Shortened.{shortened}
-use Rattle.polish.specs.Known.{is_known}
+use Rattle.expression_steps.specs.Rewritten.{direct_nodes}
+use Rattle.polish.specs.Direct.{direct_steps}
+use Rattle.expression_steps.specs.Shortened.{shortened}
+use Rattle.expression_steps.specs.Known.{is_known}
 
 -- a program, and the tree of the rules that led there
 pub record Polished : Type 0 where

@@ -9,8 +9,8 @@ ghost use Rattle.ac_expr.specs.Step.{IsStep};
 ghost use Rattle.monad_lang.specs.Program.{Mon};
 ghost use Rattle.monad_lang.specs.Sorted.{scalars_given};
 ghost use Rattle.rule_eq.specs.Rule.{Point};
-ghost use Rattle.polish.specs.Rewritten.{direct_step};
-ghost use Rattle.polish.specs.Shortened.{shortened};
+ghost use Rattle.polish.specs.Direct.{direct_step};
+ghost use Rattle.expression_steps.specs.Shortened.{shortened};
 ghost use Rattle.polish.specs.Polished.{polished, shortened_in};
 ghost use Rattle.polish.specs.Translation.{translation, IsTidyOf};
 

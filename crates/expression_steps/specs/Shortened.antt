@@ -9,8 +9,8 @@ use Rattle.expression_lang.specs.Sort.{Scope, sort_of, is_width, is_word_of}
 use Rattle.ac_expr.specs.Fact.{Fact}
 use Rattle.ac_expr.specs.SameExp.{same_exp}
 use Rattle.ac_expr.specs.CodeConstants.{computed, as_constant}
-use Rattle.polish.specs.Rewritten.{Choice, or_else}
-use Rattle.polish.specs.Known.{is_known}
+use Rattle.expression_steps.specs.Rewritten.{Choice, or_else}
+use Rattle.expression_steps.specs.Known.{is_known}
 
 -- the value of an expression of constants alone that isn't a constant already, as far as 128 bits go
 abbrev pub folded : Layout → Exp → Option Exp

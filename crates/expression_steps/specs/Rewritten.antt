@@ -1,13 +1,14 @@
 -- The first step in an expression that a choice of steps makes: outermost first, then from left to right, with the facts that
 -- flow to each part. And the first step in the expressions that stand in a program directly.
-use Rattle.std.specs.Prelude.{ℕ, zero, suc, ◌+◌, List, [], ◌∷◌, Option, Some, None}
+use Rattle.std.specs.Prelude.{ℕ, zero, suc, ◌+◌, List, [], ◌∷◌, Option, Some, None, unwrap_or}
 use Rattle.expression_lang.specs.Expression.{Exp, Var, WordLit, NumberLit, TruthLit, WordBinary, WordShift, WordUnary, WordCompare, Cast, ToNat, ToInt, ToWord, Arith, Negate, Lt, Le, Between, Eq, And, Or, Imp, Not, If, Padd, At, Load, Read, Tagged, PtrOk, Global, Sel, Upd, Path, Here, IntoField, IntoElement}
 use Rattle.expression_lang.specs.Sort.{Scope}
+use Rattle.expression_lang.specs.Sorted.{scope_with}
 use Rattle.ac_expr.specs.Fact.{Fact, Whole, NotTrue}
 use Rattle.monad_lang.specs.Program as M
 use Rattle.monad_lang.specs.Program.{Mon, Place, Start}
-use Rattle.rule_eq.specs.Rule.{Point}
-use Rattle.rule_eq.specs.Table.{within}
+use Rattle.monad_lang.specs.Run.{start_names}
+use Rattle.monad_lang.specs.Sorted.{start_scalars}
 
 -- what is to stand in the place of an expression under the facts that are known there, where a step is made
 abbrev pub Choice : Type 0
@@ -99,32 +100,24 @@ place_step f fs (M.Stored t p path) = in_two (λ x y. M.Stored t x y) p path (fi
 place_step f fs (M.Written t p path) = in_two (λ x y. M.Written t x y) p path (first_step f fs p) (path_step f fs path)
 place_step f fs (M.Global x path) = in_one (λ y. M.Global x y) (path_step f fs path)
 
+-- what is in scope in a loop that begins so
+abbrev pub scope_started : List Start → Scope → Scope
+scope_started starts g = scope_with (start_names starts) (unwrap_or (start_scalars g starts) []) g
+
 -- in the expressions that stand in the program directly; a loop's guard has no facts, and its test the guard, over its names
-abbrev pub direct_step : (Scope → Choice) → Point → Mon → Option Mon
-direct_step f at (M.Ret es) = in_one (λ xs. M.Ret xs) (list_step (f at.setting.scope) at.facts es)
-direct_step f at (M.Bind m xs n) = None
-direct_step f at (M.Guard e) = in_one (λ x. M.Guard x) (first_step (f at.setting.scope) at.facts e)
-direct_step f at (M.If e m n) = in_one (λ x. M.If x m n) (first_step (f at.setting.scope) at.facts e)
-direct_step f at (M.Write place e) =
-    in_two (λ x y. M.Write x y) place e (place_step (f at.setting.scope) at.facts place)
-    (first_step (f at.setting.scope) at.facts e)
-direct_step f at (M.Loop starts guard test m) =
-    let inner = f (within starts [] at).setting.scope in
-    in_three (λ x y z. M.Loop x y z m) starts guard test (start_step (f at.setting.scope) at.facts starts)
-    (first_step inner [] guard)
+abbrev pub direct_step_in : (Scope → Choice) → Scope → List Fact → Mon → Option Mon
+direct_step_in f g fs (M.Ret es) = in_one (λ xs. M.Ret xs) (list_step (f g) fs es)
+direct_step_in f g fs (M.Bind m xs n) = None
+direct_step_in f g fs (M.Guard e) = in_one (λ x. M.Guard x) (first_step (f g) fs e)
+direct_step_in f g fs (M.If e m n) = in_one (λ x. M.If x m n) (first_step (f g) fs e)
+direct_step_in f g fs (M.Write place e) =
+    in_two (λ x y. M.Write x y) place e (place_step (f g) fs place) (first_step (f g) fs e)
+direct_step_in f g fs (M.Loop starts guard test m) =
+    let inner = f (scope_started starts g) in
+    in_three (λ x y z. M.Loop x y z m) starts guard test (start_step (f g) fs starts) (first_step inner [] guard)
     (first_step inner (Whole guard ∷ []) test)
-direct_step f at (M.Call g es) = in_one (λ xs. M.Call g xs) (list_step (f at.setting.scope) at.facts es)
-direct_step f at (M.Pick k) = None
-
--- The programs after so many such steps at most, one after the other.
-
-abbrev pub more : {A : Type 0} → Option A → (A → List A) → List A
-more None k = []
-more (Some a) k = a ∷ k a
-
-abbrev pub direct_steps : (Scope → Choice) → Point → ℕ → Mon → List Mon
-direct_steps f at zero m = []
-direct_steps f at (suc n) m = more (direct_step f at m) (λ x. direct_steps f at n x)
+direct_step_in f g fs (M.Call h es) = in_one (λ xs. M.Call h xs) (list_step (f g) fs es)
+direct_step_in f g fs (M.Pick k) = None
 
 -- Each step leaves fewer nodes.
 

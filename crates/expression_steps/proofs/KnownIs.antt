@@ -6,7 +6,7 @@ use Rattle.ac_expr.specs.Fact.{Fact, stands_for}
 use Rattle.ac_expr.specs.SameExp.{same_exp}
 use Rattle.ac_expr.specs.Known.{SomeFact, GivesAtOnce, Gives, IsKnown}
 use Rattle.ac_expr.proofs.SameExps.{exp_is}
-use Rattle.polish.specs.Known.{some_fact, gives_at_once, gives, is_known}
+use Rattle.expression_steps.specs.Known.{some_fact, gives_at_once, gives, is_known}
 use Rattle.ac_expr.proofs.Itself.{exp_itself}
 
 found_same : (a b : Exp) → a ≡ b → same_exp a b ≡ true

@@ -1,0 +1,10 @@
+use Rattle.expression_lang.specs.CodeExpression.{exp_of}
+use Rattle.expression_steps.specs.CodePoint.{known_in}
+use Rattle.expression_steps.proofs.Tested.{natural_tested}
+use Rattle.expression_steps.proofs.table_steps.is_natural.Goals as goal
+
+pub returns : goal.returns
+returns c =
+    natural_tested (known_in c.args.facts.now) (exp_of c.args.number.now) c.args.width c.greatest_word-greatest.result
+    c.new-low.result c.new-high.result c.is_known.result c.greatest_word-greatest.ensures c.new-low.ensures
+    c.new-high.ensures c.is_known.ensures

@@ -1,0 +1,4 @@
+pub mod Capturing
+pub mod Lists
+pub mod Parts
+pub mod Putting

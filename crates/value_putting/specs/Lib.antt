@@ -1,0 +1,3 @@
+pub mod Captures
+pub mod Parts
+pub mod CodeOpening

@@ -1,0 +1,41 @@
+//! Whether a value may be put into a program, and a sequence turned.
+
+ghost use Rattle.std.specs.Prelude.{◌≡◌, ◌++◌, map, string_bytes};
+ghost use Rattle.expression_lang.specs.CodeExpression.{exp_of};
+ghost use Rattle.monad_lang.specs.CodeProgram.{mon_of};
+ghost use Rattle.monad_lang.specs.Form.{all_kept, can_be_put};
+
+use crate::captured_names::captures;
+use expression_lang::Exp;
+use monad_lang::{Mon, is_among, is_free};
+
+/// Whether a value can stand in a program in place of its name, which is bound with the names before
+/// it and after it: a constant always, a variable where it is none of these and isn't captured.
+#[tactic(auto, using(crate::proofs::Putting::variable_put))]
+pub fn can_be_put(value: &Exp, name: &str, before: &[String], after: &[String], m: &Mon) -> bool
+    ensures { result ≡ can_be_put (exp_of value.now) name.now
+        (map string_bytes before.now ++ map string_bytes after.now) (mon_of m.now) }
+{
+    match value {
+        Exp::Word(_) | Exp::Number(_) | Exp::Truth(_) => true,
+        Exp::Var(own) => !is_among(own, before)
+            && !is_among(own, after)
+            && !captures(value, name, m),
+        _ => false,
+    }
+}
+
+/// Whether what is free of the names in the program is among the others.
+pub fn all_kept(names: &[String], others: &[String], m: &Mon) -> bool
+    ensures { result
+        ≡ all_kept (map string_bytes names.now) (map string_bytes others.now) (mon_of m.now) }
+{
+    let mut rest = names;
+    'along: while let Some((name, behind)) = rest.split_first() {
+        if is_free(name, m) && !is_among(name, others) {
+            return false;
+        }
+        rest = behind;
+    }
+    true
+}
