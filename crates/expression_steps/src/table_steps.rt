@@ -312,7 +312,8 @@ pub fn holds(facts: &Facts<'_, Passed<'_>>, e: &Exp) -> bool
     ensures { result ≡ is_known (known_in facts.now) (exp_of e.now) }
 {
     let claim = Fact::Whole(e);
-    is_known(facts, &claim)
+    let here = (&*facts).pass(Passed::Parts(&[]), 0);
+    is_known(&here, &claim)
 }
 
 // Whether a number is known to be the unsigned value of a word of the width.
@@ -325,7 +326,8 @@ fn is_natural(facts: &Facts<'_, Passed<'_>>, width: u8, number: &Exp) -> bool
     let greatest = greatest_word(width);
     let high = Number::new(false, greatest);
     let claim = Fact::Between(low, number, high);
-    is_known(facts, &claim)
+    let here = (&*facts).pass(Passed::Parts(&[]), 0);
+    is_known(&here, &claim)
 }
 
 // The same of the signed value.
@@ -338,7 +340,8 @@ fn is_integer(facts: &Facts<'_, Passed<'_>>, width: u8, number: &Exp) -> bool
     let low = Number::new(true, size);
     let high = Number::new(false, size - 1);
     let claim = Fact::Between(low, number, high);
-    is_known(facts, &claim)
+    let here = (&*facts).pass(Passed::Parts(&[]), 0);
+    is_known(&here, &claim)
 }
 
 fn shorter_nat(
