@@ -29,9 +29,9 @@ pub mod Takings
 pub mod Nexts
 pub mod Descending
 pub mod Weighed
-pub mod Following
+pub mod FollowedSeen
 pub mod Choices
-pub mod Putting
+pub mod ValuePut
 pub mod Lightened
 pub mod Deeper
 pub mod Parting
@@ -39,5 +39,5 @@ pub mod Starting
 pub mod Onward
 pub mod Passed
 pub mod Passing
-pub mod Rewriting
+pub mod StepsKept
 pub mod Made

@@ -36,7 +36,7 @@ use Rattle.polish.specs.Followed.{leads, heavy, LeadsOn, ending, IsBottom, outco
 use Rattle.polish.proofs.Unfolded.{of_sequence}
 use Rattle.polish.proofs.Nexts.{bound_stepped}
 use Rattle.polish.proofs.Descending.{turned_seen}
-use Rattle.polish.proofs.Following.{followed_seen, turned_down, bottom_there}
+use Rattle.polish.proofs.FollowedSeen.{followed_seen, turned_down, bottom_there}
 use Rattle.polish.proofs.Weighed.{sequence_lighter, polished_lighter}
 use Rattle.polish.proofs.Lightened.{program_after, puts_lighter}
 use Rattle.polish.proofs.Deeper.{rebuilt_lighter, at_bottom_lighter, none_kept}

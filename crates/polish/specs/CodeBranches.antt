@@ -12,6 +12,6 @@ abbrev pub turn_of : T.Turn → Turn
 turn_of t = record { starts = map start_of t.starts.now; guard = exp_of t.guard.now; test = exp_of t.test.now }
 
 abbrev pub Holds : I.Inside → Mon → Type 0
-Holds (I.TheVariants.Branches a b) m = IsIf (mon_of a.now) (mon_of b.now) m
-Holds (I.TheVariants.Body a) m = IsLoop (mon_of a.now) m
+Holds (I.TheVariants.Branches a b) m = IsIf (mon_of a.now.value) (mon_of b.now.value) m
+Holds (I.TheVariants.Body a) m = IsLoop (mon_of a.now.value) m
 Holds I.TheVariants.Nothing m = IsSimple m

@@ -25,18 +25,19 @@ use monad_lang::{Front, Mon, Start, boxed, whole};
 use rule_walks::{Walked, in_body, in_branches};
 use std::alloc::{AllocError, Global};
 
-/// The programs that a program which is no sequence holds.
+/// The programs that a program which is no sequence holds. It points at boxes alone: three programs
+/// are more than the language's types may reach.
 #[derive(Clone, Copy)]
 pub(crate) enum Inside<'a> {
     /// The branches of a choice.
-    Branches(&'a Mon, &'a Mon),
+    Branches(&'a Box<Mon>, &'a Box<Mon>),
     /// The body of a loop.
-    Body(&'a Mon),
+    Body(&'a Box<Mon>),
     Nothing,
 }
 
 /// What a program holds.
-pub(crate) fn inside(m: &Mon) -> Inside<'_>
+pub(crate) fn held_by(m: &Mon) -> Inside<'_>
     requires { IsNoBind (mon_of m.now) }
     ensures { Holds result (mon_of m.now) }
 {

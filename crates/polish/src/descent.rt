@@ -172,7 +172,7 @@ pub(crate) struct Parted<'a> {
 
 /// All of it before, but where the walk goes to the second part alone.
 #[tactic(auto, using(crate::proofs::Parting::none_parted, crate::proofs::Parting::first_parted, crate::proofs::Parting::second_parted, crate::proofs::Parting::other_parted))]
-pub(crate) fn parted<'a>(walk: Walk, raw: &'a Mon, tidy: &'a Mon) -> Parted<'a>
+pub(crate) fn parted_at<'a>(walk: Walk, raw: &'a Mon, tidy: &'a Mon) -> Parted<'a>
     ensures { parted_in result
         ≡ seen_parted (walk_in walk) (mon_of raw.now) (mon_of tidy.now) }
 {

@@ -53,7 +53,7 @@ pub(crate) enum Next {
 }
 
 /// What is done next.
-#[tactic(auto, using(crate::proofs::Following::next_unturned))]
+#[tactic(auto, using(crate::proofs::FollowedSeen::next_unturned))]
 fn next_of(facts: &Facts<'_, Passed<'_>>, first: &Mon, names: &[String], rest: &Mon) -> Next
     requires { turns (mon_of first.now) (map string_bytes names.now) (mon_of rest.now) ≡ false }
     ensures { (t : Setting) → next_in result

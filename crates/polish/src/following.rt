@@ -13,7 +13,7 @@ ghost use Rattle.polish.specs.SeenFollowed.{led_whole, turns};
 ghost use Rattle.polish.specs.CodeDescent.{IsKept};
 ghost use Rattle.polish.specs.Followed.{LeadsOn, IsBottom};
 
-use crate::descent::{Descent, Parted, led_to, parted, turned_level, with_part};
+use crate::descent::{Descent, Parted, led_to, parted_at, turned_level, with_part};
 use crate::entering::{Next, next_behind, to_turn};
 use crate::sequences::Sequence;
 use ac_expr::Facts;
@@ -81,7 +81,7 @@ fn turned_once<'a, 'x>(
         before,
         second,
         walk,
-    } = parted(walk, raw, inner.last);
+    } = parted_at(walk, raw, inner.last);
     let level = turned_level(alloc, ahead, before, inner, second, it)?;
     let down = with_part(alloc, unit, scope, down, level, inner.first, inner.names)?;
     Ok(Here {

@@ -23,7 +23,7 @@ ghost use Rattle.polish.specs.CodeNextView.{next_in, settling_in};
 ghost use Rattle.polish.specs.Followed.{heavy, ending, IsFollowed};
 
 use crate::branches::{
-    Inside, chosen_by, inside, started, test_of, turn_of, with_body, with_branches,
+    Inside, chosen_by, held_by, started, test_of, turn_of, with_body, with_branches,
 };
 use crate::descent::{Descent, Level, copied, led_to, with_part};
 use crate::entering::Next;
@@ -117,7 +117,7 @@ fn single<'x>(
     let inner = Scoped::Behind(&*scope, &*parts);
     let known = facts_behind(&*facts, &*parts)?;
     let new = after_all(alloc, unit, &inner, &known, &*m)?;
-    match inside(m) {
+    match held_by(m) {
         Inside::Branches(first, last) => {
             let after = after_steps(&new, m);
             let p = choice(alloc, unit, &inner, &known, after, first, last)?;
@@ -339,7 +339,7 @@ fn climbed<'x>(
 
 // One stage up, behind the parts that are left.
 #[cycle(polishing)]
-#[tactic(auto, using(crate::proofs::Following::raised_stays, crate::proofs::Following::raised_steps))]
+#[tactic(auto, using(crate::proofs::FollowedSeen::raised_stays, crate::proofs::FollowedSeen::raised_steps))]
 fn raised<'x>(
     alloc: Global,
     unit: Unit<'_>,
@@ -472,7 +472,7 @@ fn turned<'x>(
 
 // A sequence whose value at the position is put in, and made tidy.
 #[cycle(polishing)]
-#[tactic(auto, using(crate::proofs::Putting::put_made, crate::proofs::Putting::nothing_put, crate::proofs::Lightened::into_lighter))]
+#[tactic(auto, using(crate::proofs::ValuePut::put_made, crate::proofs::ValuePut::nothing_put, crate::proofs::Lightened::into_lighter))]
 fn put_in<'x>(
     alloc: Global,
     unit: Unit<'_>,

@@ -26,7 +26,7 @@ pub(crate) enum Rewritten {
 }
 
 /// A program after all steps.
-#[tactic(auto, using(crate::proofs::Rewriting::none_made, crate::proofs::Rewriting::one_made, crate::proofs::Rewriting::more_made, crate::proofs::Rewriting::all_made, crate::proofs::Walks::step_fewer))]
+#[tactic(auto, using(crate::proofs::StepsKept::none_made, crate::proofs::StepsKept::one_made, crate::proofs::StepsKept::more_made, crate::proofs::StepsKept::all_made, crate::proofs::Walks::step_fewer))]
 pub(crate) fn after_all<'x>(
     alloc: Global,
     unit: Unit<'_>,
