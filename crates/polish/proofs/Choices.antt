@@ -1,5 +1,5 @@
 -- A choice and a loop after their steps, and what is done in them.
-use Rattle.std.proofs.Common.{◌≡◌, suc, ◌+◌, true, false, List, [], ◌∷◌, Option, Some, None, refl, sym, ap, ap₂, ◌∙◌, subst}
+use Rattle.std.proofs.Common.{◌≡◌, suc, ◌+◌, Bool, true, false, List, [], ◌∷◌, Option, Some, None, refl, sym, ap, ap₂, ◌∙◌, subst}
 use Rattle.expression_lang.specs.Expression.{Exp, TruthLit}
 use Rattle.ac_expr.specs.Fact.{Whole, NotTrue}
 use Rattle.monad_lang.specs.Program as M

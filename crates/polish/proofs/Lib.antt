@@ -41,3 +41,4 @@ pub mod Passed
 pub mod Passing
 pub mod StepsKept
 pub mod Made
+pub mod Outcomes

@@ -1,5 +1,5 @@
 -- The value at a position, with what was passed before it.
-use Rattle.std.proofs.Common.{◌≡◌, ℕ, zero, suc, ◌+◌, ◌-◌, List, [], ◌∷◌, ◌++◌, Option, Some, None, refl, sym, ap, ◌∙◌}
+use Rattle.std.proofs.Common.{◌≡◌, ℕ, zero, suc, ◌+◌, ◌-◌, List, [], ◌∷◌, ◌++◌, Option, Some, None, refl, sym, ap, ap₂, ◌∙◌, arith}
 use Rattle.c_values.specs.Name.{Name}
 use Rattle.expression_lang.specs.Expression.{Exp}
 use Rattle.rule_eq.specs.Table.{Taken, before, taken_at}
@@ -37,3 +37,15 @@ no_name_left zero es' xs' [] = refl
 no_name_left zero es' xs' (e ∷ es) = refl
 no_name_left (suc i) es' xs' [] = refl
 no_name_left (suc i) es' xs' (e ∷ es) = refl
+
+-- one further, where the position isn't reached
+pub taken_on : (i : ℕ) (ls es es' more : List Exp) (e : Exp) (rs xs xs' own : List Name) (x : Name) {all : Option Taken} →
+    ls ≡ e ∷ es → rs ≡ x ∷ xs → (i ≡ 0 → ⊥) → more ≡ es' ++ e ∷ [] → own ≡ xs' ++ x ∷ [] →
+    passed_over es' xs' (taken_at i ls rs) ≡ all → passed_over more own (taken_at (i - 1) es xs) ≡ all
+taken_on zero ls es es' more e rs xs xs' own x f g h j k l = absurd (h refl)
+taken_on (suc i) ls es es' more e rs xs xs' own x f g h j k l =
+    ap (λ n. passed_over more own (taken_at n es xs)) (omega arith)
+    ∙ ap₂ (λ a b. passed_over a b (taken_at i es xs)) j k
+    ∙ sym (taken_later i es' xs' e es x xs)
+    ∙ ap₂ (λ a b. passed_over es' xs' (taken_at (suc i) a b)) (sym f) (sym g)
+    ∙ l

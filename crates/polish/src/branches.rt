@@ -142,10 +142,12 @@ fn copy_of_starts(alloc: Global, starts: &[Start]) -> Result<Vec<Start>, AllocEr
     ensures { IfOk result (λ copies. map start_of copies.items ≡ map start_of starts.now) }
 {
     let mut copies = Vec::new(alloc);
-    for start in starts {
+    let mut rest = starts;
+    'along: while let Some((start, others)) = rest.split_first() {
         let exp = start.exp.copy(alloc)?;
         let name = start.name.clone()?;
         copies.push(Start { name, exp })?;
+        rest = others;
     }
     Ok(copies)
 }

@@ -1,6 +1,6 @@
 //! What is done at a sequence whose first part is tidy, before its second part is.
 
-ghost use Rattle.std.specs.Prelude.{◌≡◌, true, false, map, string_bytes, IfOk, IfSome, IfNone};
+ghost use Rattle.std.specs.Prelude.{◌≡◌, ◌<◌, true, false, map, string_bytes, IfOk, IfSome, IfNone};
 ghost use Rattle.monad_lang.specs.Program.{Bind};
 ghost use Rattle.monad_lang.specs.CodeProgram.{mon_of};
 ghost use Rattle.monad_lang.specs.Sorted.{Setting};

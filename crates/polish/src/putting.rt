@@ -164,7 +164,7 @@ fn with_values(
 // A program with a value put in, behind the others.
 fn with_taken(alloc: Global, taken: Taken<'_>, rest: &Mon) -> Result<Box<Mon>, AllocError>
     ensures { IfOk result (λ new. mon_of new.value
-        ≡ with_taken (mon_of rest.now) (taken_in taken)) }
+        ≡ with_taken (mon_of rest.now) (taken_in taken.entry)) }
 {
     let Taken {
         exp,

@@ -93,10 +93,12 @@ fn bindings_of(
         ≡ map (sort_for phase) (kinds_of (map binder_of parameters.now))) }
 {
     let mut bound = Vec::new(alloc);
-    for binder in parameters {
+    let mut rest = parameters;
+    'along: while let Some((binder, others)) = rest.split_first() {
         let name = binder.name.clone()?;
         let scalar = phase.scalar(binder.kind);
         bound.push(Binding { name, scalar })?;
+        rest = others;
     }
     Ok(bound)
 }
