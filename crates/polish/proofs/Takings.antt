@@ -1,5 +1,5 @@
 -- The value at a position, with what was passed before it.
-use Rattle.std.proofs.Common.{◌≡◌, ℕ, zero, suc, ◌+◌, ◌-◌, List, [], ◌∷◌, ◌++◌, Option, Some, None, refl, sym, ap, ap₂, ◌∙◌, arith}
+use Rattle.std.proofs.Common.{◌≡◌, ℕ, zero, suc, ◌+◌, ◌-◌, List, [], ◌∷◌, ◌++◌, map, Option, Some, None, refl, sym, ap, ap₂, ◌∙◌, arith}
 use Rattle.c_values.specs.Name.{Name}
 use Rattle.expression_lang.specs.Expression.{Exp}
 use Rattle.rule_eq.specs.Table.{Taken, before, taken_at}
@@ -49,3 +49,7 @@ taken_on (suc i) ls es es' more e rs xs xs' own x f g h j k l =
     ∙ sym (taken_later i es' xs' e es x xs)
     ∙ ap₂ (λ a b. passed_over es' xs' (taken_at (suc i) a b)) (sym f) (sym g)
     ∙ l
+
+pub mapped_more : {A B : Type 0} (f : A → B) (xs : List A) (x : A) → map f (xs ++ x ∷ []) ≡ map f xs ++ f x ∷ []
+mapped_more f [] x = refl
+mapped_more f (y ∷ xs) x = ap (λ r. f y ∷ r) (mapped_more f xs x)

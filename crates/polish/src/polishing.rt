@@ -248,7 +248,7 @@ fn followed<'x>(
 
 // The same where this is done next.
 #[cycle(polishing)]
-#[tactic(auto, using(crate::proofs::Onward::enters_done, crate::proofs::Onward::skips_done, crate::proofs::Onward::stands_done, crate::proofs::Onward::puts_done))]
+#[tactic(auto, using(crate::proofs::Onward::enters_done, crate::proofs::Onward::skips_done, crate::proofs::Onward::stands_done, crate::proofs::Onward::puts_done, crate::proofs::Deeper::at_bottom_lighter))]
 fn at_bottom<'x>(
     alloc: Global,
     unit: Unit<'_>,

@@ -28,11 +28,19 @@ decreases-turning l = 8 * suc (weight (mon_of l.body.now)) + 4
 
 abbrev pub decreases-followed : goal.decreases-followed
 decreases-followed l =
-    8 * weight (Bind (mon_of l.tidy.program.value) (map string_bytes l.it.names.now) (mon_of l.it.last.now)) + 4
+    8
+    * weight
+    (rebuilt l.down.parts.items
+    (Bind (mon_of l.tidy.program.value) (map string_bytes l.it.names.now) (mon_of l.it.last.now)))
+    + 4
 
 abbrev pub decreases-at_bottom : goal.decreases-at_bottom
 decreases-at_bottom l =
-    8 * weight (Bind (mon_of l.here.first.now) (map string_bytes l.it.names.now) (mon_of l.it.last.now)) + 3
+    8
+    * weight
+    (rebuilt l.here.down.parts.items
+    (Bind (mon_of l.here.first.now) (map string_bytes l.it.names.now) (mon_of l.it.last.now)))
+    + 3
 
 abbrev pub decreases-climbed : goal.decreases-climbed
 decreases-climbed l = 8 * weight (rebuilt l.down.parts.items (mon_of l.last.program.value)) + 4
