@@ -1,5 +1,5 @@
 -- The walk, by what comes of each place.
-use Rattle.std.proofs.Common.{rules, arith, ◌≡◌, ◌+◌, true, false, [], ◌∷◌, ◌++◌, map, string_bytes, Some, None, IfOk, sym, ap, ap₂, ◌∙◌, subst}
+use Rattle.std.proofs.Common.{rules, arith, ◌≡◌, true, false, [], ◌∷◌, ◌++◌, map, string_bytes, Some, None, IfOk, sym, ap, ap₂, ◌∙◌, subst}
 use Rattle.std.proofs.lemmas.Result.{IfOk-weaker}
 use Rattle.expression_lang.specs.Sorted.{names_with}
 use Rattle.expression_lang.specs.CodeExpression.{exp_of}
