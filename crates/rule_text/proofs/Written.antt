@@ -1,18 +1,18 @@
 -- The text of a node by its parts, as the writer makes it.
-use Rattle.std.proofs.Common.{◌≡◌, ◌≤◌, ◌<◌, ℕ, suc, ◌+◌, ◌==◌, Bool, true, false, List, [], ◌∷◌, ◌++◌, length, refl, sym, ap, ◌∙◌, arith}
+use Rattle.std.proofs.Common.{◌≡◌, ℕ, suc, ◌+◌, ◌==◌, Bool, true, false, List, [], ◌∷◌, ◌++◌, length, refl, sym, ap, ◌∙◌, arith}
 use Rattle.ac_sx.specs.Tree.{Tree, Trees, Atom, Node, no_trees, more}
 use Rattle.ac_sx.specs.declared.sx.Sx as S
 use Rattle.ac_sx.specs.CodeSx.{tree_of, trees_in}
 use Rattle.c_values.specs.Name.{Name}
 use Rattle.expression_text.specs.declared.building.Around.{Around}
-use Rattle.expression_text.specs.CodeAround.{joined, filled, all_filled}
+use Rattle.expression_text.specs.CodeAround.{joined, all_filled}
 use Rattle.expression_text.proofs.Filling.{joined_push, joined_nothing, all_filled_push}
 use Rattle.rule_trees.specs.declared.tree.Tree as T
 use Rattle.rule_trees.specs.declared.tree.Tree.{out-Tree}
 use Rattle.rule_trees.specs.CodeTree as code
 use Rattle.rule_trees.specs.CodeNodes.{nodes, nodes_in}
 use Rattle.rule_trees.proofs.Parts.{tree_parts}
-use Rattle.rule_text.specs.RuleText.{word_with, rule_tree, rule_trees}
+use Rattle.rule_text.specs.RuleText.{word_with, rule_tree}
 use Rattle.rule_text.specs.CodeWriting.{text_in, texts_in}
 
 pub not_empty : (b : Bool) (n m : ℕ) → b ≡ (m == 0) → b ≡ false → n ≡ m → n ≡ 0 → ⊥

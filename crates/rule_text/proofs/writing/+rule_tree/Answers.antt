@@ -1,4 +1,4 @@
-use Rattle.std.proofs.Common.{◌≡◌, ◌<◌, arith, sym, ap, ◌∙◌}
+use Rattle.std.proofs.Common.{◌≡◌, arith}
 use Rattle.ac_sx.specs.CodeSx.{tree_of}
 use Rattle.std.proofs.lemmas.Result.{IfOk-weaker}
 use Rattle.expression_text.specs.CodeAround.{all_filled}

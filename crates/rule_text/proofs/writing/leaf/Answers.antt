@@ -1,5 +1,5 @@
 use Rattle.std.proofs.Common.{length, vec_len, ap, ap₂, sym, arith, ◌∙◌}
-use Rattle.ac_sx.specs.Tree.{Atom, Node, more}
+use Rattle.ac_sx.specs.Tree.{Node}
 use Rattle.ac_sx.specs.CodeSx.{trees_in}
 use Rattle.expression_text.specs.CodeAround.{joined}
 use Rattle.rule_text.specs.RuleText.{word_with}
