@@ -1,5 +1,5 @@
 -- Balanced, a tree takes a program where it took it.
-use Rattle.std.proofs.Common.{◌≡◌, ℕ, zero, suc, List, [], ◌∷◌, ◌⊎◌, inl, inr, refl, sym, ◌∙◌, subst}
+use Rattle.std.proofs.Common.{◌≡◌, ℕ, zero, suc, ◌%◌, Bool, true, false, nat_eq, List, [], ◌∷◌, ◌⊎◌, inl, inr, refl, sym, ◌∙◌, subst}
 use Rattle.expression_lang.specs.Sort.{Scalar}
 use Rattle.monad_lang.specs.Program.{Mon}
 use Rattle.program_facts.proofs.Sorts.{some_is}
@@ -7,7 +7,7 @@ use Rattle.rule_trees.specs.RuleTree.{Tree, Trees, node, no_trees, tree, Accepts
 use Rattle.rule_eq.specs.Rule as R
 use Rattle.rule_eq.specs.Rule.{Rule, Point, Claim, does}
 use Rattle.rule_eq.specs.Table.{Takes, table, row}
-use Rattle.rule_walks.specs.Balanced.{Chain, single, before, chained, paired, links, as_one, built, steps_of, all_balanced, balanced}
+use Rattle.rule_walks.specs.Balanced.{Chain, single, before, chained, paired, paired_from, round, links, as_one, built, steps_of, all_balanced, balanced}
 use Rattle.polish.proofs.Trees.{Gives}
 
 module _ (at : Point) where
@@ -27,12 +27,17 @@ module _ (at : Point) where
   paired_take cs (before t k (before u j c)) m n g h =
       (((cs, h.1, h.2.1), (h.0, (h.2.0, tt))), h.2.1, paired_take cs c j n g h.2.2)
 
+  from_take : (cs : List Scalar) (b : Bool) (c : Chain) (m n : Mon) → Gives at n cs → Chained cs c m n → Chained cs (paired_from b c) m n
+  from_take cs true (single t) m n g h = h
+  from_take cs true (before t k c) m n g h = (h.0, h.1, paired_take cs c k n g h.2)
+  from_take cs false c m n g h = paired_take cs c m n g h
+
   one_takes : (cs : List Scalar) (k : ℕ) (c : Chain) (m n : Mon) → Gives at n cs → Chained cs c m n → Takes at (as_one k c) m n
   one_takes cs zero (single t) m n g h = h
   one_takes cs (suc k) (single t) m n g h = h
   one_takes cs zero (before t j c) m n g h = ((cs, h.1, g), (h.0, (one_takes cs zero c j n g h.2, tt)))
   one_takes cs (suc k) (before t j c) m n g h =
-      one_takes cs k (paired (before t j c)) m n g (paired_take cs (before t j c) m n g h)
+      one_takes cs k (round (before t j c)) m n g (from_take cs (nat_eq (suc (links c) % 2) 0) (before t j c) m n g h)
 
   -- one tree, or several with scalars
   abbrev Steps : Chain → Mon → Mon → Type 0

@@ -1,16 +1,16 @@
 //! Steps at a node, one after the other, and the trees that they are.
 
-ghost use Rattle.std.specs.Prelude.{◌≡◌, IfOk};
+ghost use Rattle.std.specs.Prelude.{◌≡◌, true, IfOk};
 ghost use Rattle.monad_lang.specs.CodeProgram.{mon_of};
 ghost use Rattle.rule_trees.specs.RuleTree as trees;
 ghost use Rattle.rule_trees.specs.RuleTree.{node, no_trees};
 ghost use Rattle.rule_eq.specs.Rule as plain;
 ghost use Rattle.rule_eq.specs.CodeRule.{rule_of, tree_of};
-ghost use Rattle.rule_walks.specs.Balanced.{Chain as Links, before, chained, paired, built};
+ghost use Rattle.rule_walks.specs.Balanced.{Chain as Links, single, before, chained, paired, paired_from, round, built};
 ghost use Rattle.rule_walks.specs.Walk.{Goes, seconds, second_trees, steps_in, joined_walks};
 ghost use Rattle.rule_walks.specs.Walk.{over_bind, over_two, over_one, stays, one_walk, walked};
 ghost use Rattle.rule_walks.specs.Walk.{after_before, and_led};
-ghost use Rattle.rule_walks.specs.CodeWalks.{has_links, chain_in, walk_in, before_in, made_in};
+ghost use Rattle.rule_walks.specs.CodeWalks.{has_links, with_steps, chain_in, walk_in, before_in, made_in};
 
 use monad_lang::Mon;
 use rule_eq::Rule;
@@ -111,13 +111,18 @@ fn joined_step(alloc: Global, first: Step, second: Step) -> Result<Step, AllocEr
     Ok(Step { tree, program })
 }
 
-// Each two that come one after the other, as one.
+// Each two that come one after the other as one, behind what is made already.
 #[tactic(auto, using(crate::proofs::StepLists::waits, crate::proofs::StepLists::pairs))]
-fn paired(alloc: Global, chain: Chain) -> Result<Chain, AllocError>
-    ensures { IfOk result (λ new. chain_in new ≡ paired (chain_in chain)) }
+fn paired(
+    alloc: Global,
+    made: Vec<Step>,
+    steps: Vec<Step>,
+    last: Tree<Rule>,
+) -> Result<Chain, AllocError>
+    ensures { IfOk result (λ new. chain_in new
+        ≡ with_steps made.items (paired (with_steps steps.items (single (tree_of last))))) }
 {
-    let Chain { steps, last } = chain;
-    let mut made = Vec::new(alloc);
+    let mut made = made;
     let mut waiting: Option<Step> = None;
     'steps: for step in steps {
         match waiting.take() {
@@ -131,6 +136,34 @@ fn paired(alloc: Global, chain: Chain) -> Result<Chain, AllocError>
             let last = both(alloc, first, last)?;
             Ok(Chain { steps: made, last })
         }
+    }
+}
+
+// The same where the first stands alone.
+#[tactic(auto, using(crate::proofs::StepLists::first_then, crate::proofs::StepLists::none_alone))]
+fn first_alone(alloc: Global, steps: Vec<Step>, last: Tree<Rule>) -> Result<Chain, AllocError>
+    ensures { IfOk result (λ new. chain_in new
+        ≡ paired_from true (with_steps steps.items (single (tree_of last)))) }
+{
+    let mut steps = steps;
+    if steps.is_empty() {
+        return Ok(Chain { steps, last });
+    }
+    let mut made = Vec::new(alloc);
+    made.push(steps.remove(0))?;
+    paired(alloc, made, steps, last)
+}
+
+// A round: of an odd number of trees the first stands alone.
+#[tactic(auto, using(crate::proofs::StepLists::even_round, crate::proofs::StepLists::odd_round))]
+fn round(alloc: Global, chain: Chain) -> Result<Chain, AllocError>
+    ensures { IfOk result (λ new. chain_in new ≡ round (chain_in chain)) }
+{
+    let Chain { steps, last } = chain;
+    if steps.len() % 2 == 0 {
+        first_alone(alloc, steps, last)
+    } else {
+        paired(alloc, Vec::new(alloc), steps, last)
     }
 }
 
@@ -151,7 +184,7 @@ fn as_one(alloc: Global, chain: Chain) -> Result<Tree<Rule>, AllocError>
 {
     let mut rest = chain;
     'rounds: while has_links(&rest) {
-        rest = paired(alloc, rest)?;
+        rest = round(alloc, rest)?;
     }
     let Chain { steps: _, last } = rest;
     Ok(last)

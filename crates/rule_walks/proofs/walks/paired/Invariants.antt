@@ -6,4 +6,4 @@ use Rattle.rule_walks.proofs.walks.paired.Given as goal
 
 abbrev pub invariant-steps : goal.invariant-steps
 invariant-steps l =
-    (c : Chain) → paired (with_steps l.yielded c) ≡ with_steps l.made.items (paired (with_waiting l.waiting c))
+    (c : Chain) → with_steps l.fn.made.items (paired (with_steps l.yielded c)) ≡ with_steps l.made.items (paired (with_waiting l.waiting c))
