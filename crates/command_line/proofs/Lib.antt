@@ -1,0 +1,4 @@
+pub mod WordLists
+pub mod Stripped
+pub mod Digits
+pub mod UnknownNames
