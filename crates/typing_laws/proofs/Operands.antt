@@ -142,7 +142,7 @@ module _ (V : Variables) where
         reach_then (declaring at (D.struct_tag x s)) _ (reach_declaring at s _ (struct_tag_follows V x s h)) (λ a t k. reach_pure t (D.Type' a) k.fits (λ g w. tt))
     word_reached (tree.StructBody at x ms) i s h =
         let m = mention_follows V x s h in
-        reach_then (members [] ms (D.mention x s)) _ (reached_later (members [] ms (D.mention x s)) m.later m.still (members_reached [] ms i (D.mention x s) m.fits)) (λ list t k.
+        reach_then (members [] ms (D.mention x s)) _ (reached_later (members [] ms (D.mention x s)) m.later m.still (members_reached [] ms i.1 (D.mention x s) m.fits)) (λ list t k.
         reach_then (declaring at (D.struct_body x list t)) _ (reach_declaring at t _ (struct_body_follows V x list t k.fits)) (λ a u n. reach_pure u (D.Type' a) n.fits (λ g w. tt)))
     word_reached (tree.EnumTag at x) i s h = reach_then (rule at (D.enum_tag x) s) _ (reach_any_rule at s _ h) (λ a t k. reach_pure t (D.Type' a) k.fits (λ g w. tt))
     word_reached (tree.EnumBody at x es) i s h =

@@ -1,5 +1,5 @@
--- What trees of texts have, and plain trees need not: a character's value is that of a byte, the name of a declarator or of a
--- parameter is a letter or `_`, then letters, digits and `_` (C99 6.4.2, 6.4.4.4), and what has a number can be counted.
+-- What trees of texts have, and plain trees need not: a character's value is that of a byte, the name of a declarator, a parameter
+-- or a struct is a letter or `_`, then letters, digits and `_` (C99 6.4.2, 6.4.4.4), and what has a number can be counted.
 use Rattle.std.specs.Prelude.{ℕ, ◌≡◌, ◌<◌, ◌^◌, Bool, true, false, ◌&&◌, List, [], ◌∷◌, Option, Some, None}
 use Rattle.c_lex.specs.Bytes.{is_letter, is_word}
 use Rattle.c_grammar.specs.Tree.{Name, Exp, TypeName, Words, Word, Members, Declarators, Declarator, Dimensions, Enumerators, Enumerator, Call, Rhs, Simple, Init, Local, Label, Start, Stmt, Items, Groups, Bracket, Param, Top, External}
@@ -16,6 +16,14 @@ is_name (c ∷ cs) = is_letter c && are_words cs
 
 abbrev pub IsName : Name → Type 0
 IsName x = is_name x ≡ true
+
+abbrev pub Each : {A : Type 0} → (A → Type 0) → List A → Type 0
+Each P [] = Unit {0}
+Each P (a ∷ as') = P a × Each P as'
+
+abbrev pub Where : {A : Type 0} → (A → Type 0) → Option A → Type 0
+Where P None = Unit {0}
+Where P (Some a) = P a
 
 abbrev mutual
   pub IsExp : Exp → Type 0
@@ -43,8 +51,8 @@ abbrev mutual
   pub IsWord : Word → Type 0
   IsWord (tree.Reserved at k) = Unit {0}
   IsWord (tree.Named at x) = Unit {0}
-  IsWord (tree.StructTag at x) = Unit {0}
-  IsWord (tree.StructBody at x ms) = AreMembers ms
+  IsWord (tree.StructTag at x) = IsName x
+  IsWord (tree.StructBody at x ms) = Where IsName x × AreMembers ms
   IsWord (tree.EnumTag at x) = Unit {0}
   IsWord (tree.EnumBody at x es) = AreEnumerators es
 
@@ -70,14 +78,6 @@ abbrev mutual
   pub IsEnumerator : Enumerator → Type 0
   IsEnumerator (tree.Implicit at x) = Unit {0}
   IsEnumerator (tree.Explicit at x e) = IsExp e
-
-abbrev pub Each : {A : Type 0} → (A → Type 0) → List A → Type 0
-Each P [] = Unit {0}
-Each P (a ∷ as') = P a × Each P as'
-
-abbrev pub Where : {A : Type 0} → (A → Type 0) → Option A → Type 0
-Where P None = Unit {0}
-Where P (Some a) = P a
 
 abbrev pub IsCall : Call → Type 0
 IsCall (tree.Calls at f es) = Each IsExp es

@@ -1,0 +1,5 @@
+pub mod NumberTexts
+pub mod PathNumbers
+pub mod ExpressionTexts
+pub mod CommandTexts
+pub mod UnitTexts

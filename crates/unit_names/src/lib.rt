@@ -1,0 +1,2 @@
+//! Which typed units have names and types that texts have.
+#![tactic(auto)]
