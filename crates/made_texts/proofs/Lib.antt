@@ -1,0 +1,14 @@
+pub mod Conjunctions
+pub mod NamesChosen
+pub mod ExceptionTexts
+pub mod LocalTexts
+pub mod HeapTexts
+pub mod WordExpTexts
+pub mod WordTexts
+pub mod SubstitutedTexts
+pub mod FoldedTexts
+pub mod StepTexts
+pub mod PolishTexts
+pub mod BalancedTexts
+pub mod UnitKinds
+pub mod MadeTexts

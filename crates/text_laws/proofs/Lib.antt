@@ -1,0 +1,5 @@
+pub mod Atoms
+pub mod ExpTrees
+pub mod ProgramTrees
+pub mod RuleTrees
+pub mod CertificateTrees
