@@ -1,0 +1,2 @@
+pub mod TextAnswer
+pub mod CodeTrees
