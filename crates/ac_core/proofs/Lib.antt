@@ -1,18 +1,9 @@
-pub mod Spaced
-pub mod Unsigned
-pub mod ClassIsSum
-pub mod OneReturn
-pub mod Constants
-pub mod ExactSum
-pub mod SumForm
-pub mod TextNames
-pub mod ParameterNames
-pub mod Commands
-pub mod Options
-pub mod Counts
 pub mod LongFunctions
-pub mod UnknownNames
 pub mod Complete
+mod Files
 pub mod Told
+pub mod Texts
+pub mod Translated
 pub mod Shown
+pub mod Tried
 pub mod NamedLevels

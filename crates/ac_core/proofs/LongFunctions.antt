@@ -1,5 +1,5 @@
 -- A count that ends at the greatest word passes a smaller limit where the number does.
-use Rattle.std.proofs.Common.{◌≡◌, ℕ, min, leb, ◌<◌, arith}
+use Rattle.std.proofs.Common.{◌≡◌, ℕ, min, arith}
 use Rattle.std.specs.Prelude.{nat_lt}
 use Rattle.std.proofs.lemmas.Bool.Decides.{nat_tests}
 

@@ -1,12 +1,5 @@
-pub mod ProgramText
-pub mod Spelled
-pub mod Words
-pub mod CodeWriting
-pub mod Sum
-pub mod CodeSum
-pub mod Refusal
-pub mod Class
+pub mod Written
+pub mod Trial
 pub mod Answer
-pub mod CodeAsked
-pub mod Status
-pub mod CodeHeads
+pub mod CodeTasks
+pub mod CodeTrouble

@@ -1,73 +1,176 @@
 //! The answer to words: the status and the lines that go to the sink, made whole before the first
 //! byte is written.
 
-ghost use Rattle.std.specs.Prelude.{◌≡◌, ◌<◌, ◌≤◌, ◌^◌, ℕ, List, map, length, IfOk, None, Some, codes, string_bytes, ◌++◌};
-ghost use Rattle.std.specs.Option.{option_map};
-ghost use Rattle.ac_core.specs.Words.{command_of, asked_of, sampled_of, number_of};
-ghost use Rattle.c_lex.specs.Lexeme.{lexemes_of};
-ghost use Rattle.c_lex.specs.Tokens.{Tokens};
-ghost use Rattle.c_grammar.specs.CodeTree.{unit_of as tree_of};
-ghost use Rattle.typing_laws.specs.Written.{AreWritten};
-ghost use Rattle.ac_core.specs.CodeAsked.{gives_of, options_of};
-ghost use Rattle.ac_core.specs.Answer.{IsAnswer, IsUnread, IsSampled, IsUnshown, IsFileAnswer, IsTextAnswer, IsTokensAnswer, IsTreeAnswer};
-ghost use Rattle.ac_core.specs.declared.status.Status.{Status};
+ghost use Rattle.std.specs.Prelude.{◌≡◌, ◌≤◌, ◌++◌, ℕ, List, map, IfOk, codes, string_bytes};
+ghost use Rattle.c_values.specs.CodeTypes as types;
+ghost use Rattle.command_line.specs.Words.{command_of};
+ghost use Rattle.command_line.specs.CodeCommand.{command_in};
+ghost use Rattle.text_answers.specs.TextAnswer.{IsTextAnswer};
+ghost use Rattle.checking.specs.Checked.{IsChecked};
+ghost use Rattle.ac_core.specs.Answer.{certificate, AsksForNone, source, IsAnswerTo, IsCheckAnswer, IsCommandAnswer, IsFileAnswer, IsSampled, IsTrialAnswer};
+ghost use Rattle.ac_core.specs.CodeTrouble.{IsTrouble};
+ghost use Rattle.answers.specs.declared.status.Status.{Status};
 
-use crate::Status;
-use crate::programs::show_unit;
-use crate::refusal::{lex_refusal, parse_refusal, untyped};
-use crate::words::{Asked, asked_count, asked_file, is_form, target_of};
+use crate::tasks::{Checks, Tries, Writes};
 use ac_base::{ReadTrouble, Shelf, read_whole};
-use c_grammar::tree::Unit;
-use c_lex::{Token, tokens};
-use c_parse::parse;
-use c_types::{TypeFault, check_unit};
+use answers::{Answer, Status, line, push, read_fault};
+use c_values::Target;
+use command_line::{Command, asked_for};
 use sample_text::sample_text;
 use std::alloc::{AllocError, Global};
-
-/// A status with the lines of the answer.
-#[derive(Drop)]
-pub(crate) struct Answer {
-    pub status: Status,
-    pub lines: Vec<u8>,
-}
+use text_answers::{Task, answer_text};
 
 /// Bytes of C text that are read.
 const SOURCE_LIMIT: u64 = 262_144;
 
+/// Bytes of a certificate that are read.
+const CERTIFICATE_LIMIT: u64 = 67_108_864;
+
 /// The most functions of a sample.
 const COUNT_LIMIT: u8 = 200;
 
-/// The answer to words. The shelf is asked for the file of `show`, `print` and `translate` alone.
+/// The answer to words. The shelf is asked for the files that they name alone.
 pub(crate) fn answer_to<H: Shelf>(
     alloc: Global,
     words: &[String],
     shelf: &mut H,
 ) -> Result<Answer, AllocError>
-    ensures answer { IfOk result
-        (λ a. IsAnswer (map string_bytes words.now) (H.contents shelf.old) (H.faults shelf.old)
-        (H.faults shelf.new) a.status a.lines.items) }
+    ensures answer { IfOk result (λ a. IsAnswerTo (H.contents shelf.old) (H.faults shelf.old)
+        (H.faults shelf.new) (command_of (map string_bytes words.now)) a.status a.lines.items) }
     ensures contents { (name : List ℕ) → H.contents shelf.new name ≡ H.contents shelf.old name }
     ensures counts { (name : List ℕ) → H.faults shelf.old name ≤ H.faults shelf.new name }
-    ensures unasked { asked_of (command_of (map string_bytes words.now)) ≡ None →
+    ensures unasked { AsksForNone (command_of (map string_bytes words.now)) →
         shelf.new ≡ shelf.old }
 {
-    match asked_file(words) {
-        Some((file, asked)) => show(alloc, file, asked, shelf),
-        None => unread(alloc, words),
+    match asked_for(words) {
+        Some(command) => answer_by(alloc, command, shelf),
+        None => line(alloc, Status::Words, "words: no command of this form\n"),
     }
 }
 
-// Words that ask for no file.
-fn unread(alloc: Global, words: &[String]) -> Result<Answer, AllocError>
-    requires { asked_of (command_of (map string_bytes words.now)) ≡ None }
-    ensures { IfOk result (λ a.
-        IsUnread (option_map number_of (sampled_of (command_of (map string_bytes words.now))))
-        (map string_bytes words.now) a.status a.lines.items) }
+// The answer to what is asked for.
+fn answer_by<H: Shelf>(
+    alloc: Global,
+    command: Command<'_>,
+    shelf: &mut H,
+) -> Result<Answer, AllocError>
+    ensures answer { IfOk result (λ a. IsCommandAnswer (H.contents shelf.old) (H.faults shelf.old)
+        (H.faults shelf.new) (command_in command.entry) a.status a.lines.items) }
+    ensures contents { (name : List ℕ) → H.contents shelf.new name ≡ H.contents shelf.old name }
+    ensures counts { (name : List ℕ) → H.faults shelf.old name ≤ H.faults shelf.new name }
+    ensures unasked { AsksForNone (Some (command_in command.entry)) → shelf.new ≡ shelf.old }
 {
-    match asked_count(words) {
-        Some(count) => sampled(alloc, count),
-        None => unshown(alloc, words),
+    match command {
+        Command::Write(writing, file, options) => {
+            let task = Writes { writing, options };
+            of_source(alloc, file, &task, shelf)
+        }
+        Command::Check(file, certificate, target) => {
+            check(alloc, file, certificate, target, shelf)
+        }
+        Command::Sample(count) => sampled(alloc, count),
+        Command::Trial(count, target) => trial(alloc, count, target),
+        Command::Run(_, _, _, _) | Command::Prove(_, _, _, _) => {
+            line(alloc, Status::NotYet, "not yet\n")
+        }
     }
+}
+
+// The answer to a file of C text.
+fn of_source<H: Shelf, T: Task>(
+    alloc: Global,
+    file: &str,
+    task: &T,
+    shelf: &mut H,
+) -> Result<Answer, AllocError>
+    ensures answer { IfOk result (λ a. IsFileAnswer (H.contents shelf.old) (H.faults shelf.old)
+        (H.faults shelf.new) (source file.now)
+        (IsTextAnswer (T.target_for task.now) (T.answers task.now)) a.status a.lines.items) }
+    ensures contents { (name : List ℕ) → H.contents shelf.new name ≡ H.contents shelf.old name }
+    ensures counts { (name : List ℕ) → H.faults shelf.old name ≤ H.faults shelf.new name }
+{
+    match read_whole(alloc, shelf, file, SOURCE_LIMIT) {
+        Ok(text) => answer_text(alloc, &text, task),
+        Err(trouble) => unread(alloc, file, "source", trouble),
+    }
+}
+
+// The answer to a file of C text and a certificate, both of which are read before the text is
+// looked at.
+fn check<H: Shelf>(
+    alloc: Global,
+    file: &str,
+    certificate: &str,
+    target: Target,
+    shelf: &mut H,
+) -> Result<Answer, AllocError>
+    ensures answer { IfOk result (λ a. IsCheckAnswer (H.contents shelf.old) (H.faults shelf.old)
+        (H.faults shelf.new) file.now certificate.now (types.target_of target)
+        a.status a.lines.items) }
+    ensures contents { (name : List ℕ) → H.contents shelf.new name ≡ H.contents shelf.old name }
+    ensures counts { (name : List ℕ) → H.faults shelf.old name ≤ H.faults shelf.new name }
+{
+    match read_whole(alloc, shelf, file, SOURCE_LIMIT) {
+        Ok(text) => with_certificate(alloc, &text, certificate, target, shelf),
+        Err(trouble) => unread(alloc, file, "source", trouble),
+    }
+}
+
+// The answer to a C text and a file of a certificate.
+fn with_certificate<H: Shelf>(
+    alloc: Global,
+    text: &[u8],
+    file: &str,
+    target: Target,
+    shelf: &mut H,
+) -> Result<Answer, AllocError>
+    ensures answer { IfOk result (λ a. IsFileAnswer (H.contents shelf.old) (H.faults shelf.old)
+        (H.faults shelf.new) (certificate file.now)
+        (λ held. IsTextAnswer (types.target_of target) (IsChecked (types.target_of target) held)
+        text.now) a.status a.lines.items) }
+    ensures contents { (name : List ℕ) → H.contents shelf.new name ≡ H.contents shelf.old name }
+    ensures counts { (name : List ℕ) → H.faults shelf.old name ≤ H.faults shelf.new name }
+{
+    match read_whole(alloc, shelf, file, CERTIFICATE_LIMIT) {
+        Ok(certificate) => {
+            let task = Checks {
+                target,
+                certificate: &certificate,
+            };
+            answer_text(alloc, text, &task)
+        }
+        Err(trouble) => unread(alloc, file, "certificate", trouble),
+    }
+}
+
+// The answer to a file that couldn't be read whole, within the limit of this name.
+fn unread(
+    alloc: Global,
+    file: &str,
+    limit: &str,
+    trouble: ReadTrouble,
+) -> Result<Answer, AllocError>
+    ensures { IfOk result (λ a. IsTrouble file.now limit.now trouble a.status a.lines.items) }
+{
+    match trouble {
+        ReadTrouble::ReadFault => read_fault(alloc, file),
+        ReadTrouble::Limit => past(alloc, limit),
+        ReadTrouble::Memory => Err(AllocError),
+    }
+}
+
+// The answer to a file that is longer than it may be.
+fn past(alloc: Global, limit: &str) -> Result<Answer, AllocError>
+    ensures { IfOk result (λ a. (a.status ≡ Status.Limit)
+        × (a.lines.items ≡ codes "limit: " ++ (limit.now ++ codes "\n"))) }
+{
+    let mut lines = Vec::from_slice(alloc, b"limit: ")?;
+    push(&mut lines, limit)?;
+    push(&mut lines, "\n")?;
+    Ok(Answer {
+        status: Status::Limit,
+        lines,
+    })
 }
 
 // A sample of so many functions.
@@ -83,94 +186,16 @@ fn sampled(alloc: Global, count: u32) -> Result<Answer, AllocError>
     }
 }
 
-// Words that don't ask for what is built.
-fn unshown(alloc: Global, words: &[String]) -> Result<Answer, AllocError>
-    requires { asked_of (command_of (map string_bytes words.now)) ≡ None }
-    ensures { IfOk result (λ a. IsUnshown (map string_bytes words.now) a.status a.lines.items) }
-{
-    if is_form(words) {
-        line(alloc, Status::NotYet, "not yet\n")
-    } else {
-        line(alloc, Status::Words, "words: no command of this form\n")
-    }
-}
-
-// What is shown of a file.
-fn show<H: Shelf>(
-    alloc: Global,
-    file: &str,
-    asked: Asked<'_>,
-    shelf: &mut H,
-) -> Result<Answer, AllocError>
-    ensures answer { IfOk result (λ a. IsFileAnswer (gives_of asked.entry) (options_of asked.entry) file.now
-        (H.contents shelf.old file.now) (H.faults shelf.old file.now)
-        (H.faults shelf.new file.now) a.status a.lines.items) }
-    ensures contents { (name : List ℕ) → H.contents shelf.new name ≡ H.contents shelf.old name }
-    ensures counts { (name : List ℕ) → H.faults shelf.old name ≤ H.faults shelf.new name }
-{
-    match read_whole(alloc, shelf, file, SOURCE_LIMIT) {
-        Ok(text) => show_text(alloc, &text, asked),
-        Err(ReadTrouble::ReadFault) => read_fault(alloc, file),
-        Err(ReadTrouble::Limit) => line(alloc, Status::Limit, "limit: source\n"),
-        Err(ReadTrouble::Memory) => Err(AllocError),
-    }
-}
-
-// What is shown of a text.
-fn show_text(alloc: Global, text: &[u8], asked: Asked<'_>) -> Result<Answer, AllocError>
+// A sample of so many functions, translated and checked.
+fn trial(alloc: Global, count: u32, target: Target) -> Result<Answer, AllocError>
     ensures { IfOk result (λ a.
-        IsTextAnswer (gives_of asked.entry) (options_of asked.entry) text.now a.status a.lines.items) }
+        IsTrialAnswer count (types.target_of target) a.status a.lines.items) }
 {
-    match tokens(alloc, text) {
-        Ok(tokens) => show_tokens(alloc, &tokens, asked),
-        Err(fault) => lex_refusal(alloc, fault),
+    match u8::try_from(count) {
+        Ok(few) if few <= COUNT_LIMIT => {
+            let text = sample_text(alloc, few)?;
+            answer_text(alloc, &text, &Tries { target })
+        }
+        _ => line(alloc, Status::Limit, "limit: count\n"),
     }
-}
-
-// What is shown of the tokens of a text.
-fn show_tokens(alloc: Global, tokens: &[Token], asked: Asked<'_>) -> Result<Answer, AllocError>
-    requires { (text : List ℕ) × (length text < 2 ^ 64) × Tokens text (lexemes_of tokens.now) }
-    ensures { IfOk result (λ a. IsTokensAnswer (gives_of asked.entry) (options_of asked.entry)
-        (lexemes_of tokens.now) a.status a.lines.items) }
-{
-    match parse(alloc, tokens) {
-        Ok(tree) => show_tree(alloc, &tree, asked),
-        Err(fault) => parse_refusal(alloc, fault),
-    }
-}
-
-// What is shown of a tree.
-fn show_tree(alloc: Global, tree: &Unit, asked: Asked<'_>) -> Result<Answer, AllocError>
-    requires { AreWritten (tree_of tree.now) }
-    ensures { IfOk result (λ a. IsTreeAnswer (gives_of asked.entry) (options_of asked.entry)
-        (tree_of tree.now) a.status a.lines.items) }
-{
-    match check_unit(alloc, target_of(asked.options), tree) {
-        Ok(unit) => show_unit(alloc, unit, asked),
-        Err(TypeFault::Bad { at, kind }) => untyped(alloc, at, kind),
-        Err(TypeFault::Memory) => Err(AllocError),
-    }
-}
-
-fn read_fault(alloc: Global, file: &str) -> Result<Answer, AllocError>
-    ensures { IfOk result
-        (λ a. (a.status ≡ Status.ReadFault)
-        × (a.lines.items ≡ codes "read fault: " ++ (file.now ++ codes "\n"))) }
-{
-    let mut lines = Vec::from_slice(alloc, b"read fault: ")?;
-    lines.extend_from_slice(file.as_bytes())?;
-    lines.extend_from_slice(b"\n")?;
-    Ok(Answer {
-        status: Status::ReadFault,
-        lines,
-    })
-}
-
-pub(crate) fn line(alloc: Global, status: Status, text: &str) -> Result<Answer, AllocError>
-    ensures { IfOk result (λ a. (a.status ≡ status) × (a.lines.items ≡ text.now)) }
-{
-    Ok(Answer {
-        status,
-        lines: Vec::from_slice(alloc, text.as_bytes())?,
-    })
 }

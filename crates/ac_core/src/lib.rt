@@ -2,20 +2,13 @@
 #![tactic(auto)]
 
 mod answer;
-mod class;
 mod generation_laws;
 mod limits;
 mod programs;
-mod refusal;
-mod shown_expressions;
-mod shown_programs;
-mod spelling_laws;
-mod status;
-mod sum;
+mod tasks;
 mod top;
-mod words;
+mod trial;
 
+pub use answers::Status;
 pub use generation_laws::generated_texts_have_the_same_ends;
-pub use spelling_laws::other_programs_are_not_spelled;
-pub use status::Status;
 pub use top::autocorres;

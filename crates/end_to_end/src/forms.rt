@@ -146,7 +146,8 @@ fn shows_plain_files(rt: HostRuntime) -> Result<(), Fail> {
         ("show f.c bytes=f target=lp64", "read fault: f.c\n"),
         ("print f.c words=f", "read fault: f.c\n"),
         ("translate f.c", "read fault: f.c\n"),
-        ("check f.c c.cert", "not yet\n"),
+        ("check f.c c.cert", "read fault: f.c\n"),
+        ("run f.c c.cert f.mem", "not yet\n"),
         (
             "sample 0",
             "struct node { unsigned v; struct node *next; };\n",

@@ -2,7 +2,9 @@
 #![tactic(auto)]
 
 #[cfg(test)]
-mod answers;
+mod answer_rows;
+#[cfg(test)]
+mod checks;
 #[cfg(test)]
 mod conversions;
 #[cfg(test)]
@@ -11,3 +13,5 @@ mod forms;
 mod generated;
 #[cfg(test)]
 mod type_rows;
+#[cfg(test)]
+mod wrong_nodes;

@@ -2,7 +2,7 @@
 use Rattle.std.proofs.Common.{◌≡◌, map, length}
 use Rattle.std.specs.List.{list_any}
 use Rattle.simpl_lang.specs.CodeCommand.{simpl_fn_of}
-use Rattle.ac_core.specs.Answer.{is_long}
+use Rattle.ac_core.specs.Written.{is_long}
 use Rattle.ac_core.proofs.limits.has_long_function.Given as goal
 
 abbrev pub invariant-functions : goal.invariant-functions
