@@ -31,7 +31,7 @@ word_is_ascii (b ∷ bs) e =
     let h = and_parts (is_atom_byte b) (list_all is_atom_byte bs) e in
     ascii_at b bs (small b h.0) (word_is_ascii bs h.1)
 
-word_more : (text : List ℕ) (start at : ℕ) → start ≤ at → at < length text → slice_range text start (at + 1) ≡ slice_range text start at ++ get_or text at 0 ∷ []
+pub word_more : (text : List ℕ) (start at : ℕ) → start ≤ at → at < length text → slice_range text start (at + 1) ≡ slice_range text start at ++ get_or text at 0 ∷ []
 word_more text start at le lt =
     let more : at + 1 - start ≡ at - start + 1 = omega arith in
     let here : start + (at - start) ≡ at = omega arith in
@@ -73,7 +73,7 @@ word_ends b next word text at r lt is e there =
           ∙ e,
     )
 
-last_of-pushed : (us : Trees) (t : Tree) → last_of (pushed us t) ≡ Some t
+pub last_of-pushed : (us : Trees) (t : Tree) → last_of (pushed us t) ≡ Some t
 last_of-pushed no_trees t = refl
 last_of-pushed (more u no_trees) t = refl
 last_of-pushed (more u (more v vs)) t = last_of-pushed (more v vs) t

@@ -10,3 +10,14 @@ pub mod Listed
 pub mod Building
 pub mod Answered
 pub mod Written
+pub mod Spanned
+pub mod SameNode
+pub mod Tabled
+pub mod Lined
+pub mod Opened
+pub mod LineBuilding
+pub mod Numbered
+pub mod Shown
+pub mod OneNumber
+pub mod Rows
+pub mod Levels

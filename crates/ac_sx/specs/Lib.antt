@@ -5,3 +5,9 @@ pub mod CodeRecogniser
 pub mod Answer
 pub mod CodeBuilder
 pub mod CodeWriter
+pub mod Spans
+pub mod CodeSpans
+pub mod Table
+pub mod CodeTerms
+pub mod CodeLine
+pub mod CodeTermReader

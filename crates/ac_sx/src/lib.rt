@@ -5,14 +5,19 @@
 mod builder;
 mod fault;
 pub mod laws;
-mod parts;
+mod lists;
 mod reader;
 mod recogniser;
+mod spans;
 mod sx;
+mod term_reader;
+mod terms;
 mod writer;
 
 pub use fault::SxFault;
-pub use parts::{first, headed, one, three, two};
+pub use lists::{first, headed, one, three, two};
 pub use reader::read;
+pub use spans::{SxPart, parts};
 pub use sx::Sx;
+pub use terms::{Node, TermId, Terms};
 pub use writer::write;

@@ -1,7 +1,8 @@
 //! The recogniser: whether a text is a tree's, and where it isn't, its first fault. It takes no memory.
-ghost use Rattle.std.specs.Prelude.{◌≡◌, ◌<◌, ◌≤◌, length, IsTrue};
-ghost use Rattle.ac_sx.specs.Tree.{is_atom_byte, deepest};
-ghost use Rattle.ac_sx.specs.CodeRecogniser.{begun, closed, followed, step, recognised};
+ghost use Rattle.std.specs.Prelude.{◌≡◌, ◌<◌, ◌≤◌, ◌++◌, ◌∷◌, [], length, is_some, IsTrue};
+ghost use Rattle.ac_sx.specs.Tree.{is_atom_byte, deepest, line_end};
+ghost use Rattle.ac_sx.specs.CodeRecogniser.{begun, closed, followed, step, ended, recognised};
+ghost use Rattle.ac_sx.specs.CodeLine.{reached};
 
 use crate::fault::SxFault;
 
@@ -119,9 +120,27 @@ fn step(reading: Reading, byte: u8) -> Option<Reading>
     }
 }
 
-/// Ok where the text is that of a tree that nests at most 4,096 deep; otherwise its first fault.
-pub(crate) fn recognise(text: &[u8]) -> Result<(), SxFault>
-    ensures { result ≡ recognised text.now }
+/// Whether the whole text is there.
+fn ended(at: usize, place: Place) -> Result<(), SxFault>
+    ensures { result ≡ ended at place }
+{
+    if place == Place::Whole {
+        Ok(())
+    } else {
+        Err(SxFault::NotText(at))
+    }
+}
+
+/// Whether the line's end ends a text of some tree here.
+fn ends(reading: Reading) -> bool
+    ensures { result ≡ is_some (step reading line_end) }
+{
+    reading.lists == 0 && (reading.place == Place::Word || reading.place == Place::Ended)
+}
+
+/// Where reading stands behind these bytes, or their first fault.
+fn reach(text: &[u8]) -> Result<Reading, SxFault>
+    ensures { result ≡ reached text.now }
 {
     let mut reading = Reading {
         place: Place::Begin,
@@ -136,9 +155,25 @@ pub(crate) fn recognise(text: &[u8]) -> Result<(), SxFault>
         }
         reading = next;
     }
-    if reading.place == Place::Whole {
+    Ok(reading)
+}
+
+/// Ok where the text is that of a tree that nests at most 4,096 deep; otherwise its first fault.
+pub(crate) fn recognise(text: &[u8]) -> Result<(), SxFault>
+    ensures { result ≡ recognised text.now }
+{
+    let reading = reach(text)?;
+    ended(text.len(), reading.place)
+}
+
+/// What `recognise` says of these bytes with the line's end behind them.
+pub(crate) fn recognise_line(line: &[u8]) -> Result<(), SxFault>
+    ensures { result ≡ recognised (line.now ++ line_end ∷ []) }
+{
+    let reading = reach(line)?;
+    if ends(reading) {
         Ok(())
     } else {
-        Err(SxFault::NotText(text.len()))
+        Err(SxFault::NotText(line.len()))
     }
 }

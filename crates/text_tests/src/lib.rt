@@ -2,4 +2,8 @@
 #![tactic(auto)]
 
 #[cfg(test)]
+mod spans;
+#[cfg(test)]
+mod terms;
+#[cfg(test)]
 mod trees;
