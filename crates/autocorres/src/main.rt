@@ -1,15 +1,18 @@
 //! The program: it takes its words from the command line, files from the file system, and writes to
-//! standard output.
+//! standard output, and why it doesn't do what is asked for to standard error.
 //!
 //! This is the trusted edge. What a real file gives and a real terminal takes is told by no
-//! contract; what the program does with it is the contract of `ac_core::autocorres`.
+//! contract; what the program does with it is the contract of `ac_core::autocorres`, and what it
+//! says of that the contract of `remarks::remark`.
 #![tactic(auto)]
 
 mod file_shelf;
 mod stdout_sink;
 
+use ac_base::write_whole;
 use ac_core::{Status, autocorres};
 use file_shelf::FileShelf;
+use remarks::remark;
 use std::alloc::Global;
 use std::io::ErrorKind;
 use std::process::ExitCode;
@@ -17,16 +20,33 @@ use std::{env, io};
 use stdout_sink::StdoutSink;
 
 fn main(rt: HostRuntime) -> ExitCode {
-    let mut shelf = FileShelf::new(&rt);
-    let mut sink = StdoutSink::new(io::writer(&rt));
-    let alloc = rt.alloc();
-    let status = match words(&rt, alloc) {
-        Ok(words) => autocorres(alloc, &words, &mut shelf, &mut sink),
+    let status = match words(&rt, rt.alloc()) {
+        Ok(words) => call(&rt, &words),
         Err(error) if error.kind() == ErrorKind::OutOfMemory => Status::Memory,
         // A word that isn't UTF-8 is of no form.
-        Err(_) => autocorres(alloc, &[], &mut shelf, &mut sink),
+        Err(_) => call(&rt, &[]),
     };
     ExitCode::from(status.code())
+}
+
+// Does what the words ask for, and says why it doesn't.
+fn call(rt: &HostRuntime, words: &[String]) -> Status {
+    let mut shelf = FileShelf::new(rt);
+    let mut sink = StdoutSink::new(io::writer(rt));
+    let status = autocorres(rt.alloc(), words, &mut shelf, &mut sink);
+    if status != Status::Done {
+        say(rt, words, status, &mut shelf);
+    }
+    status
+}
+
+// Writes what is said of the call to standard error. Where that can't be made or written the answer
+// stands alone.
+fn say(rt: &HostRuntime, words: &[String], status: Status, shelf: &mut FileShelf<'_, HostRuntime>) {
+    if let Ok(lines) = remark(rt.alloc(), words, status, shelf) {
+        let mut sink = StdoutSink::new(rt.stderr());
+        let _ = write_whole(&mut sink, &lines);
+    }
 }
 
 // The words after the program's name.

@@ -1,0 +1,6 @@
+pub mod Sentences
+pub mod Usage
+pub mod Fault
+pub mod Remark
+pub mod CodeLook
+pub mod Rows

@@ -1,0 +1,230 @@
+//! What is said of a call.
+
+ghost use Rattle.std.specs.Prelude.{◌≡◌, ◌≤◌, ◌++◌, ℕ, [], List, None, Some, map, IfOk, codes, string_bytes};
+ghost use Rattle.std.specs.Option.{option_map};
+ghost use Rattle.c_values.specs.Types.{Target};
+ghost use Rattle.command_line.specs.Words as forms;
+ghost use Rattle.command_line.specs.Words.{command_of};
+ghost use Rattle.command_line.specs.CodeCommand.{command_in};
+ghost use Rattle.remarks.specs.Remark as specs;
+ghost use Rattle.remarks.specs.Remark.{IsRefused, IsRemark, OfLimit, OfSource, Refuses, c_file, plain};
+ghost use Rattle.remarks.specs.Usage.{usage};
+ghost use Rattle.answers.specs.declared.status.Status.{Status};
+
+use crate::files::{CHANGED, Otherwise, about, of_file, push_sentence};
+use crate::usage::usage;
+use ac_base::Shelf;
+use answers::{Status, push};
+use command_line::{Command, asked_for, target_of};
+use std::alloc::{AllocError, Global};
+
+const LONG_FUNCTION: &str =
+    "a function has more than 800 commands once it is generated: part it into functions";
+
+const LONG_CERTIFICATE: &str = "the file has more than 67108864 bytes";
+
+const UNREAD: &str = "the file can't be read";
+
+const UNKNOWN_FUNCTION: &str =
+    "the text has no function with a body of the name that words= or bytes= gives";
+
+const NOT_ACCEPTED: &str =
+    "the certificate isn't accepted for this C file: the answer names the function, the step and the node";
+
+const NO_CERTIFICATE: &str = "this isn't what translate writes, or it is for another target";
+
+/// What is said on standard error of a call with these words that ended with this status: why, and
+/// where a C text was refused, at which place of its file. Nothing is said of a call that did what
+/// was asked for.
+///
+/// For a place the C file is read again, from the shelf: the text that is looked at is what stands
+/// there then.
+pub fn remark<H: Shelf>(
+    alloc: Global,
+    words: &[String],
+    status: Status,
+    shelf: &mut H,
+) -> Result<Vec<u8>, AllocError>
+    // Each status with its sentence. The place that is shown is that of the fault which standard output
+    // tells (`IsFault`).
+    ensures remark { IfOk result (λ v. IsRemark (H.contents shelf.old) (H.faults shelf.old)
+        (H.faults shelf.new) (command_of (map string_bytes words.now)) status v.items) }
+    // A text that is refused, and that the shelf tells, is shown with the place of its fault, unless
+    // memory runs out or the file fails.
+    ensures placed { (command : forms.Command) (target : Target) (file text : List ℕ) →
+        status ≡ Status.Source → command_of (map string_bytes words.now) ≡ Some command →
+        c_file command ≡ Some (file, target) →
+        IsRefused (H.contents shelf.old) (H.faults shelf.old) (H.faults shelf.new)
+        target file text → IfOk result (λ v. Refuses target file text v.items) }
+    ensures silent { status ≡ Status.Done → IfOk result (λ v. v.items ≡ []) }
+    ensures contents { (name : List ℕ) → H.contents shelf.new name ≡ H.contents shelf.old name }
+    ensures counts { (name : List ℕ) → H.faults shelf.old name ≤ H.faults shelf.new name }
+{
+    match asked_for(words) {
+        Some(command) => of_command(alloc, command, status, shelf),
+        None => plain(alloc, None, status),
+    }
+}
+
+// What is said of a command that ended with this status.
+fn of_command<H: Shelf>(
+    alloc: Global,
+    command: Command<'_>,
+    status: Status,
+    shelf: &mut H,
+) -> Result<Vec<u8>, AllocError>
+    ensures remark { IfOk result (λ v. IsRemark (H.contents shelf.old) (H.faults shelf.old)
+        (H.faults shelf.new) (Some (command_in command.entry)) status v.items) }
+    ensures contents { (name : List ℕ) → H.contents shelf.new name ≡ H.contents shelf.old name }
+    ensures counts { (name : List ℕ) → H.faults shelf.old name ≤ H.faults shelf.new name }
+{
+    match status {
+        Status::Source => of_source(alloc, command, shelf),
+        Status::Limit => of_limit(alloc, command, shelf),
+        _ => plain(alloc, Some(command), status),
+    }
+}
+
+// What is said of a command whose C text was refused.
+fn of_source<H: Shelf>(
+    alloc: Global,
+    command: Command<'_>,
+    shelf: &mut H,
+) -> Result<Vec<u8>, AllocError>
+    ensures said { IfOk result (λ v. OfSource (H.contents shelf.old) (H.faults shelf.old)
+        (H.faults shelf.new) (command_in command.entry) v.items) }
+    ensures contents { (name : List ℕ) → H.contents shelf.new name ≡ H.contents shelf.old name }
+    ensures counts { (name : List ℕ) → H.faults shelf.old name ≤ H.faults shelf.new name }
+{
+    match command {
+        Command::Write(_, file, options) => {
+            let otherwise = Otherwise {
+                file,
+                sentence: CHANGED,
+            };
+            of_file(alloc, target_of(options), file, otherwise, shelf)
+        }
+        Command::Check(file, _, target) => {
+            let otherwise = Otherwise {
+                file,
+                sentence: CHANGED,
+            };
+            of_file(alloc, target, file, otherwise, shelf)
+        }
+        _ => Ok(Vec::new(alloc)),
+    }
+}
+
+// What is said of a command that passed a limit.
+fn of_limit<H: Shelf>(
+    alloc: Global,
+    command: Command<'_>,
+    shelf: &mut H,
+) -> Result<Vec<u8>, AllocError>
+    ensures said { IfOk result (λ v. OfLimit (H.contents shelf.old) (H.faults shelf.old)
+        (H.faults shelf.new) (command_in command.entry) v.items) }
+    ensures contents { (name : List ℕ) → H.contents shelf.new name ≡ H.contents shelf.old name }
+    ensures counts { (name : List ℕ) → H.faults shelf.old name ≤ H.faults shelf.new name }
+{
+    match command {
+        Command::Write(_, file, options) => {
+            let otherwise = Otherwise {
+                file,
+                sentence: LONG_FUNCTION,
+            };
+            of_file(alloc, target_of(options), file, otherwise, shelf)
+        }
+        Command::Check(file, certificate, target) => {
+            let otherwise = Otherwise {
+                file: certificate,
+                sentence: LONG_CERTIFICATE,
+            };
+            of_file(alloc, target, file, otherwise, shelf)
+        }
+        Command::Sample(_) | Command::Trial(_, _) => {
+            text(alloc, "a sample has at most 200 functions\n")
+        }
+        _ => Ok(Vec::new(alloc)),
+    }
+}
+
+// What is said where no file is looked at.
+fn plain(alloc: Global, command: Option<Command<'_>>, status: Status) -> Result<Vec<u8>, AllocError>
+    ensures { IfOk result
+        (λ v. v.items ≡ plain (option_map command_in command.entry) status) }
+{
+    match status {
+        Status::Done | Status::Source | Status::Limit => Ok(Vec::new(alloc)),
+        Status::No => of_certificate(alloc, command, NOT_ACCEPTED),
+        Status::Words => of_words(alloc, command),
+        Status::Text => of_certificate(alloc, command, NO_CERTIFICATE),
+        Status::ReadFault => of_unread(alloc, command),
+        Status::WriteFault => text(alloc, "the answer couldn't be written whole\n"),
+        Status::Memory => text(alloc, "there isn't enough memory\n"),
+        Status::NotYet => not_built(alloc),
+    }
+}
+
+// What is said of a command's certificate.
+fn of_certificate(
+    alloc: Global,
+    command: Option<Command<'_>>,
+    sentence: &str,
+) -> Result<Vec<u8>, AllocError>
+    ensures { IfOk result (λ v. v.items
+        ≡ specs.of_certificate (option_map command_in command.entry) sentence.now) }
+{
+    match command {
+        Some(Command::Check(_, certificate, _)) => about(alloc, certificate, sentence),
+        _ => Ok(Vec::new(alloc)),
+    }
+}
+
+// What is said of words that are of no form, or of an option that names no function.
+fn of_words(alloc: Global, command: Option<Command<'_>>) -> Result<Vec<u8>, AllocError>
+    ensures { IfOk result
+        (λ v. v.items ≡ specs.of_words (option_map command_in command.entry)) }
+{
+    match command {
+        Some(Command::Write(_, file, _)) => about(alloc, file, UNKNOWN_FUNCTION),
+        _ => text(alloc, usage()),
+    }
+}
+
+// What is said of a file that couldn't be read.
+fn of_unread(alloc: Global, command: Option<Command<'_>>) -> Result<Vec<u8>, AllocError>
+    ensures { IfOk result
+        (λ v. v.items ≡ specs.of_unread (option_map command_in command.entry)) }
+{
+    match command {
+        Some(Command::Write(_, file, _)) => about(alloc, file, UNREAD),
+        Some(Command::Check(file, certificate, _)) => either(alloc, file, certificate),
+        _ => Ok(Vec::new(alloc)),
+    }
+}
+
+// That one of two files couldn't be read.
+fn either(alloc: Global, file: &str, other: &str) -> Result<Vec<u8>, AllocError>
+    ensures { IfOk result
+        (λ v. v.items ≡ specs.about (file.now ++ (codes " or " ++ other.now)) specs.unread) }
+{
+    let mut lines = Vec::from_slice(alloc, file.as_bytes())?;
+    push(&mut lines, " or ")?;
+    push(&mut lines, other)?;
+    push_sentence(&mut lines, UNREAD)?;
+    Ok(lines)
+}
+
+fn not_built(alloc: Global) -> Result<Vec<u8>, AllocError>
+    ensures { IfOk result (λ v. v.items ≡ specs.not_built ++ usage) }
+{
+    let mut lines = text(alloc, "this command isn't built yet\n")?;
+    push(&mut lines, usage())?;
+    Ok(lines)
+}
+
+fn text(alloc: Global, text: &str) -> Result<Vec<u8>, AllocError>
+    ensures { IfOk result (λ v. v.items ≡ text.now) }
+{
+    Vec::from_slice(alloc, text.as_bytes())
+}

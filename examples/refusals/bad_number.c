@@ -1,0 +1,4 @@
+unsigned half(unsigned a)
+{
+    return a * 0.5;
+}

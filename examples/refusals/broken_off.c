@@ -1,0 +1,3 @@
+unsigned next(unsigned a)
+{
+    return a + 1;

@@ -1,0 +1,5 @@
+void forever(void)
+{
+again:
+    goto again;
+}

@@ -1,0 +1,6 @@
+struct node;
+
+unsigned size(struct node *n)
+{
+    return sizeof(struct node);
+}

@@ -1,0 +1,4 @@
+unsigned *between(unsigned *p, unsigned *q)
+{
+    return p + q;
+}

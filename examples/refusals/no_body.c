@@ -1,0 +1,6 @@
+unsigned read(unsigned port);
+
+unsigned status(void)
+{
+    return read(8);
+}

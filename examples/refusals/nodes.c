@@ -1,0 +1,12 @@
+/* 129 parts of an expression */
+unsigned many(unsigned a)
+{
+    return (a + a + a + a + a + a + a + a)
+        + (a + a + a + a + a + a + a + a)
+        + (a + a + a + a + a + a + a + a)
+        + (a + a + a + a + a + a + a + a)
+        + (a + a + a + a + a + a + a + a)
+        + (a + a + a + a + a + a + a + a)
+        + (a + a + a + a + a + a + a + a)
+        + (a + a + a + a + a + a + a + a);
+}

@@ -1,0 +1,4 @@
+void bump(unsigned a)
+{
+    (a + 1) = a;
+}

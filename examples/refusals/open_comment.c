@@ -1,0 +1,4 @@
+unsigned one(void)
+{
+    return 1; /* always
+}

@@ -1,0 +1,4 @@
+unsigned *keep(unsigned a)
+{
+    return &a;
+}

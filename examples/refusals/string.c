@@ -1,0 +1,4 @@
+char first(void)
+{
+    return "first"[0];
+}

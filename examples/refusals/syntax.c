@@ -1,0 +1,4 @@
+unsigned next(unsigned a)
+{
+    return a++;
+}

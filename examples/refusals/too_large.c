@@ -1,0 +1,6 @@
+unsigned table[5000];
+
+unsigned at(unsigned i)
+{
+    return table[i];
+}

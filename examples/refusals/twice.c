@@ -1,0 +1,6 @@
+unsigned sum(unsigned a, unsigned b)
+{
+    unsigned a = b;
+
+    return a;
+}

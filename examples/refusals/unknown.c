@@ -1,0 +1,4 @@
+unsigned area(unsigned width)
+{
+    return width * height;
+}
