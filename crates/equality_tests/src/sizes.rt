@@ -1,4 +1,4 @@
-//! Deep and long programs through the kernel: nested 4,096 deep, and along a million parts. A row
+//! Deep and long programs through the kernel: nested 4,096 deep, and along 200,000 parts. A row
 //! is one of `rules`; in a cell `A*B*C*D*E` stands for so many A, one B, so many C, one D and so
 //! many E. A long program has few names, since a name is looked for in all that was passed.
 
@@ -60,12 +60,12 @@ fn deep_programs(rt: HostRuntime) -> Result<(), Fail> {
 const LONG: &str = "\
 2bind refl *exp | bind guard true *guard not not true | bind guard true *guard true | ok
 ret_first | *1bind 1ret true x *bind guard true *guard x | bind guard true *guard true | ok
-2bind refl *refl | bind guard true *guard true | bind guard true *guard false | 2000000";
+2bind refl *refl | bind guard true *guard true | bind guard true *guard false | 400000";
 
 #[test]
 fn long_programs(rt: HostRuntime) -> Result<(), Fail> {
     for line in LONG.lines() {
-        let row = repeated(rt.alloc(), line, 1_000_000)?;
+        let row = repeated(rt.alloc(), line, 200_000)?;
         assert!(rt; is_so(rt.alloc(), row.as_str())?, "{line}");
     }
     Ok(())
