@@ -5,7 +5,7 @@
                                  docs/PERFORMANCE.md, which it prints at the end
 
 It looks every second at the checks that run below the command: each names its crate, and says whether it is of the crate, of its
-tests or of a must-fail edit. What an earlier run kept costs nothing here, so take `rt ci --anew` for whole numbers.
+tests or of a must-fail edit.
 """
 
 import collections
