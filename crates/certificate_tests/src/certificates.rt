@@ -1,5 +1,6 @@
-// Texts of certificates are read and written, and texts that are none are refused at their place.
-use certificate_text::{read, write};
+// Texts of certificates are read and written, whole and function by function, and texts that are none are refused at their place.
+use ac_sx::Terms;
+use certificate_text::{Certificate, FunCert, Version, read, read_function, scan, write};
 use expression_text::TextFault;
 use std::alloc::{AllocError, Global};
 use std::process::Abort;
@@ -49,9 +50,49 @@ fn is_read(rt: &impl Abort, alloc: Global, text: &str) -> Result<(), Fail> {
     Ok(())
 }
 
+// The certificate of this function alone has this text in its list.
+fn is_alone(rt: &impl Abort, alloc: Global, function: FunCert, text: &str) -> Result<(), Fail> {
+    let mut functions = Vec::new(alloc);
+    functions.push(function)?;
+    let certificate = Certificate {
+        version: Version::One,
+        functions,
+    };
+    let written = write(alloc, &certificate)?;
+    let line = line_of(alloc, &list_of(alloc, "cert 1", &[text])?)?;
+    assert!(rt; written.as_slice() == line.as_slice(), "{text}");
+    Ok(())
+}
+
+// The index tells where the text of each function stands, and by it each is read.
+fn is_indexed(rt: &impl Abort, alloc: Global, head: &str, functions: &[&str]) -> Result<(), Fail> {
+    let line = line_of(alloc, &list_of(alloc, head, functions)?)?;
+    assert!(rt; line.len() < 1_000_000);
+    let index = scan(alloc, &line)?;
+    assert!(rt; index.functions.len() == functions.len());
+    let mut terms = Terms::new(alloc);
+    for (k, text) in functions.iter().enumerate() {
+        assert!(rt; k < index.functions.len());
+        assert!(rt; k < 1_000_000);
+        assert!(rt; terms.len() < 1_000_000);
+        let entry = &index.functions[k];
+        let span = line.get(entry.start as usize..entry.end as usize);
+        assert!(rt; span == Some(text.as_bytes()), "{text}");
+        let function = read_function(alloc, &line, &index, k as u32, &mut terms)?;
+        is_alone(rt, alloc, function, text)?;
+    }
+    Ok(())
+}
+
 fn is_refused(rt: &impl Abort, alloc: Global, text: &str, fault: TextFault) -> Result<(), Fail> {
-    match read(alloc, &line_of(alloc, text)?) {
+    let line = line_of(alloc, text)?;
+    match read(alloc, &line) {
         Ok(_) => panic!(rt; "read: {text}"),
+        Err(found) => assert!(rt; found == fault, "{text}: {found:?}"),
+    }
+    assert!(rt; line.len() < 1_000_000);
+    match scan(alloc, &line) {
+        Ok(_) => panic!(rt; "scanned: {text}"),
         Err(found) => assert!(rt; found == fault, "{text}: {found:?}"),
     }
     Ok(())
@@ -86,6 +127,20 @@ fn certificates_are_read(rt: HostRuntime) -> Result<(), Fail> {
         alloc,
         &list_of(alloc, "cert 2 ilp32", &[&plain, &lifted])?,
     )
+}
+
+#[test]
+fn functions_are_read_one_by_one(rt: HostRuntime) -> Result<(), Fail> {
+    let alloc = rt.alloc();
+    let lifted = list_of(
+        alloc,
+        "fun f numbers",
+        &[EXCEPTION, LOCAL, HEAP, WORD, EQUAL],
+    )?;
+    let plain = list_of(alloc, "fun g bytes", &[EXCEPTION, LOCAL, WORD, EQUAL])?;
+    is_indexed(&rt, alloc, "cert 1", &[])?;
+    is_indexed(&rt, alloc, "cert 1", &[&lifted, &plain])?;
+    is_indexed(&rt, alloc, "cert 2 lp64", &[&plain, &lifted, &plain])
 }
 
 #[test]

@@ -6,3 +6,9 @@ pub mod CertificateLaws
 pub mod ReadBack
 pub mod Rows
 pub mod TextRead
+pub mod Spelt
+pub mod Entries
+pub mod Scanned
+pub mod IndexRead
+pub mod Located
+pub mod IndexRows
