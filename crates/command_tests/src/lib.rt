@@ -2,6 +2,10 @@
 #![tactic(auto)]
 
 #[cfg(test)]
+mod commands;
+#[cfg(test)]
+mod kinds;
+#[cfg(test)]
 mod program_forms;
 #[cfg(test)]
 mod program_sequences;

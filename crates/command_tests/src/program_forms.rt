@@ -1,70 +1,71 @@
 //! Tests of which units of programs are well-formed: a good unit, and others that miss one thing.
 //! The programs are those of the function `f`, which takes the word `a` and the number `b` below
 //! 256 and gives a number; `q` gives nothing, and `g` is a global. `test_programs` says what the
-//! words are.
+//! words are, and `kinds` what those of a kind are.
 
+use crate::kinds::{binders, cells, kinds, text};
 use c_values::{GlobalVar, Layout, Target, Value, Word};
-use expression_lang::{Binder, Kind, Level};
-use monad_lang::{FinalFn, FinalUnit, Mon};
+use expression_lang::Level;
+use monad_lang::{FinalFn, FinalUnit};
 use monad_sorts::{is_program_sorted, is_well_formed};
 use program_sorts::Phase;
 use std::alloc::{AllocError, Global};
+use std::process::Abort;
 use std::test::Fail;
 use test_programs::{int, program_of};
-
-fn text(alloc: Global, text: &str) -> Result<String, AllocError> {
-    String::from_str(alloc, text)
-}
+use test_tables::repeated;
 
 fn function(
     alloc: Global,
     name: &str,
-    rows: &[(&str, Kind)],
-    gives: &[Kind],
-    body: Mon,
-) -> Result<FinalFn, AllocError> {
-    let mut params = Vec::new(alloc);
-    for (name, kind) in rows {
-        params.push(Binder {
-            name: text(alloc, name)?,
-            kind: *kind,
-        })?;
-    }
-    let mut results = Vec::new(alloc);
-    for kind in gives {
-        results.push(*kind)?;
-    }
+    params: &str,
+    gives: &str,
+    body: &str,
+) -> Result<FinalFn, Fail> {
+    let params = binders(alloc, params)?;
+    let results = kinds(alloc, gives)?;
+    let name = text(alloc, name)?;
     Ok(FinalFn {
-        name: text(alloc, name)?,
+        name,
         level: Level::Numbers,
         params,
         results,
-        body,
+        body: Box::into_inner(program_of(alloc, body)?),
     })
 }
 
-// A unit of the good function, with this body, and of one that gives nothing.
-fn unit(alloc: Global, body: Mon) -> Result<FinalUnit, Fail> {
+fn globals(alloc: Global) -> Result<Vec<GlobalVar>, Fail> {
     let mut globals = Vec::new(alloc);
     globals.push(GlobalVar {
         name: text(alloc, "g")?,
         ty: int(),
         initial: Value::Word(Word::new(32, 0)),
     })?;
+    Ok(globals)
+}
+
+// The good function, with this body, and one that gives nothing.
+fn functions(alloc: Global, body: &str) -> Result<Vec<FinalFn>, Fail> {
     let mut functions = Vec::new(alloc);
-    let rows = [("a", Kind::Word(32)), ("b", Kind::Nat(8))];
-    functions.push(function(alloc, "f", &rows, &[Kind::Int(32)], body)?)?;
-    functions.push(function(alloc, "q", &[], &[], Mon::Ret(Vec::new(alloc)))?)?;
-    Ok(FinalUnit {
+    functions.push(function(alloc, "f", "a:w32 b:n8", "i32", body)?)?;
+    functions.push(function(alloc, "q", "-", "-", "ret")?)?;
+    Ok(functions)
+}
+
+// Whether the unit of these functions is well-formed.
+fn are_well_formed(alloc: Global, functions: Vec<FinalFn>) -> Result<bool, Fail> {
+    let globals = globals(alloc)?;
+    let u = FinalUnit {
         layout: Layout::build(Target::Ilp32, Vec::new(alloc))?,
         globals,
         functions,
-    })
+    };
+    Ok(is_well_formed(&u))
 }
 
-// Whether the unit with this body of its function is well-formed.
+// The same of the good function with this body.
 fn fits(alloc: Global, words: &str) -> Result<bool, Fail> {
-    Ok(is_well_formed(&unit(alloc, program_of(alloc, words)?)?))
+    are_well_formed(alloc, functions(alloc, words)?)
 }
 
 const WELL_FORMED: &str = "\
@@ -123,97 +124,90 @@ bind set g n1 1ret n1
 call q
 bind 2call f a b 1ret n1";
 
-#[test]
-fn well_formed_programs(rt: HostRuntime) -> Result<(), Fail> {
-    for words in WELL_FORMED.lines() {
-        assert!(rt; fits(rt.alloc(), words)?, "{words}");
+fn are_forms(rt: &impl Abort, alloc: Global, rows: &str, expected: bool) -> Result<(), Fail> {
+    for words in rows.lines() {
+        assert!(rt; fits(alloc, words)? == expected, "{words}");
     }
     Ok(())
 }
 
 #[test]
-fn ill_formed_programs(rt: HostRuntime) -> Result<(), Fail> {
-    for words in ILL_FORMED.lines() {
-        assert!(rt; !fits(rt.alloc(), words)?, "{words}");
-    }
-    Ok(())
+fn well_formed_programs_and_others(rt: HostRuntime) -> Result<(), Fail> {
+    are_forms(&rt, rt.alloc(), WELL_FORMED, true)?;
+    are_forms(&rt, rt.alloc(), ILL_FORMED, false)
 }
 
-// Whether the unit with one function more is well-formed.
-fn fits_one_more(alloc: Global, f: FinalFn) -> Result<bool, Fail> {
-    let mut u = unit(alloc, program_of(alloc, "1ret n1")?)?;
-    u.functions.push(f)?;
-    Ok(is_well_formed(&u))
+// One function more: its name, its parameters, what it gives, its body, and whether the unit is then
+// well-formed.
+const FUNCTIONS: &str = "\
+h | x:w64 | - | ret | yes
+f | - | - | ret | no
+h | x:w12 | - | ret | no
+h | x:bool x:bool | - | ret | no
+h | - | i65 | 1ret n1 | no
+h | - | n8 n8 | 2ret n1 n1 | no";
+
+// Whether a row says of its unit what is so.
+fn is_so(alloc: Global, line: &str) -> Result<bool, Fail> {
+    let [name, params, gives, body, answer, _, _] = cells(line, " | ");
+    let mut functions = functions(alloc, "1ret n1")?;
+    functions.push(function(alloc, name, params, gives, body)?)?;
+    Ok(are_well_formed(alloc, functions)? == (answer == "yes"))
 }
 
 #[test]
 fn functions_have_distinct_names_and_kinds_that_are(rt: HostRuntime) -> Result<(), Fail> {
-    let alloc = rt.alloc();
-    let rows: [(&str, &[(&str, Kind)], &[Kind], bool); 6] = [
-        ("h", &[("x", Kind::Word(64))], &[], true),
-        ("f", &[], &[], false),
-        ("h", &[("x", Kind::Word(12))], &[], false),
-        ("h", &[("x", Kind::Bool), ("x", Kind::Bool)], &[], false),
-        ("h", &[], &[Kind::Int(65)], false),
-        ("h", &[], &[Kind::Nat(8), Kind::Nat(8)], false),
-    ];
-    for (name, params, gives, expected) in rows {
-        let words = match gives {
-            [] => "ret",
-            [_] => "1ret n1",
-            _ => "2ret n1 n1",
-        };
-        let body = program_of(alloc, words)?;
-        let f = function(alloc, name, params, gives, body)?;
-        assert!(rt; fits_one_more(alloc, f)? == expected);
+    for line in FUNCTIONS.lines() {
+        assert!(rt; is_so(rt.alloc(), line)?, "{line}");
     }
     Ok(())
+}
+
+// Whether a body is well-sorted before and after words become numbers.
+fn is_sorted(alloc: Global, words: &str) -> Result<(bool, bool), Fail> {
+    let f = function(alloc, "h", "-", "i32", words)?;
+    let u = FinalUnit {
+        layout: Layout::build(Target::Ilp32, Vec::new(alloc))?,
+        globals: Vec::new(alloc),
+        functions: Vec::new(alloc),
+    };
+    let on_words = is_program_sorted(&u, Phase::OnWords, &f);
+    let on_numbers = is_program_sorted(&u, Phase::OnNumbers, &f);
+    Ok((on_words, on_numbers))
 }
 
 #[test]
 fn names_of_kinds_are_words_before_words_become_numbers(rt: HostRuntime) -> Result<(), Fail> {
     let alloc = rt.alloc();
-    for (words, on_words) in [("1ret one", true), ("1ret n1", false)] {
-        let u = unit(alloc, program_of(alloc, "1ret n1")?)?;
-        let body = program_of(alloc, words)?;
-        let f = function(alloc, "h", &[], &[Kind::Int(32)], body)?;
-        assert!(rt; is_program_sorted(&u, Phase::OnWords, &f) == on_words);
-        assert!(rt; is_program_sorted(&u, Phase::OnNumbers, &f) == !on_words);
-    }
-    Ok(())
-}
-
-fn push_times(text: &mut String, words: &str, count: u32) -> Result<(), AllocError> {
-    for _ in 0..count {
-        text.push_str(words)?;
-    }
+    assert!(rt; is_sorted(alloc, "1ret one")? == (true, false));
+    assert!(rt; is_sorted(alloc, "1ret n1")? == (false, true));
     Ok(())
 }
 
 // Many parts bind `x`, some of them to the `x` before, and the first binds `y`; at last both are
 // asked for.
-#[test]
-fn long_sequences_have_an_answer(rt: HostRuntime) -> Result<(), Fail> {
-    let alloc = rt.alloc();
-    for (plain, count) in [(200_000u32, 5u32), (0, 1_000)] {
-        let mut words = String::from_str(alloc, "1bind 1ret n1 y 1bind 1ret n1 x ")?;
-        for _ in 0..count {
-            words.push_str("1bind 1ret x x ")?;
-            push_times(&mut words, "1bind 1ret n1 x ", plain)?;
+fn long_sequence(alloc: Global, plain: u32, count: u32) -> Result<String, AllocError> {
+    let mut words = String::from_str(alloc, "1bind 1ret n1 y 1bind 1ret n1 x ")?;
+    for _ in 0..count {
+        words.push_str("1bind 1ret x x ")?;
+        for _ in 0..plain {
+            words.push_str("1bind 1ret n1 x ")?;
         }
-        words.push_str("1ret add x y")?;
-        assert!(rt; fits(alloc, words.as_str())?, "{count}");
     }
-    Ok(())
+    words.push_str("1ret add x y")?;
+    Ok(words)
 }
 
 #[test]
-fn nested_programs_have_an_answer(rt: HostRuntime) -> Result<(), Fail> {
+fn long_and_nested_programs_have_an_answer(rt: HostRuntime) -> Result<(), Fail> {
     let alloc = rt.alloc();
-    let mut words = String::new(alloc);
-    push_times(&mut words, "1bind ", 4_095)?;
-    words.push_str("1ret b")?;
-    push_times(&mut words, " x 1ret x", 4_095)?;
-    assert!(rt; fits(alloc, words.as_str())?);
+    assert!(rt; fits(alloc, long_sequence(alloc, 200_000, 5)?.as_str())?);
+    assert!(rt; fits(alloc, long_sequence(alloc, 0, 1_000)?.as_str())?);
+    assert!(rt;
+        fits(
+            alloc,
+            repeated(alloc, "1bind *1ret b* x 1ret x", 4_095)?.as_str()
+        )?
+    );
     Ok(())
 }

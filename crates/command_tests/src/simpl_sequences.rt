@@ -4,12 +4,16 @@ use simpl_lang::{Simpl, commands, is_flat};
 use std::alloc::{AllocError, Global};
 use std::test::Fail;
 
+fn skip(alloc: Global) -> Result<Box<Simpl>, AllocError> {
+    Ok(Box::new(alloc, Simpl::Skip)?)
+}
+
 // So many skips, and then a command.
-fn skips(alloc: Global, count: u32, last: Simpl) -> Result<Simpl, AllocError> {
-    let mut s = last;
+fn skips(alloc: Global, count: u32, last: Simpl) -> Result<Box<Simpl>, AllocError> {
+    let mut s = Box::new(alloc, last)?;
     for _ in 0..count {
-        let first = Box::new(alloc, Simpl::Skip)?;
-        s = Simpl::Seq(first, Box::new(alloc, s)?);
+        let first = skip(alloc)?;
+        s = Box::new(alloc, Simpl::Seq(first, s))?;
     }
     Ok(s)
 }

@@ -22,7 +22,7 @@ struct EqualityRules;
 
 // The rule of a program between.
 fn through(alloc: Global, words: &str) -> Result<Rule, Fail> {
-    Ok(Rule::Trans(Box::new(alloc, program_of(alloc, words)?)?))
+    Ok(Rule::Trans(program_of(alloc, words)?))
 }
 
 impl Rules for EqualityRules {

@@ -3,6 +3,7 @@
 use crate::units::{function, parameter, unit, unit_of};
 use abs_print::print;
 use expression_lang::Kind;
+use monad_lang::{FinalFn, FinalUnit};
 use std::alloc::Global;
 use std::process::Abort;
 use std::test::Fail;
@@ -123,25 +124,45 @@ h : unit
   return
 ";
 
+fn sum(alloc: Global) -> Result<FinalFn, Fail> {
+    let body = program_of(alloc, "bind guard natural add a b 1ret add a b")?;
+    let mut f = function(alloc, "f", body)?;
+    f.params.push(parameter(alloc, "a", Kind::Nat(32))?)?;
+    f.params.push(parameter(alloc, "b", Kind::Nat(32))?)?;
+    f.results.push(Kind::Nat(32))?;
+    Ok(f)
+}
+
+fn truth(alloc: Global) -> Result<FinalFn, Fail> {
+    let mut g = function(alloc, "g", program_of(alloc, "1ret t")?)?;
+    for (name, kind) in [
+        ("p", Kind::Word(64)),
+        ("q", Kind::Int(8)),
+        ("t", Kind::Bool),
+    ] {
+        g.params.push(parameter(alloc, name, kind)?)?;
+    }
+    g.results.push(Kind::Bool)?;
+    Ok(g)
+}
+
+fn nothing(alloc: Global) -> Result<FinalFn, Fail> {
+    function(alloc, "h", program_of(alloc, "0ret")?)
+}
+
+fn three(alloc: Global) -> Result<FinalUnit, Fail> {
+    let mut functions = Vec::new(alloc);
+    functions.push(sum(alloc)?)?;
+    functions.push(truth(alloc)?)?;
+    functions.push(nothing(alloc)?)?;
+    unit(alloc, functions)
+}
+
 #[test]
 fn units_are_printed(rt: HostRuntime) -> Result<(), Fail> {
     let alloc = rt.alloc();
     assert!(rt; print(alloc, &unit(alloc, Vec::new(alloc))?)?.is_empty());
-    let mut functions = Vec::new(alloc);
-    let sum = program_of(alloc, "bind guard natural add a b 1ret add a b")?;
-    let mut f = function(alloc, "f", sum)?;
-    f.params.push(parameter(alloc, "a", Kind::Nat(32))?)?;
-    f.params.push(parameter(alloc, "b", Kind::Nat(32))?)?;
-    f.results.push(Kind::Nat(32))?;
-    functions.push(f)?;
-    let mut g = function(alloc, "g", program_of(alloc, "1ret t")?)?;
-    g.params.push(parameter(alloc, "p", Kind::Word(64))?)?;
-    g.params.push(parameter(alloc, "q", Kind::Int(8))?)?;
-    g.params.push(parameter(alloc, "t", Kind::Bool)?)?;
-    g.results.push(Kind::Bool)?;
-    functions.push(g)?;
-    functions.push(function(alloc, "h", program_of(alloc, "0ret")?)?)?;
-    let text = print(alloc, &unit(alloc, functions)?)?;
+    let text = print(alloc, &three(alloc)?)?;
     assert!(rt; text.as_slice() == UNIT.as_bytes());
     Ok(())
 }

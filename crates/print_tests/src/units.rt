@@ -3,7 +3,7 @@
 use c_values::{Layout, Target};
 use expression_lang::{Binder, Kind, Level};
 use monad_lang::{FinalFn, FinalUnit, Mon};
-use std::alloc::{AllocError, Global};
+use std::alloc::Global;
 use std::test::Fail;
 
 /// A unit of these functions.
@@ -16,26 +16,25 @@ pub fn unit(alloc: Global, functions: Vec<FinalFn>) -> Result<FinalUnit, Fail> {
 }
 
 /// A function of this name and body, without parameters and results.
-pub fn function(alloc: Global, name: &str, body: Mon) -> Result<FinalFn, AllocError> {
+pub fn function(alloc: Global, name: &str, body: Box<Mon>) -> Result<FinalFn, Fail> {
+    let name = String::from_str(alloc, name)?;
     Ok(FinalFn {
-        name: String::from_str(alloc, name)?,
+        name,
         level: Level::Numbers,
         params: Vec::new(alloc),
         results: Vec::new(alloc),
-        body,
+        body: Box::into_inner(body),
     })
 }
 
 /// A parameter.
-pub fn parameter(alloc: Global, name: &str, kind: Kind) -> Result<Binder, AllocError> {
-    Ok(Binder {
-        name: String::from_str(alloc, name)?,
-        kind,
-    })
+pub fn parameter(alloc: Global, name: &str, kind: Kind) -> Result<Binder, Fail> {
+    let name = String::from_str(alloc, name)?;
+    Ok(Binder { name, kind })
 }
 
 /// The unit of one function `f` of this body.
-pub fn unit_of(alloc: Global, body: Mon) -> Result<FinalUnit, Fail> {
+pub fn unit_of(alloc: Global, body: Box<Mon>) -> Result<FinalUnit, Fail> {
     let mut functions = Vec::new(alloc);
     functions.push(function(alloc, "f", body)?)?;
     unit(alloc, functions)

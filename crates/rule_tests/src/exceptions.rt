@@ -1,14 +1,13 @@
 //! Tests of the rules that take exceptions out of commands. `test_tables` says
-//! what is in a row, and `notation` what the words are.
+//! what is in a row and what the stars are, and `notation` what the words are.
 
 use crate::notation::command;
-use crate::sizes::{nested, within};
 use exception_elim::translate;
 use rule_exn::{Rule, check};
 use simpl_lang::{Simpl, is_flat};
 use std::alloc::{AllocError, Global};
 use std::test::Fail;
-use test_tables::{Row, Rules, is_remark, tree};
+use test_tables::{Row, Rules, is_remark, repeated, tree};
 
 // The rules by name.
 struct ExceptionRules;
@@ -138,48 +137,61 @@ fn is_taken(alloc: Global, left: &Simpl) -> Result<bool, Fail> {
     Ok(check(&tree, left, &right).is_ok() && is_flat(&right))
 }
 
+// The same of a command of so many parts.
+fn is_repeated_taken(alloc: Global, words: &str, count: u32) -> Result<bool, Fail> {
+    let words = repeated(alloc, words, count)?;
+    let c = command(alloc, words.as_str())?;
+    is_taken(alloc, &c)
+}
+
+const LONG: &str = "\
+seq skip *skip
+seq skip *throw
+seq throw *skip
+seq throw *throw
+while_true *skip
+while_true *throw";
+
 #[test]
 fn long_spines_are_translated_and_checked(rt: HostRuntime) -> Result<(), Fail> {
-    let alloc = rt.alloc();
-    for head in ["seq", "seq_throw", "while"] {
-        for inner in [Simpl::Skip, Simpl::Throw] {
-            let c = nested(alloc, head, 1_000_000, inner)?;
-            assert!(rt; is_taken(alloc, &c)?, "{head}");
-        }
+    for words in LONG.lines() {
+        assert!(rt; is_repeated_taken(rt.alloc(), words, 1_000_000)?, "{words}");
     }
     Ok(())
 }
 
+const DEEP: &str = "\
+seq *skip* skip
+seq *throw* skip
+catch *skip* skip
+catch *throw* skip
+catch *skip* throw
+catch *throw* throw";
+
 #[test]
 fn deep_nesting_is_translated_and_checked(rt: HostRuntime) -> Result<(), Fail> {
-    let alloc = rt.alloc();
-    for head in ["seq_left", "catch_left", "catch_throw"] {
-        for inner in [Simpl::Skip, Simpl::Throw] {
-            let c = nested(alloc, head, 4_096, inner)?;
-            assert!(rt; is_taken(alloc, &c)?, "{head}");
-        }
+    for words in DEEP.lines() {
+        assert!(rt; is_repeated_taken(rt.alloc(), words, 4_096)?, "{words}");
     }
     Ok(())
 }
 
 // A straight line, nested loops that are left, and nested choices, of 100, 200, 400 and 800
 // commands.
+const SHAPES: [(&str, [u32; 4]); 3] = [
+    ("seq set *set", [50, 100, 200, 400]),
+    (
+        "catch while catch seq cond throw skip *set* skip skip",
+        [11, 22, 44, 89],
+    ),
+    ("cond seq set *set* skip", [25, 50, 100, 200]),
+];
+
 #[test]
 fn commands_of_many_sizes(rt: HostRuntime) -> Result<(), Fail> {
-    let alloc = rt.alloc();
-    let shapes = [
-        ("seq set ", "", [50u32, 100, 200, 400]),
-        (
-            "catch while catch seq cond throw skip ",
-            " skip skip",
-            [11, 22, 44, 89],
-        ),
-        ("cond seq set ", " skip", [25, 50, 100, 200]),
-    ];
-    for (before, after, sizes) in shapes {
+    for (words, sizes) in SHAPES {
         for times in sizes {
-            let c = within(alloc, before, after, times)?;
-            assert!(rt; is_taken(alloc, &c)?, "{before}");
+            assert!(rt; is_repeated_taken(rt.alloc(), words, times)?, "{words}");
         }
     }
     Ok(())

@@ -8,5 +8,3 @@ mod exceptions;
 mod locals;
 #[cfg(test)]
 mod notation;
-#[cfg(test)]
-mod sizes;

@@ -8,14 +8,15 @@ use monad_lang::Mon;
 use program_facts::Parts;
 use rule_heap::{Context, Rule, check};
 use rule_trees::{At, Tree};
-use std::alloc::{AllocError, Global};
+use std::alloc::Global;
 use std::test::Fail;
 use test_programs::program_of;
 use test_tables::{Row, Rules, is_remark, tree};
 
-// An address that a rule says, by its name.
-fn address(alloc: Global, name: &str) -> Result<Box<Exp>, AllocError> {
-    Ok(Box::new(alloc, Exp::Var(String::from_str(alloc, name)?))?)
+// A name, as an address that a rule says.
+fn address(alloc: Global, name: &str) -> Result<Box<Exp>, Fail> {
+    let name = String::from_str(alloc, name)?;
+    Ok(Box::new(alloc, Exp::Var(name))?)
 }
 
 // The rules by name.
@@ -55,6 +56,7 @@ impl Rules for HeapRules {
     }
 }
 
+// What the kernel says.
 fn verdict(l: &Layout, t: &Tree<Rule>, left: &Mon, right: &Mon) -> Result<(), At> {
     let names = Names::new();
     let facts: Facts<'_, Parts<'_>> = Facts::new(l, &[], &names);
@@ -65,6 +67,14 @@ fn verdict(l: &Layout, t: &Tree<Rule>, left: &Mon, right: &Mon) -> Result<(), At
     check(t, left, right, context)
 }
 
+// The same of the words of a row.
+fn found(alloc: Global, l: &Layout, row: &Row<'_>) -> Result<Result<(), At>, Fail> {
+    let left = program_of(alloc, row.left)?;
+    let right = program_of(alloc, row.right)?;
+    let t = tree::<HeapRules>(alloc, row.rules)?;
+    Ok(verdict(l, &t, &left, &right))
+}
+
 /// Whether the kernel says what the row of a line does.
 pub(crate) fn is_so(alloc: Global, line: &str) -> Result<bool, Fail> {
     if is_remark(line) {
@@ -72,10 +82,7 @@ pub(crate) fn is_so(alloc: Global, line: &str) -> Result<bool, Fail> {
     }
     let row = Row::read(line)?;
     let l = Layout::build(Target::Ilp32, Vec::new(alloc))?;
-    let t = tree::<HeapRules>(alloc, row.rules)?;
-    let left = program_of(alloc, row.left)?;
-    let right = program_of(alloc, row.right)?;
-    Ok(row.says(verdict(&l, &t, &left, &right)))
+    Ok(row.says(found(alloc, &l, &row)?))
 }
 
 const INSTANCES: &str = "\

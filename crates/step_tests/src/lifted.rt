@@ -1,57 +1,13 @@
 //! Tests of what lifts programs to typed heaps: a program of each kind, and long and deep ones.
+//! `test_programs` says what the words are, and `test_tables` what the stars are.
 
-use c_values::{CType, IntType};
-use expression_lang::{Exp, Path};
 use heap_lift::translate;
-use monad_lang::{Mon, Place};
 use rule_heap::Rule;
 use rule_trees::Tree;
-use std::alloc::{AllocError, Global};
+use std::alloc::Global;
 use std::test::Fail;
-
-fn pointer(alloc: Global) -> Result<Box<Exp>, AllocError> {
-    Ok(Box::new(alloc, Exp::Var(String::from_str(alloc, "p")?))?)
-}
-
-fn int() -> CType {
-    CType::Int(IntType::Int)
-}
-
-fn load(alloc: Global) -> Result<Exp, AllocError> {
-    Ok(Exp::Load(int(), pointer(alloc)?, Path::Here))
-}
-
-fn read(alloc: Global) -> Result<Exp, AllocError> {
-    Ok(Exp::Read(int(), pointer(alloc)?, Path::Here))
-}
-
-fn may_point(alloc: Global) -> Result<Mon, AllocError> {
-    Ok(Mon::Guard(Exp::PtrOk(int(), pointer(alloc)?)))
-}
-
-fn is_tagged(alloc: Global) -> Result<Mon, AllocError> {
-    Ok(Mon::Guard(Exp::Tagged(int(), pointer(alloc)?)))
-}
-
-fn then(alloc: Global, first: Mon, last: Mon) -> Result<Mon, AllocError> {
-    let first = Box::new(alloc, first)?;
-    let last = Box::new(alloc, last)?;
-    Ok(Mon::Bind(first, Vec::new(alloc), last))
-}
-
-fn store(alloc: Global) -> Result<Mon, AllocError> {
-    let place = Place::Stored(int(), Box::into_inner(pointer(alloc)?), Path::Here);
-    Ok(Mon::Write(place, load(alloc)?))
-}
-
-fn write(alloc: Global) -> Result<Mon, AllocError> {
-    let place = Place::Written(int(), Box::into_inner(pointer(alloc)?), Path::Here);
-    Ok(Mon::Write(place, read(alloc)?))
-}
-
-fn nothing(alloc: Global) -> Mon {
-    Mon::Ret(Vec::new(alloc))
-}
+use test_programs::program_of;
+use test_tables::repeated;
 
 // The nodes along the last parts.
 fn depth(tree: &Tree<Rule>) -> u32 {
@@ -64,102 +20,91 @@ fn depth(tree: &Tree<Rule>) -> u32 {
     count
 }
 
+fn is_named(rule: &Rule, name: &str) -> bool {
+    match rule {
+        Rule::Pointer => name == "pointer",
+        Rule::Bind => name == "bind",
+        Rule::Same => name == "same",
+        _ => false,
+    }
+}
+
+// What each program becomes, by which rule, and at which depth.
+const ROWS: [(&str, &str, &str, u32); 3] = [
+    // a store behind a pair of tests
+    (
+        "bind guard ptrok p bind guard tagged p store p load p",
+        "bind guard tagged p write p read p",
+        "pointer",
+        4,
+    ),
+    // a test alone stays
+    (
+        "bind guard ptrok p store p load p",
+        "bind guard ptrok p write p read p",
+        "bind",
+        4,
+    ),
+    // where there is nothing to do
+    (
+        "bind guard tagged p ret",
+        "bind guard tagged p ret",
+        "same",
+        1,
+    ),
+];
+
 #[test]
-fn a_store_behind_a_pair_of_tests(rt: HostRuntime) -> Result<(), Fail> {
+fn programs_are_lifted(rt: HostRuntime) -> Result<(), Fail> {
     let alloc = rt.alloc();
-    let rest = then(alloc, is_tagged(alloc)?, store(alloc)?)?;
-    let left = then(alloc, may_point(alloc)?, rest)?;
-    let (right, tree) = translate(alloc, &left)?;
-    let wanted = then(alloc, is_tagged(alloc)?, write(alloc)?)?;
-    assert!(rt; right.same(&wanted));
-    assert!(rt; matches!(tree.rule, Rule::Pointer));
-    assert!(rt; depth(&tree) == 4);
+    for (words, wanted, rule, nodes) in ROWS {
+        let left = program_of(alloc, words)?;
+        let (right, tree) = translate(alloc, &left)?;
+        let wanted = program_of(alloc, wanted)?;
+        assert!(rt; right.same(&wanted), "{words}");
+        assert!(rt; is_named(&tree.rule, rule), "{words}");
+        assert!(rt; depth(&tree) == nodes, "{words}");
+    }
     Ok(())
 }
 
-#[test]
-fn a_test_alone_stays(rt: HostRuntime) -> Result<(), Fail> {
-    let alloc = rt.alloc();
-    let left = then(alloc, may_point(alloc)?, store(alloc)?)?;
+// The depth of what a program with so many parts becomes, and 0 where that isn't on heaps.
+fn depth_of(alloc: Global, words: &str, count: u32) -> Result<u32, Fail> {
+    let words = repeated(alloc, words, count)?;
+    let left = program_of(alloc, words.as_str())?;
     let (right, tree) = translate(alloc, &left)?;
-    let wanted = then(alloc, may_point(alloc)?, write(alloc)?)?;
-    assert!(rt; right.same(&wanted));
-    assert!(rt; matches!(tree.rule, Rule::Bind));
-    Ok(())
+    Ok(if right.is_heaps() { depth(&tree) } else { 0 })
 }
 
-#[test]
-fn where_there_is_nothing_to_do(rt: HostRuntime) -> Result<(), Fail> {
-    let alloc = rt.alloc();
-    let left = then(alloc, is_tagged(alloc)?, nothing(alloc))?;
-    let (right, tree) = translate(alloc, &left)?;
-    assert!(rt; right.same(&left));
-    assert!(rt; matches!(tree.rule, Rule::Same));
-    assert!(rt; depth(&tree) == 1);
-    Ok(())
-}
+// Long programs: stores, pairs of tests, and what needs nothing to be done.
+const LONG: [(&str, u32); 3] = [
+    ("bind store p load p *ret", 1_000_001),
+    ("bind guard ptrok p bind guard tagged p *ret", 1_000_001),
+    ("bind guard tagged p *ret", 1),
+];
 
-// So many of a program, one after the other.
 #[test]
 fn long_programs_are_lifted(rt: HostRuntime) -> Result<(), Fail> {
-    let alloc = rt.alloc();
-    for kind in ["store", "pair", "plain"] {
-        let mut left = nothing(alloc);
-        for _ in 0..1_000_000 {
-            left = match kind {
-                "store" => then(alloc, store(alloc)?, left)?,
-                "pair" => {
-                    let rest = then(alloc, is_tagged(alloc)?, left)?;
-                    then(alloc, may_point(alloc)?, rest)?
-                }
-                _ => then(alloc, is_tagged(alloc)?, left)?,
-            };
-        }
-        let (right, tree) = translate(alloc, &left)?;
-        assert!(rt; right.is_heaps(), "{kind}");
-        let wanted = if kind == "plain" { 1 } else { 1_000_001 };
-        assert!(rt; depth(&tree) == wanted, "{kind}");
+    for (words, nodes) in LONG {
+        assert!(rt; depth_of(rt.alloc(), words, 1_000_000)? == nodes, "{words}");
     }
     Ok(())
 }
 
-#[test]
-fn deep_programs_are_lifted(rt: HostRuntime) -> Result<(), Fail> {
-    let alloc = rt.alloc();
-    for kind in ["bind", "if", "loop"] {
-        let mut left = store(alloc)?;
-        for _ in 0..4_095 {
-            let part = Box::new(alloc, left)?;
-            let last = Box::new(alloc, nothing(alloc))?;
-            left = match kind {
-                "bind" => Mon::Bind(part, Vec::new(alloc), last),
-                "if" => Mon::If(load(alloc)?, part, last),
-                _ => Mon::Loop(Vec::new(alloc), Exp::Truth(true), load(alloc)?, part),
-            };
-        }
-        let (right, tree) = translate(alloc, &left)?;
-        assert!(rt; right.is_heaps(), "{kind}");
-        assert!(rt; !tree.parts.is_empty(), "{kind}");
-    }
-    Ok(())
-}
+// Deep programs, and deep and long expressions.
+const DEEP: [(&str, u32); 6] = [
+    ("bind *store p load p* ret", 4_095),
+    ("if load p *store p load p* ret", 4_095),
+    ("loop true load p *store p load p", 4_095),
+    ("*guard *and *load p* true", 4_096),
+    ("*guard *and true *load p", 1_000_000),
+    ("*guard *load *load p", 4_096),
+];
 
 #[test]
-fn deep_expressions_are_lifted(rt: HostRuntime) -> Result<(), Fail> {
-    let alloc = rt.alloc();
-    for (kind, count) in [("left", 4_096), ("right", 1_000_000), ("pointer", 4_096)] {
-        let mut e = load(alloc)?;
-        for _ in 0..count {
-            let part = Box::new(alloc, e)?;
-            e = match kind {
-                "left" => Exp::And(part, Box::new(alloc, Exp::Truth(true))?),
-                "right" => Exp::And(Box::new(alloc, Exp::Truth(true))?, part),
-                _ => Exp::Load(int(), part, Path::Here),
-            };
-        }
-        let (right, tree) = translate(alloc, &Mon::Guard(e))?;
-        assert!(rt; right.is_heaps(), "{kind}");
-        assert!(rt; !tree.parts.is_empty(), "{kind}");
+fn deep_programs_and_expressions_are_lifted(rt: HostRuntime) -> Result<(), Fail> {
+    for (words, count) in DEEP {
+        assert!(rt; depth_of(rt.alloc(), words, count)? > 1, "{words}");
     }
     Ok(())
 }

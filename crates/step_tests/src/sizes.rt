@@ -1,41 +1,11 @@
 //! Programs of many sizes, through the kernels of both steps and the translator to numbers: deep
 //! ones, and ones where what is wanted is known from far before. A row is one of `heaps` or
-//! `words`; in a cell `A*B*C*D` stands for so many A, one B, so many C and one D. What the kernels
-//! cost is counted in `docs/PERFORMANCE.md`.
+//! `words`, with the stars of `test_tables`. What the kernels cost is counted in
+//! `docs/PERFORMANCE.md`.
 
 use crate::{heaps, words};
-use std::alloc::{AllocError, Global};
 use std::test::Fail;
-
-fn push_times(text: &mut String, part: &str, count: u32) -> Result<(), AllocError> {
-    for _ in 0..count {
-        text.push_str(part)?;
-    }
-    Ok(())
-}
-
-fn push_cell(text: &mut String, cell: &str, count: u32) -> Result<(), AllocError> {
-    if !cell.contains('*') {
-        return text.push_str(cell);
-    }
-    for (k, part) in cell.split('*').enumerate() {
-        let times = if k % 2 == 0 { count } else { 1 };
-        push_times(text, part, times)?;
-    }
-    Ok(())
-}
-
-// A row with so many parts.
-fn repeated(alloc: Global, line: &str, count: u32) -> Result<String, AllocError> {
-    let mut text = String::new(alloc);
-    for (k, cell) in line.split(" | ").enumerate() {
-        if k > 0 {
-            text.push_str(" | ")?;
-        }
-        push_cell(&mut text, cell, count)?;
-    }
-    Ok(text)
-}
+use test_tables::repeated;
 
 const DEEP_ON_HEAPS: &str = "\
 2bind *1guard 1tagged leaf* ret | bind *guard tagged p* ret | bind *guard tagged p* ret | ok

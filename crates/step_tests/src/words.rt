@@ -117,25 +117,34 @@ fn given(name: &str) -> Result<Option<Kind>, Fail> {
 }
 
 fn binder(alloc: Global, name: &str, kind: Kind) -> Result<Binder, AllocError> {
-    Ok(Binder {
-        name: String::from_str(alloc, name)?,
-        kind,
-    })
+    let name = String::from_str(alloc, name)?;
+    Ok(Binder { name, kind })
+}
+
+// Names, all of one kind.
+fn push_binders(
+    alloc: Global,
+    names: [&str; 2],
+    kind: Kind,
+    binders: &mut Vec<Binder>,
+) -> Result<(), AllocError> {
+    for name in names {
+        binders.push(binder(alloc, name, kind)?)?;
+    }
+    Ok(())
+}
+
+fn params(alloc: Global) -> Result<Vec<Binder>, AllocError> {
+    let mut params = Vec::new(alloc);
+    push_binders(alloc, ["a", "b"], Kind::Nat(32), &mut params)?;
+    push_binders(alloc, ["i", "j"], Kind::Int(32), &mut params)?;
+    push_binders(alloc, ["p", "q"], Kind::Word(32), &mut params)?;
+    params.push(binder(alloc, "t", Kind::Bool)?)?;
+    Ok(params)
 }
 
 fn signature(alloc: Global, given: Option<Kind>) -> Result<Signature, AllocError> {
-    let mut params = Vec::new(alloc);
-    for (name, kind) in [
-        ("a", Kind::Nat(32)),
-        ("b", Kind::Nat(32)),
-        ("i", Kind::Int(32)),
-        ("j", Kind::Int(32)),
-        ("p", Kind::Word(32)),
-        ("q", Kind::Word(32)),
-        ("t", Kind::Bool),
-    ] {
-        params.push(binder(alloc, name, kind)?)?;
-    }
+    let params = params(alloc)?;
     Ok(Signature {
         name: String::from_str(alloc, "h")?,
         level: Level::Numbers,
@@ -156,14 +165,19 @@ fn called(alloc: Global) -> Result<Signature, AllocError> {
     })
 }
 
-// The unit: a global `g`, and what may be called.
-fn unit(alloc: Global) -> Result<SimplUnit, Fail> {
+fn globals(alloc: Global) -> Result<Vec<GlobalVar>, AllocError> {
     let mut globals = Vec::new(alloc);
     globals.push(GlobalVar {
         name: String::from_str(alloc, "g")?,
         ty: int(),
         initial: Value::Word(Word::new(32, 0)),
     })?;
+    Ok(globals)
+}
+
+// The unit: a global `g`, and what may be called.
+fn unit(alloc: Global) -> Result<SimplUnit, Fail> {
+    let globals = globals(alloc)?;
     let mut signatures = Vec::new(alloc);
     signatures.push(called(alloc)?)?;
     Ok(SimplUnit {
@@ -174,35 +188,61 @@ fn unit(alloc: Global) -> Result<SimplUnit, Fail> {
     })
 }
 
+// A function, and the unit that it is in.
+#[derive(Drop)]
+struct Function {
+    unit: SimplUnit,
+    signature: Signature,
+}
+
+// The function that gives what a word says.
+fn function_giving(alloc: Global, kind: &str) -> Result<Box<Function>, Fail> {
+    let signature = signature(alloc, given(kind)?)?;
+    let unit = unit(alloc)?;
+    Ok(Box::new(alloc, Function { unit, signature })?)
+}
+
 // What the kernel says, where the left side is well-sorted.
 fn verdict(
-    u: &SimplUnit,
-    s: &Signature,
+    f: &Function,
     level: Level,
     t: &Tree<Rule>,
     left: &Mon,
     right: &Mon,
 ) -> Result<Result<(), At>, Fail> {
+    let (u, s) = (&f.unit, &f.signature);
     if !gives_on_words(u, s, left) || !are_kinds(&s.params) || !are_results(&u.signatures) {
         return Err(Fail::from("the left side is not well-sorted"));
     }
     Ok(check_words(u, s, level, left, right, t))
 }
 
+// What a row says: a tree of rules, and the programs that it takes to each other.
+#[derive(Drop)]
+struct Step {
+    rules: Tree<Rule>,
+    left: Box<Mon>,
+    right: Box<Mon>,
+}
+
+fn step_of(alloc: Global, row: &Row<'_>) -> Result<Box<Step>, Fail> {
+    let left = program_of(alloc, row.left)?;
+    let right = program_of(alloc, row.right)?;
+    let rules = tree::<WordRules>(alloc, row.rules)?;
+    Ok(Box::new(alloc, Step { rules, left, right })?)
+}
+
 // Whether the kernel says of a function of the kind what a row does, at the level of words, or at
 // that of bytes where nothing else will do.
 fn agrees(alloc: Global, kind: &str, row: &Row<'_>) -> Result<bool, Fail> {
-    let u = unit(alloc)?;
-    let s = signature(alloc, given(kind)?)?;
-    let t = tree::<WordRules>(alloc, row.rules)?;
-    let left = program_of(alloc, row.left)?;
-    let right = program_of(alloc, row.right)?;
-    let level = if right.is_heaps() {
+    let f = function_giving(alloc, kind)?;
+    let step = step_of(alloc, row)?;
+    let level = if step.right.is_heaps() {
         Level::Words
     } else {
         Level::Bytes
     };
-    Ok(row.says(verdict(&u, &s, level, &t, &left, &right)?))
+    Ok(row.says(verdict(&f, level, &step.rules, &step.left, &step.right)?))
 }
 
 /// The same of a line.
@@ -213,32 +253,38 @@ pub(crate) fn is_so(alloc: Global, line: &str) -> Result<bool, Fail> {
     }
 }
 
-/// Whether the left side of a row becomes its right side at the level of words, by rules that the
-/// kernel accepts. The names `x` and `y` are natural numbers.
+// What a program becomes at the level of words, where the names `x` and `y` are natural numbers.
+fn made(alloc: Global, f: &Function, left: &Mon) -> Result<(Box<Mon>, Tree<Rule>), AllocError> {
+    let mut locals = Vec::new(alloc);
+    push_binders(alloc, ["x", "y"], Kind::Nat(32), &mut locals)?;
+    let context = Context {
+        layout: &f.unit.layout,
+        globals: &f.unit.globals,
+        functions: &f.unit.signatures,
+    };
+    let kinds = FunctionKinds {
+        params: &f.signature.params,
+        result: f.signature.result,
+        locals: &locals,
+    };
+    translate(alloc, left, Level::Words, context, kinds)
+}
+
+// Whether a program becomes another, by rules that the kernel accepts.
+fn becomes(alloc: Global, f: &Function, left: &Mon, wanted: &Mon) -> Result<bool, Fail> {
+    let (right, tree) = made(alloc, f, left)?;
+    let found = verdict(f, Level::Words, &tree, left, &right)?;
+    Ok(right.same(wanted) && found.is_ok())
+}
+
+/// Whether the left side of a row becomes its right side.
 pub(crate) fn is_made(alloc: Global, line: &str) -> Result<bool, Fail> {
     let (kind, cells) = line.split_once(" | ").ok_or("no kind")?;
     let row = Row::read(cells)?;
-    let u = unit(alloc)?;
-    let s = signature(alloc, given(kind)?)?;
-    let mut locals = Vec::new(alloc);
-    for name in ["x", "y"] {
-        locals.push(binder(alloc, name, Kind::Nat(32))?)?;
-    }
-    let context = Context {
-        layout: &u.layout,
-        globals: &u.globals,
-        functions: &u.signatures,
-    };
-    let kinds = FunctionKinds {
-        params: &s.params,
-        result: s.result,
-        locals: &locals,
-    };
+    let f = function_giving(alloc, kind)?;
     let left = program_of(alloc, row.left)?;
     let wanted = program_of(alloc, row.right)?;
-    let (right, tree) = translate(alloc, &left, Level::Words, context, kinds)?;
-    let found = verdict(&u, &s, Level::Words, &tree, &left, &right)?;
-    Ok(right.same(&wanted) && found.is_ok())
+    becomes(alloc, &f, &left, &wanted)
 }
 
 const EXPRESSIONS: &str = "\
@@ -456,16 +502,19 @@ fn programs_that_are_no_instances(rt: HostRuntime) -> Result<(), Fail> {
     Ok(())
 }
 
+// A sum of words that stays, as a number.
+const SUM: &str = "\
+1ret 1unat 2op 1word_nat var 1word_nat var | 1ret wadd a b | 1ret nat wadd word a word b | 0";
+
 // Where words are to be numbers, no operation on words may stay, even as a number.
 #[test]
 fn no_sum_of_words_stays_among_numbers(rt: HostRuntime) -> Result<(), Fail> {
     let alloc = rt.alloc();
-    let u = unit(alloc)?;
-    let s = signature(alloc, Some(Kind::Nat(32)))?;
-    let t = tree::<WordRules>(alloc, "1ret 1unat 2op 1word_nat var 1word_nat var")?;
-    let left = program_of(alloc, "1ret wadd a b")?;
-    let right = program_of(alloc, "1ret nat wadd word a word b")?;
-    assert!(rt; verdict(&u, &s, Level::Words, &t, &left, &right)?.is_ok());
-    assert!(rt; verdict(&u, &s, Level::Numbers, &t, &left, &right)? == Err(At(0)));
+    let f = function_giving(alloc, "nat")?;
+    let step = step_of(alloc, &Row::read(SUM)?)?;
+    for (level, found) in [(Level::Words, Ok(())), (Level::Numbers, Err(At(0)))] {
+        let verdict = verdict(&f, level, &step.rules, &step.left, &step.right)?;
+        assert!(rt; verdict == found);
+    }
     Ok(())
 }

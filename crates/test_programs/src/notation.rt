@@ -14,33 +14,33 @@ use test_tables::counted;
 /// What a word with its parts spells.
 #[derive(Drop)]
 enum Spelled {
-    Exp(Exp),
-    Program(Mon),
+    Exp(Box<Exp>),
+    Program(Box<Mon>),
 }
 
 // What has been read: what stands before comes last.
 type Stack = Vec<Spelled>;
 
-fn exp(stack: &mut Stack) -> Result<Exp, Fail> {
+fn boxed(stack: &mut Stack) -> Result<Box<Exp>, Fail> {
     match stack.pop() {
         Some(Spelled::Exp(e)) => Ok(e),
         _ => Err(Fail::from("an expression is wanted")),
     }
 }
 
-fn boxed(alloc: Global, stack: &mut Stack) -> Result<Box<Exp>, Fail> {
-    Ok(Box::new(alloc, exp(stack)?)?)
+fn exp(stack: &mut Stack) -> Result<Exp, Fail> {
+    Ok(Box::into_inner(boxed(stack)?))
 }
 
-fn program(alloc: Global, stack: &mut Stack) -> Result<Box<Mon>, Fail> {
+fn program(stack: &mut Stack) -> Result<Box<Mon>, Fail> {
     match stack.pop() {
-        Some(Spelled::Program(m)) => Ok(Box::new(alloc, m)?),
+        Some(Spelled::Program(m)) => Ok(m),
         _ => Err(Fail::from("a program is wanted")),
     }
 }
 
 fn name(stack: &mut Stack) -> Result<String, Fail> {
-    match &exp(stack)? {
+    match &*boxed(stack)? {
         Exp::Var(name) => Ok(name.clone()?),
         _ => Err(Fail::from("a name is wanted")),
     }
@@ -94,6 +94,7 @@ fn constant(word: &str) -> Option<Exp> {
     match word {
         "true" => Some(Exp::Truth(true)),
         "false" => Some(Exp::Truth(false)),
+        "zero" => Some(Exp::Word(Word::new(32, 0))),
         "one" => Some(Exp::Word(Word::new(32, 1))),
         "two" => Some(Exp::Word(Word::new(32, 2))),
         "seven" => Some(Exp::Word(Word::new(32, 7))),
@@ -221,65 +222,120 @@ fn over_two(alloc: Global, word: &str, a: Box<Exp>, b: Box<Exp>) -> Result<Exp, 
     })
 }
 
+// What is put in a place.
+fn write(place: Place, stack: &mut Stack) -> Result<Mon, Fail> {
+    Ok(Mon::Write(place, exp(stack)?))
+}
+
+// An object on bytes, or of the typed heap.
+fn object(word: &str, stack: &mut Stack) -> Result<Place, Fail> {
+    let root = exp(stack)?;
+    Ok(match word {
+        "store" => Place::Stored(int(), root, Path::Here),
+        _ => Place::Written(int(), root, Path::Here),
+    })
+}
+
+// An element of such a row.
+fn element_at(alloc: Global, word: &str, stack: &mut Stack) -> Result<Place, Fail> {
+    let ty = row(alloc)?;
+    let root = exp(stack)?;
+    let path = element(alloc, boxed(stack)?)?;
+    Ok(match word {
+        "store_at" => Place::Stored(ty, root, path),
+        _ => Place::Written(ty, root, path),
+    })
+}
+
+fn global(stack: &mut Stack) -> Result<Place, Fail> {
+    Ok(Place::Global(name(stack)?, Path::Here))
+}
+
+fn call(alloc: Global, count: u32, stack: &mut Stack) -> Result<Mon, Fail> {
+    let name = name(stack)?;
+    Ok(Mon::Call(name, exps(alloc, stack, count)?))
+}
+
 // A step of a program over expressions.
 fn step(alloc: Global, word: &str, count: u32, stack: &mut Stack) -> Result<Mon, Fail> {
-    Ok(match word {
-        "ret" => Mon::Ret(exps(alloc, stack, count)?),
-        "guard" => Mon::Guard(exp(stack)?),
-        "pick" => Mon::Pick(Kind::Word(32)),
-        "pick_nat" => Mon::Pick(Kind::Nat(32)),
-        "pick_int" => Mon::Pick(Kind::Int(32)),
-        "pick_byte" => Mon::Pick(Kind::Nat(8)),
-        "pick_seven" => Mon::Pick(Kind::Nat(7)),
-        "pick_truth" => Mon::Pick(Kind::Bool),
-        "call" => Mon::Call(name(stack)?, exps(alloc, stack, count)?),
-        "store" => Mon::Write(Place::Stored(int(), exp(stack)?, Path::Here), exp(stack)?),
-        "write" => Mon::Write(Place::Written(int(), exp(stack)?, Path::Here), exp(stack)?),
-        "store_at" => {
-            let root = exp(stack)?;
-            let path = element(alloc, boxed(alloc, stack)?)?;
-            Mon::Write(Place::Stored(row(alloc)?, root, path), exp(stack)?)
-        }
-        "write_at" => {
-            let root = exp(stack)?;
-            let path = element(alloc, boxed(alloc, stack)?)?;
-            Mon::Write(Place::Written(row(alloc)?, root, path), exp(stack)?)
-        }
-        "set" => Mon::Write(Place::Global(name(stack)?, Path::Here), exp(stack)?),
-        _ => return Err(Fail::from("no such step")),
-    })
+    match word {
+        "ret" => Ok(Mon::Ret(exps(alloc, stack, count)?)),
+        "guard" => Ok(Mon::Guard(exp(stack)?)),
+        "pick" => Ok(Mon::Pick(Kind::Word(32))),
+        "pick_nat" => Ok(Mon::Pick(Kind::Nat(32))),
+        "pick_int" => Ok(Mon::Pick(Kind::Int(32))),
+        "pick_byte" => Ok(Mon::Pick(Kind::Nat(8))),
+        "pick_seven" => Ok(Mon::Pick(Kind::Nat(7))),
+        "pick_truth" => Ok(Mon::Pick(Kind::Bool)),
+        "call" => call(alloc, count, stack),
+        "store" | "write" => write(object(word, stack)?, stack),
+        "store_at" | "write_at" => write(element_at(alloc, word, stack)?, stack),
+        "set" => write(global(stack)?, stack),
+        _ => Err(Fail::from("no such step")),
+    }
+}
+
+fn bind(alloc: Global, count: u32, stack: &mut Stack) -> Result<Mon, Fail> {
+    let first = program(stack)?;
+    let names = names(alloc, stack, count)?;
+    Ok(Mon::Bind(first, names, program(stack)?))
+}
+
+fn choice(stack: &mut Stack) -> Result<Mon, Fail> {
+    let test = exp(stack)?;
+    let first = program(stack)?;
+    Ok(Mon::If(test, first, program(stack)?))
+}
+
+fn repeat(alloc: Global, count: u32, stack: &mut Stack) -> Result<Mon, Fail> {
+    let starts = starts(alloc, stack, count)?;
+    let guard = boxed(stack)?;
+    let test = boxed(stack)?;
+    let body = program(stack)?;
+    Ok(Mon::Loop(starts, Box::into_inner(guard), Box::into_inner(test), body))
 }
 
 // A program over programs.
 fn whole(alloc: Global, word: &str, count: u32, stack: &mut Stack) -> Result<Mon, Fail> {
-    Ok(match word {
-        "bind" => {
-            let first = program(alloc, stack)?;
-            let names = names(alloc, stack, count)?;
-            Mon::Bind(first, names, program(alloc, stack)?)
-        }
-        "if" => {
-            let test = exp(stack)?;
-            let first = program(alloc, stack)?;
-            Mon::If(test, first, program(alloc, stack)?)
-        }
-        "loop" => {
-            let starts = starts(alloc, stack, count)?;
-            let guard = exp(stack)?;
-            let test = exp(stack)?;
-            Mon::Loop(starts, guard, test, program(alloc, stack)?)
-        }
-        _ => return Err(Fail::from("no such program")),
-    })
+    match word {
+        "bind" => bind(alloc, count, stack),
+        "if" => choice(stack),
+        "loop" => repeat(alloc, count, stack),
+        _ => Err(Fail::from("no such program")),
+    }
+}
+
+fn spelled_exp(alloc: Global, e: Exp) -> Result<Spelled, Fail> {
+    Ok(Spelled::Exp(Box::new(alloc, e)?))
+}
+
+fn spelled_program(alloc: Global, m: Mon) -> Result<Spelled, Fail> {
+    Ok(Spelled::Program(Box::new(alloc, m)?))
+}
+
+// A choice between expressions.
+fn choose(stack: &mut Stack) -> Result<Exp, Fail> {
+    let test = boxed(stack)?;
+    let first = boxed(stack)?;
+    Ok(Exp::If(test, first, boxed(stack)?))
+}
+
+// A name, which is one letter or begins with `$`, or an expression over two parts.
+fn other(alloc: Global, word: &str, stack: &mut Stack) -> Result<Exp, Fail> {
+    if word.len() == 1 || word.starts_with('$') {
+        return Ok(Exp::Var(String::from_str(alloc, word)?));
+    }
+    let first = boxed(stack)?;
+    over_two(alloc, word, first, boxed(stack)?)
 }
 
 // One word more.
 fn read(alloc: Global, word: &str, stack: &mut Stack) -> Result<Spelled, Fail> {
     if let Some(e) = constant(word) {
-        return Ok(Spelled::Exp(e));
+        return spelled_exp(alloc, e);
     }
     let (count, head) = counted(word);
-    Ok(match head {
+    match head {
         "ret"
         | "guard"
         | "pick"
@@ -293,8 +349,8 @@ fn read(alloc: Global, word: &str, stack: &mut Stack) -> Result<Spelled, Fail> {
         | "write"
         | "store_at"
         | "write_at"
-        | "set" => Spelled::Program(step(alloc, head, count, stack)?),
-        "bind" | "if" | "loop" => Spelled::Program(whole(alloc, head, count, stack)?),
+        | "set" => spelled_program(alloc, step(alloc, head, count, stack)?),
+        "bind" | "if" | "loop" => spelled_program(alloc, whole(alloc, head, count, stack)?),
         "wneg"
         | "wnot"
         | "zext"
@@ -315,21 +371,10 @@ fn read(alloc: Global, word: &str, stack: &mut Stack) -> Result<Spelled, Fail> {
         | "ptrok"
         | "at"
         | "tagged_row"
-        | "ptrok_row" => Spelled::Exp(over_one(alloc, head, boxed(alloc, stack)?)?),
-        "choose" => {
-            let test = boxed(alloc, stack)?;
-            let first = boxed(alloc, stack)?;
-            Spelled::Exp(Exp::If(test, first, boxed(alloc, stack)?))
-        }
-        _ => {
-            if head.len() == 1 {
-                Spelled::Exp(Exp::Var(String::from_str(alloc, head)?))
-            } else {
-                let first = boxed(alloc, stack)?;
-                Spelled::Exp(over_two(alloc, head, first, boxed(alloc, stack)?)?)
-            }
-        }
-    })
+        | "ptrok_row" => spelled_exp(alloc, over_one(alloc, head, boxed(stack)?)?),
+        "choose" => spelled_exp(alloc, choose(stack)?),
+        _ => spelled_exp(alloc, other(alloc, head, stack)?),
+    }
 }
 
 // What words spell.
@@ -347,7 +392,7 @@ fn read_words(alloc: Global, words: &str) -> Result<Spelled, Fail> {
 
 /// The program that words spell. `2ret a b` gives two values, `1bind M x N` binds a name of M in N,
 /// `if e M N` asks e, `1loop x e g t M` begins with e under x, and `1call f a` calls f with a.
-pub fn program_of(alloc: Global, words: &str) -> Result<Mon, Fail> {
+pub fn program_of(alloc: Global, words: &str) -> Result<Box<Mon>, Fail> {
     match read_words(alloc, words)? {
         Spelled::Program(m) => Ok(m),
         Spelled::Exp(_) => Err(Fail::from("a program is wanted")),

@@ -101,7 +101,7 @@ fn rows_are_made_tidy(rt: HostRuntime) -> Result<(), Fail> {
 // So many first parts, and then a last one.
 fn repeated(alloc: Global, count: u32, first: &str, last: &str) -> Result<Box<Mon>, Fail> {
     let part = program_of(alloc, first)?;
-    let mut whole = Box::new(alloc, program_of(alloc, last)?)?;
+    let mut whole = program_of(alloc, last)?;
     for _ in 0..count {
         let first = part.copy(alloc)?;
         whole = Box::new(alloc, Mon::Bind(first, Vec::new(alloc), whole))?;
