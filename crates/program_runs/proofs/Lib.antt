@@ -1,0 +1,13 @@
+pub mod Narrows
+pub mod WideOneEnd
+pub mod Bindings
+pub mod Costs
+pub mod Changed
+pub mod Lists
+pub mod AlongPaths
+pub mod MachineSteps
+pub mod Leading
+pub mod Stacks
+pub mod States
+pub mod Turns
+pub mod Calls
