@@ -20,9 +20,9 @@ use std::alloc::Global;
 /// Does what the words ask for: reads the files that they name from the shelf, and writes the
 /// answer, or the line of a fault, to the sink.
 ///
-/// So far `show`, `print`, `translate`, `check` and `sample` are built. Programs that are written are
-/// tidy, and have names, types and numbers of the text alone, so that what is written is the text of
-/// no others.
+/// So far `show`, `print`, `translate`, `check`, `sample` and `trial` are built. Programs that are
+/// written are tidy, and have names, types and numbers of the text alone, so that what is written is
+/// the text of no others.
 pub fn autocorres<H: Shelf, K: Sink>(
     alloc: Global,
     words: &[String],

@@ -37,6 +37,7 @@ pub(crate) fn tried(alloc: Global, unit: &TypedUnit, target: Target) -> Result<A
         return Err(AllocError);
     }
     let functions = translate_functions(alloc, &generated)?;
+    // The kernel is run, though what is translated is proved to be accepted: a trial is a run of both.
     if check_functions(&generated, &functions).is_err() {
         unreachable!()
     }

@@ -131,7 +131,7 @@ fn with(alloc: Global, text: &[u8], node: &Node, word: &str) -> Result<Vec<u8>, 
     Ok(made)
 }
 
-// A rule without children that no node of the texts below is an instance of.
+// A rule without children. Few nodes are instances of it, and those are left as they are.
 fn other_rule(phase: &[u8]) -> &'static str {
     match phase {
         b"exception" => "throw",
