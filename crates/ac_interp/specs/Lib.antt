@@ -1,4 +1,1 @@
-pub mod Locals
-pub mod Guarded
-pub mod CodeRun
 pub mod WideRun

@@ -1,0 +1,42 @@
+-- Commands cost something, and a function's body no more than all of them.
+use Rattle.std.proofs.Common.{◌≡◌, ℕ, ◌+◌, ◌<◌, ◌≤◌, List, [], ◌∷◌, Option, Some, sym, ◌∙◌, subst, arith}
+use Rattle.c_values.specs.Name.{Name, same_name}
+use Rattle.simpl_lang.specs.Command.{Simpl, Skip, Throw, Set, SetGlobal, Store, Pick, Seq, Cond, Guard, Catch, While, Call, SimplFn, simpl_fn}
+use Rattle.command_runs.specs.Cost.{turning, calling, cost, cost_of_all}
+use Rattle.command_runs.proofs.LocalsLaws.{by_test, where_true, where_false}
+
+turning_some : (body : List ℕ → ℕ) (gs : List ℕ) → 0 < turning body gs
+turning_some body [] = omega arith
+turning_some body (g ∷ gs) = omega arith
+
+calling_some : (gs : List ℕ) → 0 < calling gs
+calling_some [] = omega arith
+calling_some (g ∷ gs) = omega arith
+
+pub cost_some : (c : Simpl) (gs : List ℕ) → 0 < cost c gs
+cost_some Skip gs = omega arith
+cost_some Throw gs = omega arith
+cost_some (Set x e) gs = omega arith
+cost_some (SetGlobal x path e) gs = omega arith
+cost_some (Store t p path e) gs = omega arith
+cost_some (Pick x) gs = omega arith
+cost_some (Seq a b) gs = omega arith
+cost_some (Cond e a b) gs = omega arith
+cost_some (Guard c a) gs = omega arith
+cost_some (Catch a b) gs = omega arith
+cost_some (While cs e a) gs = turning_some (cost a) gs
+cost_some (Call x f es) gs = calling_some gs
+
+pub cost_of_one : (fs : List SimplFn) (x : Name) (f : SimplFn) (gs : List ℕ) → simpl_fn fs x ≡ Some f → cost f.body gs ≤ cost_of_all fs gs
+cost_of_one [] x f gs e = absurd cc
+cost_of_one (g ∷ fs) x f gs e =
+    by_test (same_name g.name x)
+    (λ b.
+    let same : g ≡ f = same_fn (sym (where_true (same_name g.name x) (Some g) (simpl_fn fs x) b) ∙ e) in
+    subst (λ k. cost k.body gs ≤ cost g.body gs + cost_of_all fs gs) same (omega arith))
+    (λ b.
+    let less = cost_of_one fs x f gs (sym (where_false (same_name g.name x) (Some g) (simpl_fn fs x) b) ∙ e) in
+    omega arith)
+  where
+    same_fn : {h k : SimplFn} → ◌≡◌ {A = Option SimplFn} (Some h) (Some k) → h ≡ k
+    same_fn q = cc

@@ -1,0 +1,5 @@
+pub mod Locals
+pub mod Guarded
+pub mod Cost
+pub mod CodeRun
+pub mod CodeMachine
