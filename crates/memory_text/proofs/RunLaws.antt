@@ -24,7 +24,7 @@ use Rattle.memory_text.proofs.NumberLaws.{address_small, natural_reads, natural_
 abbrev pub is_byte : ℕ → Bool
 is_byte b = nat_lt b 256
 
-bytes_below : (bs : List ℕ) → each is_byte bs ≡ true → IsBytes bs
+pub bytes_below : (bs : List ℕ) → each is_byte bs ≡ true → IsBytes bs
 bytes_below [] is k = omega arith
 bytes_below (b ∷ bs) is zero = ltb-true b 256 (and_parts (is_byte b) (each is_byte bs) is).0
 bytes_below (b ∷ bs) is (suc k) = bytes_below bs (and_parts (is_byte b) (each is_byte bs) is).1 k

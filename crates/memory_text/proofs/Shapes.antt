@@ -4,7 +4,7 @@ use Rattle.std.specs.Prelude.{slice_get, replicate, String}
 use Rattle.std.specs.declared.alloc.Global.{Global}
 use Rattle.c_values.specs.Name.{Name, same_name, with_name}
 use Rattle.c_values.specs.Types.{Target, CType, Struct}
-use Rattle.c_values.specs.Layout.{Layout, IsLayout, Shape, Incomplete, alignment, size, aligned, placed, Member, StructDef, struct_shape, shape_from, shapes_after, shape_of}
+use Rattle.c_values.specs.Layout.{Layout, IsLayout, Shape, Incomplete, Record, Fields, alignment, size, aligned, placed, Member, StructDef, struct_shape, shape_from, shapes_after, shape_of}
 use Rattle.c_values.specs.Growth.{struct_named}
 use Rattle.c_values.proofs.Laid.{structs_of, name_is}
 use Rattle.c_values.proofs.Defined.{layout_defined}
@@ -16,17 +16,22 @@ use Rattle.c_lang.specs.declared.tree.Variable.{Variable}
 use Rattle.c_lang.specs.CodeTyped.{variable_of}
 use Rattle.memory_text.specs.ValueText.{shapes_in, parts_of, is_number_of}
 
--- no struct is a scalar
-no_number_from : (g t : Target) (structs : Name → Shape) (ds : List StructDef) (x : Name) (n : ℤ) → ((y : Name) → is_number_of g (structs y) n ≡ false) → is_number_of g (shapes_after t structs ds x) n ≡ false
-no_number_from g t structs [] x n none = none x
-no_number_from g t structs (d ∷ ds) x n none = no_number_from g t (with_name d.name (struct_shape (shape_from t structs) d) structs) ds x n (λ y. by y (same_name d.name y))
-  where
-    by : (y : Name) (b : Bool) → is_number_of g (cond b (struct_shape (shape_from t structs) d) (structs y)) n ≡ false
-    by y true = refl
-    by y false = none y
+-- what goes for `void` and for every struct with a body goes for a struct of whatever name
+module _ {A : Type 0} (f : Shape → A) (a : A) (void : f Incomplete ≡ a) (body : (x : Name) (bytes align : ℕ) (fs : Fields) → f (Record x bytes align fs) ≡ a) where
+  any_struct_from : (t : Target) (structs : Name → Shape) (ds : List StructDef) (x : Name) → ((y : Name) → f (structs y) ≡ a) → f (shapes_after t structs ds x) ≡ a
+  any_struct_from t structs [] x all = all x
+  any_struct_from t structs (d ∷ ds) x all = any_struct_from t (with_name d.name (struct_shape (shape_from t structs) d) structs) ds x (λ y. by y (same_name d.name y))
+    where
+      by : (y : Name) (b : Bool) → f (cond b (struct_shape (shape_from t structs) d) (structs y)) ≡ a
+      by y true = body d.name _ _ _
+      by y false = all y
 
+  pub any_struct : (l : Layout) (x : Name) → f (shape_of l (Struct x)) ≡ a
+  any_struct l x = any_struct_from l.target (λ y. Incomplete) l.structs x (λ y. void)
+
+-- no struct is a scalar
 pub no_number : (g : Target) (l : Layout) (x : Name) (n : ℤ) → false ≡ is_number_of g (shape_of l (Struct x)) n
-no_number g l x n = sym (no_number_from g l.target (λ y. Incomplete) l.structs x n (λ y. refl))
+no_number g l x n = sym (any_struct (λ s. is_number_of g s n) false refl (λ y bytes align fs. refl) l x)
 
 struct_at : (ds : List StructDef) (x : Name) (d : StructDef) → struct_named ds x ≡ Some d → (k : ℕ) × (slice_get ds k ≡ Some d) × (d.name ≡ x)
 struct_at [] x d h = absurd cc

@@ -41,7 +41,7 @@ made_more : (before : List C.Value) (a : C.Value) (r : Read Values) → made (jo
 made_more before a (Ok (vs, n)) = ap (λ ws. Ok (ws, n)) (joined-push before a vs)
 made_more before a (Err n) = refl
 
-shape_at : (l : Layout) (types : List CType) (k : ℕ) (t : CType) → slice_get types k ≡ Some t → drop k (map (shape_of l) types) ≡ shape_of l t ∷ drop (k + 1) (map (shape_of l) types)
+pub shape_at : (l : Layout) (types : List CType) (k : ℕ) (t : CType) → slice_get types k ≡ Some t → drop k (map (shape_of l) types) ≡ shape_of l t ∷ drop (k + 1) (map (shape_of l) types)
 shape_at l types k t e =
     let shapes = map (shape_of l) types in
     let here = slice_get-map (shape_of l) types k ∙ ap (λ o. option_map (shape_of l) o) e in

@@ -18,3 +18,4 @@ mod writing;
 pub use fault::MemoryFault;
 pub use memory::MemoryText;
 pub use texts::{read_memory, write_memory};
+pub use types::{Types, types_of};

@@ -11,7 +11,7 @@ use c_values::{CType, Layout};
 
 /// Types in a row.
 #[derive(Clone, Copy)]
-pub(crate) enum Types<'a> {
+pub enum Types<'a> {
     /// That of an array's elements, so many times.
     Elements(&'a CType, u32),
     /// Those of a struct's members.
@@ -22,7 +22,7 @@ pub(crate) enum Types<'a> {
 
 impl<'a> Types<'a> {
     /// How many there are.
-    pub(crate) fn len(self) -> usize
+    pub fn len(self) -> usize
         ensures { result ≡ length (types_in self.entry) }
     {
         match self {
@@ -33,7 +33,7 @@ impl<'a> Types<'a> {
     }
 
     /// The type at a place.
-    pub(crate) fn get(self, k: usize) -> &'a CType
+    pub fn get(self, k: usize) -> &'a CType
         requires { k < length (types_in self) }
         ensures { slice_get (types_in self.entry) k ≡ Some (type_of result.now) }
     {
@@ -46,7 +46,7 @@ impl<'a> Types<'a> {
 }
 
 /// The types of the parts of a struct or an array.
-pub(crate) fn types_of<'a>(layout: &'a Layout, ty: &'a CType) -> Option<Types<'a>>
+pub fn types_of<'a>(layout: &'a Layout, ty: &'a CType) -> Option<Types<'a>>
     ensures { option_map (λ types. map (shape_of layout.now) (types_in types)) result
         ≡ parts_of (shape_of layout.now (type_of ty.now)) }
 {
