@@ -1,5 +1,6 @@
--- Where the run of a C function begins, by the text of a memory: its numbers as words of the widths that the types have, its bytes and its tags, and the globals, of which those that the text doesn't
--- name have their initial values. 256 calls may be nested, and the choice is the fill number's.
+-- Where the run of a C function begins, by the text of a memory: its numbers as words of the widths that the types have, its bytes and
+-- its tags, and the globals, of which those that the text doesn't name have their initial values. 256 calls may be nested, and the
+-- choice is the fill number's.
 use Rattle.std.specs.Prelude.{ℕ, ℤ, List, [], ◌∷◌, Some, unwrap_or, if◌then◌else◌}
 use Rattle.c_values.specs.Name.{Name, same_name}
 use Rattle.c_values.specs.Word.{word}
@@ -43,7 +44,8 @@ arguments_in l f m = listed (all_as_words (parameter_shapes l f) m.arguments)
 abbrev pub bytes_in : Memory → bytes.Memory
 bytes_in m = record { bytes = run_byte m.bytes; tags = m.tags }
 
--- The value that a global begins with: the first one that is set, where that is its own, else the initial one. And what is set of the globals behind it.
+-- The value that a global begins with: the first one that is set, where that is its own, else the initial one. And what is set of the
+-- globals behind it.
 abbrev pub value_set : Layout → GlobalVar → List Setting → Value × List Setting
 value_set l g [] = (g.initial, [])
 value_set l g (s ∷ ss) = if same_name g.name s.name then (as_words (shape_of l g.type) s.value, ss) else (g.initial, s ∷ ss)

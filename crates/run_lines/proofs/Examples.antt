@@ -1,0 +1,17 @@
+-- The examples compute.
+use Rattle.std.proofs.Common.{◌≡◌, ◌++◌, refl}
+use Rattle.std.specs.Prelude.{codes}
+use Rattle.std.specs.Fmt.{digits}
+use Rattle.hex.specs.Hex.{encode_with}
+use Rattle.run_lines.specs.RunLines.{run_lines}
+use Rattle.run_lines.specs.Examples.{swap_unit, swap, swap_memory, swap_end, swap_program_end, h_unit, h, h_memory, h_end, h_program_end}
+
+pub swap_lines : run_lines swap_unit swap swap_memory swap_end swap_program_end
+    ≡ codes "c value\nc at 4096 2\nc at 4100 1\nc bytes 4096 0200000001000000\n" ++ codes "abstract value\nabstract at 4096 2\nabstract at 4100 1\nagree\n"
+unfolding digits encode_with
+swap_lines = refl
+
+pub h_lines : run_lines h_unit h h_memory h_end h_program_end
+    ≡ codes "c value 1\nc at 4096 (5)\nc bytes 4096 05000000\n" ++ codes "abstract value 1\nabstract at 4096 (5)\nagree\n"
+unfolding digits encode_with
+h_lines = refl

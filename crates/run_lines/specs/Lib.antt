@@ -1,0 +1,5 @@
+pub mod Shown
+pub mod RunLines
+pub mod CodeRow
+pub mod CodeEnds
+pub mod Examples
