@@ -1,1 +1,1 @@
-pub mod WideRun
+pub mod CodeRan

@@ -1,2 +1,0 @@
-pub mod Narrows
-pub mod WideOneEnd
