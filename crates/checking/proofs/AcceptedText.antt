@@ -8,7 +8,6 @@ use Rattle.ac_sx.proofs.Answered.{file_is_shallow}
 use Rattle.c_values.specs.Types.{Target}
 use Rattle.expression_text.specs.declared.fault.TextFault.{TextFault}
 use Rattle.expression_text.specs.declared.fault.TextFault.TheVariants as F
-use Rattle.expression_text.proofs.Behind.{behind, value_ok}
 use Rattle.c_lang.specs.Typed.{TypedUnit}
 use Rattle.generation.specs.Generate.{generated}
 use Rattle.acceptance.proofs.UnitVerdicts.{unit_verdicts_decide}
@@ -20,12 +19,7 @@ use Rattle.certificate_text.proofs.CertificateLaws.{certificate_reads}
 use Rattle.answers.specs.declared.status.Status.{Status}
 use Rattle.answers.specs.declared.status.Status.TheVariants.{Done, No, Words, Source, Text, ReadFault, WriteFault, Limit, Memory, NotYet}
 use Rattle.checking.specs.Checked.{level_in, apart, target_for, IsSaid, OfCertificate, IsVerdict, IsChecked, IsAcceptedText}
-
-one_certificate : (text : List ℕ) (c d : Certificate) → IsCertificateText text c → IsCertificateText text d → c ≡ d
-one_certificate text c d h k =
-    let e : certificate_tree c ≡ certificate_tree d = one_file (certificate_tree c) (certificate_tree d) h.0.atoms k.0.atoms (sym h.0.spelled ∙ k.0.spelled) in
-    value_ok c (behind 0 (certificate_tree c)) d (behind 0 (certificate_tree d))
-    (sym (certificate_reads c h.1 0) ∙ ap (certificate_at 0) e ∙ certificate_reads d k.1 0)
+use Rattle.checking.proofs.OneText.{one_certificate}
 
 no_fault : (text : List ℕ) (c : Certificate) (fault : TextFault) (lines : List ℕ) → IsCertificateText text c → IsFaultOf text fault → IsSaid fault lines → ⊥
 no_fault text c F.NotText lines h k said = k.1.0.no_file (certificate_tree c, h.0.atoms, h.0.spelled)

@@ -1,7 +1,14 @@
 pub mod AcceptedText
+mod Along
+pub mod Answered
 mod Certified
-mod Judged
+mod Dropped
+pub mod Indexed
+pub mod Judged
+mod LastPrograms
 mod LinesLeft
 mod Listed
 mod Named
+pub mod OneText
 mod Results
+mod Told

@@ -2,6 +2,7 @@
 use Rattle.std.proofs.Common.{◌≡◌, ℕ, ◌+◌, ◌<◌, Bool, true, false, cond, List, [], ◌∷◌, map, length, Some, None, inl, inr, refl, sym, ap, ap₂, subst, ◌∙◌, arith}
 use Rattle.std.specs.Prelude.{Ok, Err}
 use Rattle.std.proofs.lemmas.Bool.{and_from, cond-true}
+use Rattle.std.proofs.lemmas.Simd.{map-map}
 use Rattle.c_values.specs.Name.{Name, same_name}
 use Rattle.c_values.proofs.Laid.{name_is, same_name-refl}
 use Rattle.expression_lang.specs.Sort.{Level, Bytes, Words, Numbers}
@@ -9,12 +10,14 @@ use Rattle.expression_lang.specs.Signature.{Signature}
 use Rattle.simpl_lang.specs.Command.{SimplFn, SimplUnit}
 use Rattle.simpl_lang.specs.Sorted.{same_level}
 use Rattle.c_lang.specs.Typed.{TypedUnit, TypedFn}
-use Rattle.generation.specs.Generate.{generated}
+use Rattle.generation.specs.Generate.{function_of, generated}
 use Rattle.acceptance.specs.Certificate.{Steps}
 use Rattle.acceptance.specs.Verdict.{Place}
 use Rattle.acceptance.specs.UnitVerdict.{of_list, of_function, UnitAnswer, is_listed, listed, AreFunctionsVerdict, AfterList, IsUnitVerdict}
 use Rattle.unit_translation.specs.CodeTranslated.{level_at}
 use Rattle.checking.specs.Checked.{names_in, function_names, level_in, listed_apart}
+use Rattle.checking.specs.Refused.{generated_names}
+use Rattle.checking.specs.Levels.{levels_listed}
 
 -- names
 
@@ -35,10 +38,13 @@ head_is x y xs ys e = cc
 rest_is : (x y : Name) (xs ys : List Name) → x ∷ xs ≡ y ∷ ys → xs ≡ ys
 rest_is x y xs ys e = cc
 
--- levels
+-- the same names don't differ
+pub none_apart : (at : ℕ) (xs : List Name) → listed_apart at xs xs ≡ None
+none_apart at [] = refl
+none_apart at (x ∷ xs) =
+    cond-true (same_name x x) (listed_apart (at + 1) xs xs) (Some (at, x)) (same_name-refl x) ∙ none_apart (at + 1) xs
 
-abbrev pub levels_listed : List Steps → List Level
-levels_listed cs = map (λ c. c.level) cs
+-- levels
 
 level_is_at : (fs : List TypedFn) (cs : List Steps) → function_names fs ≡ names_in cs → (x : Name) →
     level_in cs x ≡ level_at fs (levels_listed cs) x
@@ -65,26 +71,29 @@ level_same Bytes = refl
 level_same Words = refl
 level_same Numbers = refl
 
-module _ (levels : Name → Level) (function : TypedFn → SimplFn) (named : (f : TypedFn) → (function f).name ≡ f.name)
-    (at_level : (f : TypedFn) → (function f).level ≡ levels f.name) where
-  pub is_listed_there : (at : ℕ) (fs : List TypedFn) (cs : List Steps) → function_names fs ≡ names_in cs →
-      map (λ (f : TypedFn). levels f.name) fs ≡ levels_listed cs → listed at (map function fs) cs ≡ Ok tt
-  is_listed_there at [] [] e k = refl
-  is_listed_there at [] (c ∷ cs) e k = absurd cc
-  is_listed_there at (f ∷ fs) [] e k = absurd cc
-  is_listed_there at (f ∷ fs) (c ∷ cs) e k =
-      let n = named f ∙ head_is f.name c.name (function_names fs) (names_in cs) e in
-      let l : levels f.name ≡ c.level = cc in
-      let ls : map (λ (f : TypedFn). levels f.name) fs ≡ levels_listed cs = cc in
-      cond-true (is_listed (function f) c) (listed (at + 1) (map function fs) cs) (Err at)
-      (and_from (same_name (function f).name c.name) (same_level (function f).level c.level)
-      (subst (λ x. same_name (function f).name x ≡ true) n (same_name-refl (function f).name))
-      (subst (λ x. same_level (function f).level x ≡ true) (at_level f ∙ l) (level_same (function f).level)))
-      ∙ is_listed_there (at + 1) fs cs (rest_is f.name c.name (function_names fs) (names_in cs) e) ls
+-- functions under the same names and at the same levels
+pub alike_listed : (at : ℕ) (fs : List SimplFn) (cs : List Steps) → generated_names fs ≡ names_in cs →
+    map (λ (f : SimplFn). f.level) fs ≡ levels_listed cs → listed at fs cs ≡ Ok tt
+alike_listed at [] [] e k = refl
+alike_listed at [] (c ∷ cs) e k = absurd cc
+alike_listed at (f ∷ fs) [] e k = absurd cc
+alike_listed at (f ∷ fs) (c ∷ cs) e k =
+    let l : f.level ≡ c.level = cc in
+    let ls : map (λ (f : SimplFn). f.level) fs ≡ levels_listed cs = cc in
+    cond-true (is_listed f c) (listed (at + 1) fs cs) (Err at)
+    (and_from (same_name f.name c.name) (same_level f.level c.level)
+    (subst (λ x. same_name f.name x ≡ true) (head_is f.name c.name (generated_names fs) (names_in cs) e) (same_name-refl f.name))
+    (subst (λ x. same_level f.level x ≡ true) l (level_same f.level)))
+    ∙ alike_listed (at + 1) fs cs (rest_is f.name c.name (generated_names fs) (names_in cs) e) ls
 
-pub listed_unit : (u : TypedUnit) (levels : Name → Level) (cs : List Steps) → function_names u.functions ≡ names_in cs →
-    map (λ (f : TypedFn). levels f.name) u.functions ≡ levels_listed cs → listed 0 (generated u levels).functions cs ≡ Ok tt
-listed_unit u levels cs e k = is_listed_there levels _ (λ f. refl) (λ f. refl) 0 u.functions cs e k
+-- what is generated at levels has the text's names, and these levels
+
+pub names_generated : (u : TypedUnit) (levels : Name → Level) → generated_names (generated u levels).functions ≡ function_names u.functions
+names_generated u levels = map-map (λ (f : SimplFn). f.name) (λ (f : TypedFn). function_of u.layout (levels f.name) f) u.functions
+
+pub levels_generated : (u : TypedUnit) (levels : Name → Level) →
+    map (λ (f : SimplFn). f.level) (generated u levels).functions ≡ map (λ (f : TypedFn). levels f.name) u.functions
+levels_generated u levels = map-map (λ (f : SimplFn). f.level) (λ (f : TypedFn). function_of u.layout (levels f.name) f) u.functions
 
 -- verdicts
 

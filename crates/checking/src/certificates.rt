@@ -1,94 +1,71 @@
-//! The text of a certificate, and the target that it is for.
+//! Certificates that are held whole: whether they are accepted, and their last programs.
 
-ghost use Rattle.std.specs.Prelude.{◌≡◌, ◌↔◌, IsTrue, IfOk, Ok};
-ghost use Rattle.c_lang.specs.CodeTyped.{unit_of};
+ghost use Rattle.std.specs.Prelude.{◌≡◌, None, IfOk, map};
+ghost use Rattle.c_values.specs.Name.{Name};
+ghost use Rattle.expression_lang.specs.Sort as sorts;
+ghost use Rattle.simpl_lang.specs.CodeCommand.{simpl_unit_of};
+ghost use Rattle.simpl_lang.specs.Sorted.{IsWellFormed};
+ghost use Rattle.monad_lang.specs.CodeProgram.{final_unit_of};
+ghost use Rattle.c_lang.specs.Typed as typed;
 ghost use Rattle.c_lang.specs.WellTyped.{IsWellTyped};
-ghost use Rattle.c_values.specs.CodeTypes as types;
-ghost use Rattle.certificate_text.specs.CodeCertificate.{version_of, certificate_of};
-ghost use Rattle.certificate_text.specs.Answer.{IsFaultOf, IsCertificateText};
-ghost use Rattle.answers.specs.declared.status.Status.{Status};
-ghost use Rattle.checking.specs.Checked.{IsChecked, IsSaid, target_for};
+ghost use Rattle.generation.specs.Generate.{generated};
+ghost use Rattle.acceptance.specs.Accepted.{IsAccepted};
+ghost use Rattle.acceptance.specs.CodeCertificate.{steps_of};
+ghost use Rattle.acceptance_laws.specs.Units.{last_unit};
+ghost use Rattle.certificate_text.specs.CodeCertificate.{certificate_of};
+ghost use Rattle.checking.specs.Refused.{names_apart, AreAtLevels, IsJudged, IsAnswer, Decides};
+ghost use Rattle.checking.specs.CodeRefused.{answer_of};
+ghost use Rattle.checking.specs.Programs.{AreExactPrograms};
 
-use crate::verdicts::verdict;
-use answers::{Answer, Status, line, push};
-use c_lang::tree::TypedUnit;
-use c_values::Target;
-use certificate_text::{Certificate, Version, read};
-use expression_text::TextFault;
-use itoa::Buffer;
+use crate::last_programs::{last_functions, with_functions};
+use crate::names::apart;
+use crate::refused::Refused;
+use acceptance::{Refusal, Steps, check_functions};
+use certificate_text::Certificate;
+use monad_lang::FinalUnit;
+use simpl_lang::SimplUnit;
 use std::alloc::{AllocError, Global};
 
-/// The answer to a typed text and the text of a certificate: whether it is accepted for it, and else
-/// why not. A text that is accepted has exact programs, the last ones of the certificate.
-pub fn checked(
-    alloc: Global,
-    unit: &TypedUnit,
-    target: Target,
-    text: &[u8],
-) -> Result<Answer, AllocError>
-    requires typed { IsWellTyped (unit_of unit.now) }
-    ensures { IfOk result (λ a.
-        IsChecked (types.target_of target) text.now (unit_of unit.now) a.status a.lines.items) }
+/// Whether a certificate is accepted for a unit that was generated at its levels, and else the
+/// first place where it isn't. No memory is taken.
+pub fn check_certificate(u: &SimplUnit, c: &Certificate) -> Result<(), Refused>
+    requires formed { IsWellFormed (simpl_unit_of u.now) }
+    requires at_levels { AreAtLevels (simpl_unit_of u.now) (certificate_of c.now).functions }
+    ensures answer { IsAnswer (simpl_unit_of u.now) (certificate_of c.now).functions
+        (answer_of result) }
+    ensures decided { Decides (simpl_unit_of u.now) (certificate_of c.now).functions
+        (answer_of result) }
 {
-    match read(alloc, text) {
-        Ok(certificate) => of_certificate(alloc, unit, target, text, &certificate),
-        Err(fault) => no_certificate(alloc, fault),
+    match apart(&u.functions, &c.functions) {
+        Some((at, _name)) => Err(Refused::at_names(at)),
+        None => check_listed(u, &c.functions),
     }
 }
 
-// The answer to a text that isn't a certificate's.
-fn no_certificate(alloc: Global, fault: TextFault) -> Result<Answer, AllocError>
-    ensures { IfOk result (λ a. (a.status ≡ Status.Text) × IsSaid fault a.lines.items) }
+// The same of a certificate whose functions are the unit's.
+fn check_listed(u: &SimplUnit, certificate: &[Steps]) -> Result<(), Refused>
+    requires formed { IsWellFormed (simpl_unit_of u.now) }
+    requires at_levels { AreAtLevels (simpl_unit_of u.now) (map steps_of certificate.now) }
+    requires listed { names_apart (simpl_unit_of u.now) (map steps_of certificate.now) ≡ None }
+    ensures { IsJudged (simpl_unit_of u.now) (map steps_of certificate.now) (answer_of result) }
 {
-    match fault {
-        TextFault::NotText => line(alloc, Status::Text, "text: certificate not text\n"),
-        TextFault::Deep => line(alloc, Status::Text, "text: certificate deep\n"),
-        TextFault::Shape(at) => bad_node(alloc, at),
-        TextFault::Memory => Err(AllocError),
+    match check_functions(u, certificate) {
+        Ok(()) => Ok(()),
+        Err(Refusal::Function(at, place)) => Err(Refused::at_place(at, place)),
+        Err(Refusal::List(_)) => unreachable!(),
     }
 }
 
-// The first node of a tree that isn't a certificate's.
-fn bad_node(alloc: Global, at: u32) -> Result<Answer, AllocError>
-    ensures { IfOk result
-        (λ a. (a.status ≡ Status.Text) × IsSaid (TextFault.Shape at) a.lines.items) }
+/// The unit of a certificate's last programs: what its functions of a generated unit become in the
+/// end.
+pub fn final_unit(alloc: Global, u: &SimplUnit, c: &Certificate) -> Result<FinalUnit, AllocError>
+    ensures last { IfOk result (λ v. final_unit_of v
+        ≡ last_unit (simpl_unit_of u.now) (certificate_of c.now).functions) }
+    ensures exact { (unit : typed.TypedUnit) (levels : Name → sorts.Level) → IsWellTyped unit →
+        simpl_unit_of u.now ≡ generated unit levels →
+        IsAccepted (simpl_unit_of u.now) (certificate_of c.now).functions →
+        IfOk result (λ v. AreExactPrograms unit levels (final_unit_of v)) }
 {
-    let mut lines = Vec::from_slice(alloc, b"text: certificate shape at ")?;
-    push(&mut lines, Buffer::new().format(at))?;
-    push(&mut lines, "\n")?;
-    Ok(Answer {
-        status: Status::Text,
-        lines,
-    })
-}
-
-// The answer to a certificate.
-fn of_certificate(
-    alloc: Global,
-    unit: &TypedUnit,
-    target: Target,
-    text: &[u8],
-    certificate: &Certificate,
-) -> Result<Answer, AllocError>
-    requires typed { IsWellTyped (unit_of unit.now) }
-    requires is_text { IsCertificateText text.now (certificate_of certificate.now) }
-    ensures { IfOk result (λ a.
-        IsChecked (types.target_of target) text.now (unit_of unit.now) a.status a.lines.items) }
-{
-    if is_for(certificate.version, target) {
-        verdict(alloc, unit, &certificate.functions)
-    } else {
-        line(alloc, Status::Text, "text: certificate other target\n")
-    }
-}
-
-// Whether a certificate of a version is for a target.
-fn is_for(version: Version, target: Target) -> bool
-    ensures { IsTrue result ↔ (target_for (version_of version) ≡ types.target_of target) }
-{
-    match (version, target) {
-        (Version::One | Version::Two(Target::Ilp32), Target::Ilp32) => true,
-        (Version::Two(Target::Lp64), Target::Lp64) => true,
-        _ => false,
-    }
+    let functions = last_functions(alloc, &u.signatures, &c.functions)?;
+    with_functions(alloc, u, functions)
 }

@@ -1,9 +1,20 @@
-//! Whether a certificate is accepted for a typed text, and what is said of that.
+//! Whether a certificate is accepted for a typed text, and what is said of that; its levels, and
+//! its last programs. A certificate is held whole, or as its text, of which one function is read at
+//! a time.
 #![tactic(auto)]
 
 mod certificates;
+mod copies;
+mod last_programs;
+mod levels;
 mod lines;
 mod names;
+mod refused;
+mod texts;
 mod verdicts;
 
-pub use certificates::checked;
+pub use certificates::{check_certificate, final_unit};
+pub use levels::{ListFault, index_levels, levels_of};
+pub use refused::{Phase, Refused};
+pub use texts::{check_text, final_text};
+pub use verdicts::checked;

@@ -9,13 +9,14 @@ ghost use Rattle.c_lang.specs.CodeTyped.{function_of, unit_of};
 ghost use Rattle.c_meaning.specs.Levels as rules;
 ghost use Rattle.c_lang.specs.WellTyped.{IsWellTyped};
 ghost use Rattle.c_levels.specs.CodeModes.{AreLevels, IsAt};
-ghost use Rattle.acceptance.specs.CodePlace.{phase_of};
 ghost use Rattle.certificate_text.specs.CertificateText as texts;
 ghost use Rattle.answers.specs.declared.status.Status.{Status};
 ghost use Rattle.checking.specs.Checked.{function_names};
-ghost use Rattle.checking.specs.Lines.{reason_text, function_line, function_lines, accepted_lines, refusal_line, phase_text};
+ghost use Rattle.checking.specs.Lines.{reason_text, function_line, function_lines, accepted_lines, refusal_line};
+ghost use Rattle.checking.specs.Refused.{refused_text};
+ghost use Rattle.checking.specs.CodeRefused.{phase_of};
 
-use acceptance::Phase;
+use crate::refused::Phase;
 use answers::{Answer, Status, push};
 use c_lang::tree::{TypedFn, TypedUnit};
 use c_levels::reasons::reason;
@@ -47,11 +48,12 @@ pub(crate) fn refusal(
     })
 }
 
-/// The word of a step.
+/// The word of what isn't as it should be.
 pub(crate) fn phase_word(phase: Phase) -> &'static str
-    ensures { result.now ≡ phase_text (phase_of phase) }
+    ensures { result.now ≡ refused_text (phase_of phase) }
 {
     match phase {
+        Phase::List => "list",
         Phase::Level => "level",
         Phase::Exception => "exception",
         Phase::Local => "local",
@@ -169,8 +171,8 @@ fn add_reason(
     }
 }
 
-// The name of the function at a position.
-fn name_at(functions: &[TypedFn], k: u32) -> &str
+/// The name of the function at a position.
+pub(crate) fn name_at(functions: &[TypedFn], k: u32) -> &str
     ensures { result.now ≡ slice_index_or
         (function_names (map function_of functions.now)) k [] }
 {

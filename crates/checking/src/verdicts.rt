@@ -1,89 +1,166 @@
-//! The verdict on a certificate.
+//! What is said of the text of a certificate: the target that it is for, and the verdict on it.
 
-ghost use Rattle.std.specs.Prelude.{◌≡◌, ◌<◌, None, Some, IfOk, length, map, slice_get};
-ghost use Rattle.c_values.specs.Name.{Name};
-ghost use Rattle.expression_lang.specs.CodeExpression.{level_of};
+ghost use Rattle.std.specs.Prelude.{◌≡◌, ◌<◌, ◌^◌, ◌↔◌, [], None, IfOk, IsTrue, length, slice_index_or};
 ghost use Rattle.c_lang.specs.CodeTyped.{unit_of};
 ghost use Rattle.c_lang.specs.WellTyped.{IsWellTyped};
-ghost use Rattle.acceptance.specs.CodeCertificate.{steps_of};
-ghost use Rattle.acceptance.specs.CodePlace.{phase_of};
+ghost use Rattle.c_values.specs.CodeTypes as types;
+ghost use Rattle.certificate_text.specs.CertificateText as texts;
+ghost use Rattle.certificate_text.specs.CodeCertificate.{version_of};
+ghost use Rattle.certificate_text.specs.CodeIndex.{index_in};
+ghost use Rattle.certificate_text.specs.Answer.{IsCertificateText};
+ghost use Rattle.certificate_text.specs.IndexAnswer.{IsIndexOf};
 ghost use Rattle.answers.specs.declared.status.Status.{Status};
-ghost use Rattle.checking.specs.Lines.{refusal_line, phase_text};
-ghost use Rattle.checking.specs.Checked.{IsVerdict, function_names, listed_apart, names_in};
+ghost use Rattle.checking.specs.Lines.{refusal_line};
+ghost use Rattle.checking.specs.Refused.{refused_text};
+ghost use Rattle.checking.specs.CodeRefused.{phase_of};
+ghost use Rattle.checking.specs.Checked.{IsChecked, IsSaid, IsVerdict, apart, function_names, target_for};
 
-use crate::lines::{accepted, phase_word, refusal};
+use crate::levels::levels;
+use crate::lines::{accepted, name_at, phase_word, refusal};
 use crate::names::apart;
-use acceptance::{Place, Refusal, Steps, check_functions};
-use answers::Answer;
+use crate::refused::Refused;
+use crate::texts::check_text;
+use answers::{Answer, Status, line, push};
 use c_lang::tree::TypedUnit;
-use c_levels::Modes;
+use c_values::Target;
+use certificate_text::{CertIndex, Version, scan};
+use expression_text::TextFault;
+use itoa::Buffer;
 use simpl_gen::generate;
 use std::alloc::{AllocError, Global};
 
-/// Whether a certificate's functions are the text's and accepted, and else the first place where
-/// they aren't.
-pub(crate) fn verdict(
+/// The answer to a typed text and the text of a certificate: whether it is accepted for it, and
+/// else why not. A text that is accepted has exact programs, the last ones of the certificate.
+///
+/// No more is held of the certificate than its index and one function. A text of 2^32 bytes or more
+/// is answered as where memory runs out: no call reads so long a one.
+pub fn checked(
     alloc: Global,
     unit: &TypedUnit,
-    certificate: &[Steps],
+    target: Target,
+    text: &[u8],
 ) -> Result<Answer, AllocError>
     requires typed { IsWellTyped (unit_of unit.now) }
     ensures { IfOk result (λ a.
-        IsVerdict (unit_of unit.now) (map steps_of certificate.now) a.status a.lines.items) }
+        IsChecked (types.target_of target) text.now (unit_of unit.now) a.status a.lines.items) }
 {
-    match apart(&unit.functions, certificate) {
-        Some((at, name)) => refusal(alloc, name, "list", at),
-        None => verdict_on_listed(alloc, unit, certificate),
+    if text.len() > u32::MAX as usize {
+        return Err(AllocError);
+    }
+    match scan(alloc, text) {
+        Ok(index) => of_index(alloc, unit, target, text, &index),
+        Err(fault) => no_certificate(alloc, fault),
     }
 }
 
-// The same of a certificate whose functions are the text's in its order.
+// The answer to a text that isn't a certificate's.
+fn no_certificate(alloc: Global, fault: TextFault) -> Result<Answer, AllocError>
+    ensures { IfOk result (λ a. (a.status ≡ Status.Text) × IsSaid fault a.lines.items) }
+{
+    match fault {
+        TextFault::NotText => line(alloc, Status::Text, "text: certificate not text\n"),
+        TextFault::Deep => line(alloc, Status::Text, "text: certificate deep\n"),
+        TextFault::Shape(at) => bad_node(alloc, at),
+        TextFault::Memory => Err(AllocError),
+    }
+}
+
+// The first node of a tree that isn't a certificate's.
+fn bad_node(alloc: Global, at: u32) -> Result<Answer, AllocError>
+    ensures { IfOk result
+        (λ a. (a.status ≡ Status.Text) × IsSaid (TextFault.Shape at) a.lines.items) }
+{
+    let mut lines = Vec::from_slice(alloc, b"text: certificate shape at ")?;
+    push(&mut lines, Buffer::new().format(at))?;
+    push(&mut lines, "\n")?;
+    Ok(Answer {
+        status: Status::Text,
+        lines,
+    })
+}
+
+// The answer to the text of a certificate, by its index.
+fn of_index(
+    alloc: Global,
+    unit: &TypedUnit,
+    target: Target,
+    text: &[u8],
+    index: &CertIndex,
+) -> Result<Answer, AllocError>
+    requires typed { IsWellTyped (unit_of unit.now) }
+    requires scanned { IsIndexOf text.now (index_in index.now) }
+    requires short { length text.now < 2 ^ 32 }
+    ensures { IfOk result (λ a.
+        IsChecked (types.target_of target) text.now (unit_of unit.now) a.status a.lines.items) }
+{
+    if is_for(index.version, target) {
+        verdict(alloc, unit, text, index)
+    } else {
+        line(alloc, Status::Text, "text: certificate other target\n")
+    }
+}
+
+// Whether a certificate of a version is for a target.
+fn is_for(version: Version, target: Target) -> bool
+    ensures { IsTrue result ↔ (target_for (version_of version) ≡ types.target_of target) }
+{
+    match (version, target) {
+        (Version::One | Version::Two(Target::Ilp32), Target::Ilp32) => true,
+        (Version::Two(Target::Lp64), Target::Lp64) => true,
+        _ => false,
+    }
+}
+
+// Whether a certificate's functions are the unit's and accepted, and else the first place where
+// they aren't.
+fn verdict(
+    alloc: Global,
+    unit: &TypedUnit,
+    text: &[u8],
+    index: &CertIndex,
+) -> Result<Answer, AllocError>
+    requires typed { IsWellTyped (unit_of unit.now) }
+    requires scanned { IsIndexOf text.now (index_in index.now) }
+    requires short { length text.now < 2 ^ 32 }
+    ensures { (c : texts.Certificate) → IsCertificateText text.now c →
+        IfOk result (λ a. IsVerdict (unit_of unit.now) c.functions a.status a.lines.items) }
+{
+    match apart(&unit.functions, &index.functions) {
+        Some((at, name)) => refusal(alloc, name, "list", at),
+        None => verdict_on_listed(alloc, unit, text, index),
+    }
+}
+
+// The same of a certificate whose functions are the unit's in its order.
 fn verdict_on_listed(
     alloc: Global,
     unit: &TypedUnit,
-    certificate: &[Steps],
+    text: &[u8],
+    index: &CertIndex,
 ) -> Result<Answer, AllocError>
     requires typed { IsWellTyped (unit_of unit.now) }
-    requires listed { listed_apart 0 (function_names (unit_of unit.now).functions)
-        (names_in (map steps_of certificate.now)) ≡ None }
-    ensures { IfOk result (λ a.
-        IsVerdict (unit_of unit.now) (map steps_of certificate.now) a.status a.lines.items) }
+    requires scanned { IsIndexOf text.now (index_in index.now) }
+    requires short { length text.now < 2 ^ 32 }
+    requires listed { (c : texts.Certificate) → IsCertificateText text.now c →
+        apart (unit_of unit.now) c.functions ≡ None }
+    ensures { (c : texts.Certificate) → IsCertificateText text.now c →
+        IfOk result (λ a. IsVerdict (unit_of unit.now) c.functions a.status a.lines.items) }
 {
-    let modes = levels_of(alloc, certificate)?;
+    let modes = levels(alloc, &index.functions)?;
     let generated = generate(alloc, unit, &modes)?;
-    match check_functions(&generated, certificate) {
+    match check_text(alloc, &generated, text, index)? {
         Ok(()) => accepted(alloc, unit, &modes),
-        Err(Refusal::Function(at, place)) => refused(alloc, certificate, at, place),
-        Err(Refusal::List(_)) => unreachable!(),
+        Err(refused) => refused_line(alloc, unit, refused),
     }
 }
 
-// The levels at which a certificate has its functions.
-fn levels_of(alloc: Global, certificate: &[Steps]) -> Result<Modes, AllocError>
-    ensures { IfOk result (λ m. map level_of m.levels.items
-        ≡ map (λ c. c.level) (map steps_of certificate.now)) }
+// The first place that isn't accepted, by the name of its function.
+fn refused_line(alloc: Global, unit: &TypedUnit, refused: Refused) -> Result<Answer, AllocError>
+    ensures { IfOk result (λ a. (a.status ≡ Status.No) × (a.lines.items ≡ refusal_line
+        (slice_index_or (function_names (unit_of unit.now).functions) refused.function [])
+        (refused_text (phase_of refused.phase)) refused.node)) }
 {
-    let mut levels = Vec::new(alloc);
-    let mut rest = certificate;
-    'functions: while let Some((steps, others)) = rest.split_first() {
-        levels.push(steps.level)?;
-        rest = others;
-    }
-    Ok(Modes { levels })
-}
-
-// The first place of a function that isn't accepted.
-fn refused(
-    alloc: Global,
-    certificate: &[Steps],
-    at: usize,
-    place: Place,
-) -> Result<Answer, AllocError>
-    requires { at < length certificate.now }
-    ensures { IfOk result (λ a. (a.status ≡ Status.No)
-        × ((name : Name) × (slice_get (names_in (map steps_of certificate.now)) at ≡ Some name)
-        × (a.lines.items ≡ refusal_line name (phase_text (phase_of place.phase)) place.node))) }
-{
-    let name = certificate[at].name.as_str();
-    refusal(alloc, name, phase_word(place.phase), place.node as usize)
+    let name = name_at(&unit.functions, refused.function);
+    let node = refused.node as usize;
+    refusal(alloc, name, phase_word(refused.phase), node)
 }

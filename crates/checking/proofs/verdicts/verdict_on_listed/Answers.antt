@@ -1,62 +1,80 @@
-use Rattle.std.proofs.Common.{map, subst, arith}
+-- The levels are the certificate's, and so what is generated is at them.
+use Rattle.std.proofs.Common.{◌≡◌, List, map, ap, subst, ◌∙◌, arith}
 use Rattle.std.proofs.lemmas.List.{length-map}
+use Rattle.expression_lang.specs.CodeExpression.{level_of}
 use Rattle.simpl_lang.specs.CodeCommand.{simpl_unit_of}
 use Rattle.c_lang.specs.CodeTyped.{unit_of, function_of}
-use Rattle.std.specs.Prelude.{Err}
-use Rattle.acceptance.specs.UnitVerdict.{IsUnitVerdict}
-use Rattle.acceptance.specs.CodeCertificate.{steps_of}
-use Rattle.acceptance.specs.CodePlace.{place_of, unit_verdict_of}
+use Rattle.c_levels.specs.declared.modes.Modes.{Modes}
+use Rattle.c_levels.specs.CodeModes.{levels_in}
+use Rattle.certificate_text.specs.CertificateText.{Certificate}
+use Rattle.certificate_text.specs.CertificateIndex.{index_of}
+use Rattle.certificate_text.specs.CodeIndex.{index_in}
+use Rattle.certificate_text.specs.declared.index.CertIndex as I
+use Rattle.certificate_text.specs.declared.index.FunEntry as E
 use Rattle.checking.specs.Checked.{level_in}
+use Rattle.checking.specs.Refused.{IsAnswer}
+use Rattle.checking.specs.CodeRefused.{answer_of, refused_of}
+use Rattle.checking.specs.Levels.{levels_listed}
+use Rattle.checking.proofs.Indexed.{code_levels}
+use Rattle.checking.proofs.Judged.{long_enough, levels_are, well_formed, at_levels, accepts, refuses}
+use Rattle.checking.proofs.OneText.{one_index, fewer_than_bytes}
 use Rattle.checking.proofs.Results.{of_result, of_both}
-use Rattle.checking.proofs.Judged.{long_enough, levels_are, well_formed, accepts, not_of_list, within, refuses}
 use Rattle.checking.proofs.verdicts.verdict_on_listed.Goals as goal
+
+-- the levels that were taken from the index are the certificate's
+told : (i : I.CertIndex) (d : Certificate) (m : Modes) (es : List E.FunEntry) → index_in i ≡ index_of d → es ≡ i.functions.items →
+    levels_in m ≡ map (λ (e : E.FunEntry). level_of e.level) es → levels_in m ≡ levels_listed d.functions
+told i d m es is same h = h ∙ ap (map (λ (e : E.FunEntry). level_of e.level)) same ∙ code_levels i d is
 
 pub generate-requires : goal.generate-requires
 generate-requires c =
+    let (d, is, same) = c.requires.scanned in
     let k = length-map c.args.unit.now.functions.items function_of in
-    let l = long_enough (unit_of c.args.unit.now) (map steps_of c.args.certificate.now) c.requires.typed c.requires.listed c.in_ok-modes.modes c.in_ok-modes.ensures in
+    let l = long_enough (unit_of c.args.unit.now) d.functions (c.requires.listed d is) c.in_ok-modes.modes
+    (told c.args.index.now d c.in_ok-modes.modes c.deref.result.now same c.deref.ensures.value c.in_ok-modes.ensures) in
     omega (arith, k, l)
 
-pub check_functions-requires : goal.check_functions-requires
-check_functions-requires c =
-    well_formed (unit_of c.args.unit.now) (map steps_of c.args.certificate.now) c.requires.typed c.requires.listed (simpl_unit_of c.in_ok-generated.generated)
-    (c.in_ok-generated.ensures.generated (level_in (map steps_of c.args.certificate.now))
-    (levels_are (unit_of c.args.unit.now) (map steps_of c.args.certificate.now) c.requires.typed c.requires.listed c.in_ok-modes.modes c.in_ok-modes.ensures))
+pub check_text-requires-clause-formed : goal.check_text-requires-clause-formed
+check_text-requires-clause-formed c =
+    let (d, is, same) = c.requires.scanned in
+    let none = c.requires.listed d is in
+    well_formed (unit_of c.args.unit.now) d.functions none c.requires.typed (simpl_unit_of c.in_ok-generated.generated)
+    (c.in_ok-generated.ensures.generated (level_in d.functions)
+    (levels_are (unit_of c.args.unit.now) d.functions none c.requires.typed c.in_ok-modes.modes
+    (told c.args.index.now d c.in_ok-modes.modes c.deref.result.now same c.deref.ensures.value c.in_ok-modes.ensures)))
+
+pub check_text-requires-clause-at_levels : goal.check_text-requires-clause-at_levels
+check_text-requires-clause-at_levels c = λ d is.
+    let none = c.requires.listed d is in
+    let same = one_index c.args.text.now (index_in c.args.index.now) d c.requires.scanned is in
+    at_levels (unit_of c.args.unit.now) d.functions none c.requires.typed (simpl_unit_of c.in_ok-generated.generated)
+    (c.in_ok-generated.ensures.generated (level_in d.functions)
+    (levels_are (unit_of c.args.unit.now) d.functions none c.requires.typed c.in_ok-modes.modes
+    (told c.args.index.now d c.in_ok-modes.modes c.deref.result.now same c.deref.ensures.value c.in_ok-modes.ensures)))
 
 pub returns-in-Ok : goal.returns-in-Ok
-returns-in-Ok c =
-    let are = levels_are (unit_of c.args.unit.now) (map steps_of c.args.certificate.now) c.requires.typed c.requires.listed c.in_ok-modes.modes c.in_ok-modes.ensures in
+returns-in-Ok c = λ d is.
+    let none = c.requires.listed d is in
+    let same = one_index c.args.text.now (index_in c.args.index.now) d c.requires.scanned is in
+    let are = levels_are (unit_of c.args.unit.now) d.functions none c.requires.typed c.in_ok-modes.modes
+    (told c.args.index.now d c.in_ok-modes.modes c.deref.result.now same c.deref.ensures.value c.in_ok-modes.ensures) in
     of_both c.accepted.result _ _ _
-    (λ a status lines. accepts (unit_of c.args.unit.now) (map steps_of c.args.certificate.now) c.requires.typed c.requires.listed (simpl_unit_of c.in_ok-generated.generated)
-    (c.in_ok-generated.ensures.generated (level_in (map steps_of c.args.certificate.now))
-    (levels_are (unit_of c.args.unit.now) (map steps_of c.args.certificate.now) c.requires.typed c.requires.listed c.in_ok-modes.modes c.in_ok-modes.ensures))
-    a.status a.lines.items c.in-Ok.ensures.decided status (lines (level_in (map steps_of c.args.certificate.now)) are))
+    (λ a status lines. accepts (unit_of c.args.unit.now) d.functions none c.requires.typed (simpl_unit_of c.in_ok-generated.generated)
+    (c.in_ok-generated.ensures.generated (level_in d.functions) are) a.status a.lines.items
+    (subst (λ r. IsAnswer (simpl_unit_of c.in_ok-generated.generated) d.functions (answer_of r)) c.in-Ok.is (c.in_ok-check_text.ensures.answer d is)) status
+    (lines (level_in d.functions) are))
     c.accepted.ensures.status c.accepted.ensures.lines
 
-pub refused-requires : goal.refused-requires
-refused-requires c =
-    let long = length-map c.args.certificate.now steps_of in
-    let there = within (unit_of c.args.unit.now) (map steps_of c.args.certificate.now) c.requires.typed c.requires.listed (simpl_unit_of c.in_ok-generated.generated)
-    (c.in_ok-generated.ensures.generated (level_in (map steps_of c.args.certificate.now))
-    (levels_are (unit_of c.args.unit.now) (map steps_of c.args.certificate.now) c.requires.typed c.requires.listed c.in_ok-modes.modes c.in_ok-modes.ensures))
-    c.in-Err-Function.at (place_of c.in-Err-Function.place)
-    (subst (λ r. IsUnitVerdict (simpl_unit_of c.in_ok-generated.generated) (map steps_of c.args.certificate.now) (unit_verdict_of (Err r))) c.in-Err-Function.field-0-is c.in-Err-Function.ensures.verdict) in
-    omega (arith, long, there)
-
-pub returns-in-Err-Function : goal.returns-in-Err-Function
-returns-in-Err-Function c =
-    of_result c.refused.result _ _
-    (λ a. refuses (unit_of c.args.unit.now) (map steps_of c.args.certificate.now) c.requires.typed c.requires.listed (simpl_unit_of c.in_ok-generated.generated)
-    (c.in_ok-generated.ensures.generated (level_in (map steps_of c.args.certificate.now))
-    (levels_are (unit_of c.args.unit.now) (map steps_of c.args.certificate.now) c.requires.typed c.requires.listed c.in_ok-modes.modes c.in_ok-modes.ensures))
-    c.in-Err-Function.at (place_of c.in-Err-Function.place) a.status a.lines.items
-    (subst (λ r. IsUnitVerdict (simpl_unit_of c.in_ok-generated.generated) (map steps_of c.args.certificate.now) (unit_verdict_of (Err r))) c.in-Err-Function.field-0-is c.in-Err-Function.ensures.verdict))
-    c.refused.ensures
-
-pub unreachable-requires : goal.unreachable-requires
-unreachable-requires c =
-    not_of_list (unit_of c.args.unit.now) (map steps_of c.args.certificate.now) c.requires.typed c.requires.listed (simpl_unit_of c.in_ok-generated.generated)
-    (c.in_ok-generated.ensures.generated (level_in (map steps_of c.args.certificate.now))
-    (levels_are (unit_of c.args.unit.now) (map steps_of c.args.certificate.now) c.requires.typed c.requires.listed c.in_ok-modes.modes c.in_ok-modes.ensures))
-    c.in-Err-List.field-0-0
-    (subst (λ r. IsUnitVerdict (simpl_unit_of c.in_ok-generated.generated) (map steps_of c.args.certificate.now) (unit_verdict_of (Err r))) c.in-Err-List.field-0-is c.in-Err-List.ensures.verdict)
+pub returns : goal.returns
+returns c = λ d is.
+    let none = c.requires.listed d is in
+    let same = one_index c.args.text.now (index_in c.args.index.now) d c.requires.scanned is in
+    let few = fewer_than_bytes c.args.text.now d is in
+    of_result c.refused_line.result _ _
+    (λ a. refuses (unit_of c.args.unit.now) d.functions none c.requires.typed (simpl_unit_of c.in_ok-generated.generated)
+    (c.in_ok-generated.ensures.generated (level_in d.functions)
+    (levels_are (unit_of c.args.unit.now) d.functions none c.requires.typed c.in_ok-modes.modes
+    (told c.args.index.now d c.in_ok-modes.modes c.deref.result.now same c.deref.ensures.value c.in_ok-modes.ensures)))
+    (omega (arith, few, c.requires.short)) (refused_of c.in-Err.refused) a.status a.lines.items
+    (subst (λ r. IsAnswer (simpl_unit_of c.in_ok-generated.generated) d.functions (answer_of r)) c.in-Err.is (c.in_ok-check_text.ensures.answer d is)))
+    c.refused_line.ensures

@@ -1,0 +1,27 @@
+-- The index has the certificate's version.
+use Rattle.std.proofs.Common.{sym, ap, ◌∙◌}
+use Rattle.c_values.specs.CodeTypes as types
+use Rattle.c_lang.specs.CodeTyped.{unit_of}
+use Rattle.certificate_text.specs.CertificateIndex.{Index}
+use Rattle.checking.specs.Checked.{target_for}
+use Rattle.checking.proofs.Results.{of_result}
+use Rattle.checking.proofs.Certified.{for_target, for_another}
+use Rattle.checking.proofs.verdicts.of_index.Goals as goal
+
+pub returns-then-is_for : goal.returns-then-is_for
+returns-then-is_for c =
+    let (d, is, same) = c.requires.scanned in
+    let version = ap (λ (i : Index). target_for i.version) same in
+    of_result c.verdict.result _ _
+    (λ a. for_target (types.target_of c.args.target) (unit_of c.args.unit.now) c.args.text.now d is (sym version ∙ c.is_for.ensures.0 c.if-is_for.true) a.status
+    a.lines.items)
+    (c.verdict.ensures d is)
+
+pub returns-else-is_for : goal.returns-else-is_for
+returns-else-is_for c =
+    let (d, is, same) = c.requires.scanned in
+    let version = ap (λ (i : Index). target_for i.version) same in
+    of_result c.line.result _ _
+    (λ a. for_another (types.target_of c.args.target) (unit_of c.args.unit.now) c.args.text.now d is a.status a.lines.items
+    (λ e. let t = sym c.if-is_for.false ∙ c.is_for.ensures.1 (version ∙ e) in absurd cc))
+    c.line.ensures
