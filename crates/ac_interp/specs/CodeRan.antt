@@ -1,5 +1,5 @@
 -- What runs of programs from a memory give, on the heap of the function's level.
-use Rattle.std.specs.Prelude.{◌≡◌, Bool, true, false}
+use Rattle.std.specs.Prelude.{Bool, true, false}
 use Rattle.correspondence.specs.Outcome.{Ends}
 use Rattle.c_values.specs.declared.program.Program as U
 use Rattle.c_memory.specs.Heap.{Heap}

@@ -94,19 +94,64 @@ fn one_function(rt: HostRuntime) -> Result<(), Fail> {
     let alloc = rt.alloc();
     let to_seven = "1loop i p true wult i seven 1ret wadd i one";
     for (level, words, argument, turns, expected) in [
-        (Level::Words, "1ret read p", 4096, 0, On::Typed(End::Word(0))),
-        (Level::Bytes, "1ret load p", 4096, 0, On::Bytes(End::Word(5))),
-        (Level::Bytes, "0bind store p one 1ret load p", 4096, 0, On::Bytes(End::Word(1))),
-        (Level::Words, "0bind write p one 1ret read p", 4096, 0, On::Typed(End::Word(0))),
-        (Level::Words, "0bind guard wult p one 1ret p", 1, 0, On::Typed(End::Fails)),
-        (Level::Words, "if wult p one pick 1ret p", 0, 0, On::Typed(End::Word(7))),
+        (
+            Level::Words,
+            "1ret read p",
+            4096,
+            0,
+            On::Typed(End::Word(0)),
+        ),
+        (
+            Level::Bytes,
+            "1ret load p",
+            4096,
+            0,
+            On::Bytes(End::Word(5)),
+        ),
+        (
+            Level::Bytes,
+            "0bind store p one 1ret load p",
+            4096,
+            0,
+            On::Bytes(End::Word(1)),
+        ),
+        (
+            Level::Words,
+            "0bind write p one 1ret read p",
+            4096,
+            0,
+            On::Typed(End::Word(0)),
+        ),
+        (
+            Level::Words,
+            "0bind guard wult p one 1ret p",
+            1,
+            0,
+            On::Typed(End::Fails),
+        ),
+        (
+            Level::Words,
+            "if wult p one pick 1ret p",
+            0,
+            0,
+            On::Typed(End::Word(7)),
+        ),
         (Level::Words, to_seven, 4, 3, On::Typed(End::Word(7))),
         (Level::Words, to_seven, 4, 2, On::Typed(End::OutOfTurns)),
-        (Level::Words, "1call f p", 0, 256, On::Typed(End::OutOfTurns)),
+        (
+            Level::Words,
+            "1call f p",
+            0,
+            256,
+            On::Typed(End::OutOfTurns),
+        ),
         (Level::Words, "1call f p", 0, 257, On::Typed(End::Deep)),
     ] {
         let u = unit_of(alloc, level, WORD, program_of(alloc, words)?)?;
-        assert!(rt; run(alloc, &u, word(argument), turns)? == expected, "{words}");
+        assert!(rt;
+            run(alloc, &u, word(argument), turns)? == expected,
+            "{words}"
+        );
     }
     Ok(())
 }
@@ -140,7 +185,12 @@ fn chains_of_calls(rt: HostRuntime) -> Result<(), Fail> {
 fn deep_programs(rt: HostRuntime) -> Result<(), Fail> {
     let alloc = rt.alloc();
     for to_the_left in [true, false] {
-        let u = unit_of(alloc, Level::Words, WORD, nested(alloc, 100_000, to_the_left)?)?;
+        let u = unit_of(
+            alloc,
+            Level::Words,
+            WORD,
+            nested(alloc, 100_000, to_the_left)?,
+        )?;
         assert!(rt; run(alloc, &u, word(0), 0)? == On::Typed(End::Word(7)));
     }
     Ok(())
