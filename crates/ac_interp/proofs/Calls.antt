@@ -26,7 +26,7 @@ use Rattle.ac_interp.specs.declared.ends.Flow as W
 use Rattle.ac_interp.specs.declared.ends.Stop as P
 use Rattle.ac_interp.specs.declared.frame.Frame as R
 use Rattle.ac_interp.specs.declared.outcome.CState as C
-use Rattle.ac_interp.specs.Narrow.{IsCommandNarrow}
+use Rattle.narrow.specs.Narrow.{IsCommandNarrow}
 use Rattle.ac_interp.specs.Locals.{env_from, started, given_in, AreLocals}
 use Rattle.ac_interp.specs.CodeRun.{table_of, state_in, machine_in, locals_of, scope_for, ends_in, call_of, HasRun, HasReturned, CanRun, IsFrame, IsStateOf, Fits, CanRunIn, CanBeCalled, IsResult}
 use Rattle.ac_interp.proofs.LocalsLaws.{started_env, started_locals, sorts_length, kind_scalar}

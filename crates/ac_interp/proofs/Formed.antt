@@ -7,7 +7,7 @@ use Rattle.expression_lang.specs.Sort.{Kind, are_kinds}
 use Rattle.expression_lang.specs.Signature.{Signature, names_of, kinds_of, signature}
 use Rattle.simpl_lang.specs.Command.{SimplFn, SimplUnit, simpl_fn}
 use Rattle.simpl_lang.specs.Sorted.{is_sorted, scope_of, are_fns_sorted, same_level, come_first, is_kind_of, holds_result, are_signed}
-use Rattle.ac_interp.specs.Narrow.{IsCommandNarrow, AreFnsNarrow}
+use Rattle.narrow.specs.Narrow.{IsCommandNarrow, AreFnsNarrow}
 use Rattle.ac_interp.proofs.LocalsLaws.{by_test, where_true, where_false, same_kind_is}
 
 same_fn : {f g : SimplFn} → ◌≡◌ {A = Option SimplFn} (Some f) (Some g) → f ≡ g

@@ -37,7 +37,7 @@ use Rattle.ac_interp.specs.declared.outcome.COutcome as O
 use Rattle.ac_interp.specs.declared.ends.Flow as W
 use Rattle.ac_interp.specs.declared.ends.Stop as P
 use Rattle.ac_interp.specs.declared.frame.Frame as R
-use Rattle.ac_interp.specs.Narrow.{IsNarrow, IsNarrowAlong, AreNarrow, AreConditionsNarrow, IsCommandNarrow, IsUnitNarrow}
+use Rattle.narrow.specs.Narrow.{IsNarrow, IsNarrowAlong, AreNarrow, AreConditionsNarrow, IsCommandNarrow, IsUnitNarrow}
 use Rattle.ac_interp.specs.Locals.{Table, AreOfSorts, AreLocals}
 
 abbrev pub table_of : Bindings → Table

@@ -1,4 +1,3 @@
-pub mod Narrow
 pub mod Locals
 pub mod Guarded
 pub mod CodeRun
