@@ -1,0 +1,2 @@
+pub mod RunDone
+pub mod Agree
