@@ -2,7 +2,7 @@ use Rattle.std.proofs.Common.{◌∙◌, ap}
 use Rattle.ac_sx.specs.CodeSx.{trees_in}
 use Rattle.ac_sx.specs.CodeBuilder.{stack_of}
 use Rattle.ac_sx.proofs.Listed.{trees_in-push}
-use Rattle.ac_sx.proofs.builder.Builder.place.Goals as goal
+use Rattle.ac_sx.proofs.builder.SxBuilder.place.Goals as goal
 
 pub returns : goal.returns
 returns c =
