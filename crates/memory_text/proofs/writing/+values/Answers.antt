@@ -1,4 +1,4 @@
-use Rattle.std.proofs.Common.{◌≡◌, suc, OnOk, ap, sym, subst, ◌∙◌, arith}
+use Rattle.std.proofs.Common.{◌≡◌, suc, OnOk, rules, ap, sym, subst, ◌∙◌}
 use Rattle.std.proofs.lemmas.List.{nil_from_length}
 use Rattle.ac_sx.specs.Writing.{written}
 use Rattle.c_values.specs.Value.{Parts}
@@ -13,7 +13,7 @@ pub value_into-parts_into-requires : goal.value_into-parts_into-requires
 value_into-parts_into-requires g t c =
     let whole : rank (value_of c.args.value.now) ≡ suc (ranks (values_in c.deref.result.now)) =
     ap (λ v. rank (value_of v)) c.in-Parts.is ∙ ap rank (parts_value c.in-Parts.parts) ∙ ap (λ vs. suc (ranks (values_in vs))) (sym c.deref.ensures.value) in
-    (omega (arith, whole, c.decreases), tt)
+    search (rules, whole)
 
 pub value_into-returns-in-Parts : goal.value_into-returns-in-Parts
 value_into-returns-in-Parts g t c =
