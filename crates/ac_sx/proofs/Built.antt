@@ -15,7 +15,7 @@ joined-more : (u : Tree) (us ts : Trees) → joined (more u us) ts ≡ more u (j
 joined-more u us no_trees = refl
 joined-more u us (more t ts) = joined-more u (pushed us t) ts
 
-joined-none : (ts : Trees) → joined no_trees ts ≡ ts
+pub joined-none : (ts : Trees) → joined no_trees ts ≡ ts
 joined-none no_trees = refl
 joined-none (more t ts) = joined-more t no_trees ts ∙ ap (λ us. more t us) (joined-none ts)
 

@@ -21,3 +21,4 @@ pub mod Shown
 pub mod OneNumber
 pub mod Rows
 pub mod Levels
+pub mod Taken

@@ -14,7 +14,7 @@ left_of-push xs p =
     let f : Bor (List S.Sx) → Trees = λ q. trees_in q.now in
     ap reverse (map-append f xs (p ∷ [])) ∙ reverse-append (map f xs) (f p ∷ [])
 
-spellings-behind : (t : Tree) (ts : Trees) → spellings (more t ts) ≡ spelling t ++ parts_behind ts
+pub spellings-behind : (t : Tree) (ts : Trees) → spellings (more t ts) ≡ spelling t ++ parts_behind ts
 spellings-behind t no_trees = sym (append-nil (spelling t))
 spellings-behind t (more u us) = ap (λ bs. spelling t ++ space ∷ bs) (spellings-behind u us)
 

@@ -2,9 +2,10 @@
 use Rattle.std.specs.Prelude.{ℕ, ◌==◌, List, [], ◌∷◌, ◌++◌, Option, Some, None, map, reverse, Vec, if◌then◌else◌}
 use Rattle.std.specs.declared.alloc.Global.{Global}
 use Rattle.ac_sx.specs.declared.sx.Sx as S
-use Rattle.ac_sx.specs.declared.builder.Builder.{Builder}
+use Rattle.ac_sx.specs.declared.builder.SxBuilder.{SxBuilder}
 use Rattle.ac_sx.specs.Tree.{Tree, Trees, Atom, Node, no_trees, more, opening, closing, is_atom_byte}
 use Rattle.ac_sx.specs.CodeSx.{trees_in, pushed}
+use Rattle.ac_sx.specs.Writing.{Writing}
 
 -- the parts of the innermost list so far, and of those around it, the innermost first
 pub record Building : Type 0 where
@@ -14,7 +15,7 @@ pub record Building : Type 0 where
 abbrev pub stack_of : List (Vec S.Sx Global) → List Trees
 stack_of lists = reverse (map (λ (v : Vec S.Sx Global). trees_in v.items) lists)
 
-abbrev pub building_of : Builder → Building
+abbrev pub building_of : SxBuilder → Building
 building_of b = record { parts = trees_in b.parts.items; around = stack_of b.around.items }
 
 abbrev pub nothing : Building
@@ -32,6 +33,12 @@ left_to parts (ts ∷ outer) = record { parts = pushed ts (Node parts); around =
 
 abbrev pub left : Building → Building
 left b = left_to b.parts b.around
+
+abbrev pub put : Building → List ℕ → Building
+put b word = placed b (Atom word)
+
+abbrev pub building : Writing Building
+building = record { entered = entered; put = put; left = left }
 
 -- an atom, where there are bytes of one
 abbrev pub flushed : Building → List ℕ → Building

@@ -3,7 +3,9 @@ pub mod Front
 pub mod CodeSx
 pub mod CodeRecogniser
 pub mod Answer
+pub mod Writing
 pub mod CodeBuilder
+pub mod CodeSpeller
 pub mod CodeWriter
 pub mod Spans
 pub mod CodeSpans

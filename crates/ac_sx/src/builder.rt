@@ -1,31 +1,47 @@
-//! The tree of a text that is one.
+//! Trees, built part by part, and the tree of a text that is one.
 ghost use Rattle.std.specs.Prelude.{◌≡◌, [], IfOk, OnOk, option_map, IsTrue};
 ghost use Rattle.std.specs.List.{list_all};
-ghost use Rattle.ac_sx.specs.Tree.{Atom, is_atom_byte};
+ghost use Rattle.ac_sx.specs.Tree.{Tree, Atom, is_atom_byte};
 ghost use Rattle.ac_sx.specs.CodeSx.{tree_of};
-ghost use Rattle.ac_sx.specs.CodeBuilder.{nothing, placed, entered, left, flushed, acted, built, building_of};
+ghost use Rattle.ac_sx.specs.Writing.{written};
+ghost use Rattle.ac_sx.specs.CodeBuilder.{nothing, placed, flushed, acted, built, building_of, building};
 
 use crate::recogniser::is_atom_byte;
 use crate::sx::Sx;
+use crate::tree_writer::TreeWriter;
 use std::alloc::{AllocError, Global};
 use std::mem;
 
-/// The lists that are being read.
+/// A tree, as far as it is written.
 #[derive(Drop)]
-struct Builder {
+pub struct SxBuilder {
+    alloc: Global,
     /// The parts of the innermost list so far.
     parts: Vec<Sx>,
     /// Those of the lists around it, the outermost first.
     around: Vec<Vec<Sx>>,
 }
 
-impl Builder {
-    fn new(alloc: Global) -> Builder
+impl SxBuilder {
+    /// Nothing is written.
+    pub fn new(alloc: Global) -> SxBuilder
         ensures { building_of result ≡ nothing }
     {
-        Builder {
+        SxBuilder {
+            alloc,
             parts: Vec::new(alloc),
             around: Vec::new(alloc),
+        }
+    }
+
+    /// The tree that has been written.
+    pub fn finish(mut self) -> Sx
+        requires { (t : Tree) × (building_of self ≡ written building nothing t) }
+        ensures { (t : Tree) → building_of self ≡ written building nothing t → tree_of result ≡ t }
+    {
+        match self.parts.pop() {
+            Some(tree) => tree,
+            None => unreachable!(),
         }
     }
 
@@ -38,48 +54,58 @@ impl Builder {
     }
 
     /// The atom that these bytes are, if they are any.
-    fn flush(&mut self, alloc: Global, word: &[u8]) -> Result<(), AllocError>
+    fn flush(&mut self, word: &[u8]) -> Result<(), AllocError>
         requires { IsTrue (list_all is_atom_byte word.now) }
         ensures { OnOk result (building_of self.new ≡ flushed (building_of self.old) word.now) }
     {
         if word.is_empty() {
             return Ok(());
         }
-        let atom = atom(alloc, word)?;
+        let atom = atom(self.alloc, word)?;
         self.place(atom)
     }
 
-    /// The beginning of a list.
-    fn enter(&mut self, alloc: Global) -> Result<(), AllocError>
-        ensures { OnOk result (building_of self.new ≡ entered (building_of self.old)) }
-    {
-        let parts = mem::replace(&mut self.parts, Vec::new(alloc));
-        self.around.push(parts)?;
-        Ok(())
-    }
-
-    /// The end of the innermost list.
-    fn leave(&mut self) -> Result<(), AllocError>
-        ensures { OnOk result (building_of self.new ≡ left (building_of self.old)) }
-    {
-        let Some(outer) = self.around.pop() else {
-            return Ok(());
-        };
-        let parts = mem::replace(&mut self.parts, outer);
-        self.place(Sx::list(parts))
-    }
-
     /// What a byte that is none of an atom begins or ends.
-    fn act(&mut self, alloc: Global, byte: u8) -> Result<(), AllocError>
+    fn act(&mut self, byte: u8) -> Result<(), AllocError>
         ensures { OnOk result (building_of self.new ≡ acted (building_of self.old) byte) }
     {
         if byte == b'(' {
-            self.enter(alloc)
+            self.enter()
         } else if byte == b')' {
             self.leave()
         } else {
             Ok(())
         }
+    }
+}
+
+impl TreeWriter for SxBuilder {
+    ghost use Rattle.std.specs.Prelude.{◌≡◌, OnOk};
+    ghost use Rattle.ac_sx.specs.CodeBuilder.{Building, building_of, building};
+
+    ghost State = { Building };
+
+    ghost state = { building_of };
+
+    ghost writing = { building };
+
+    fn enter(&mut self) -> Result<(), AllocError> {
+        let parts = mem::replace(&mut self.parts, Vec::new(self.alloc));
+        self.around.push(parts)?;
+        Ok(())
+    }
+
+    fn atom(&mut self, word: &str) -> Result<(), AllocError> {
+        let word = String::from_str(self.alloc, word)?;
+        self.place(Sx::Atom(word))
+    }
+
+    fn leave(&mut self) -> Result<(), AllocError> {
+        let Some(outer) = self.around.pop() else {
+            return Ok(());
+        };
+        let parts = mem::replace(&mut self.parts, outer);
+        self.place(Sx::list(parts))
     }
 }
 
@@ -97,12 +123,12 @@ fn atom(alloc: Global, word: &[u8]) -> Result<Sx, AllocError>
 pub(crate) fn build(alloc: Global, text: &[u8]) -> Result<Option<Sx>, AllocError>
     ensures { IfOk result (λ tree. option_map tree_of tree ≡ built text.now) }
 {
-    let mut builder = Builder::new(alloc);
+    let mut builder = SxBuilder::new(alloc);
     let mut start = 0;
     for (at, byte) in text.iter().enumerate() {
         if !is_atom_byte(*byte) {
-            builder.flush(alloc, &text[start..at])?;
-            builder.act(alloc, *byte)?;
+            builder.flush(&text[start..at])?;
+            builder.act(*byte)?;
             start = at + 1;
         }
     }

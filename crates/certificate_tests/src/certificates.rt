@@ -1,5 +1,5 @@
 // Texts of certificates are read and written, whole and function by function, and texts that are none are refused at their place.
-use ac_sx::Terms;
+use ac_sx::{Terms, parts};
 use certificate_text::{Certificate, FunCert, Version, read, read_function, scan, write};
 use expression_text::TextFault;
 use std::alloc::{AllocError, Global};
@@ -141,6 +141,29 @@ fn functions_are_read_one_by_one(rt: HostRuntime) -> Result<(), Fail> {
     is_indexed(&rt, alloc, "cert 1", &[])?;
     is_indexed(&rt, alloc, "cert 1", &[&lifted, &plain])?;
     is_indexed(&rt, alloc, "cert 2 lp64", &[&plain, &lifted, &plain])
+}
+
+// Equal parts of a text are put into the table once, so that it has fewer nodes than the tree.
+#[test]
+fn equal_parts_are_shared(rt: HostRuntime) -> Result<(), Fail> {
+    let alloc = rt.alloc();
+    let lifted = list_of(
+        alloc,
+        "fun f numbers",
+        &[EXCEPTION, LOCAL, HEAP, WORD, EQUAL],
+    )?;
+    let text = list_of(alloc, "cert 1", &[&lifted])?;
+    let mut terms = Terms::new(alloc);
+    assert!(rt; text.len() < 1_000_000 && terms.len() == 0);
+    let _certificate = terms.read(text.as_bytes())?;
+    let line = line_of(alloc, &text)?;
+    assert!(rt; line.len() < 1_000_000);
+    let mut nodes = 1_u32;
+    for part in parts(alloc, &line)? {
+        nodes = nodes.saturating_add(part.nodes);
+    }
+    assert!(rt; terms.len() < nodes / 2, "{} of {nodes}", terms.len());
+    Ok(())
 }
 
 #[test]

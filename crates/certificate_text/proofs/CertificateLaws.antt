@@ -1,10 +1,10 @@
 -- A certificate is read from its tree, and what is read is the certificate whose tree it is.
-use Rattle.std.proofs.Common.{◌≡◌, ℕ, Bool, true, false, cond, List, Option, Some, None, Ok, Err, refl, ap, ap₂, sym, ◌∙◌, if◌then◌else◌}
+use Rattle.std.proofs.Common.{◌≡◌, ℕ, Bool, true, false, cond, List, Option, Some, None, Ok, Err, refl, ap, ap₂, sym, ◌∙◌}
 use Rattle.std.specs.Prelude.{codes}
 use Rattle.c_values.specs.Name.{Name, same_name}
 use Rattle.c_values.specs.Types.{Target}
 use Rattle.ac_sx.specs.Tree.{Tree, Trees, Atom, Node, no_trees, more}
-use Rattle.ac_sx.specs.CodeSx.{word_in, headed_in, first_of}
+use Rattle.ac_sx.specs.CodeSx.{headed_in, first_of}
 use Rattle.expression_text.specs.Reading.{Read, next, ◌>>=◌}
 use Rattle.expression_text.specs.Words.{looked_up}
 use Rattle.expression_text.specs.Lists.{each, trees_for, list_at}
@@ -13,7 +13,7 @@ use Rattle.expression_text.proofs.Behind.{IsReadAs, AreReadAs, bind_ok, value_ok
 use Rattle.expression_text.proofs.ListLaws.{list_reads, list_spells}
 use Rattle.acceptance.specs.Certificate.{Steps}
 use Rattle.certificate_text.specs.CertificateText.{target_word, targets, function_tree, is_function, Version, One, Two, Certificate, version_trees, certificate_tree, is_certificate}
-use Rattle.certificate_text.specs.CertificateReading.{word_from, found_in, target_at, function_at, functions_at, second_row, version_by, certificate_row, certificate_by, certificate_at}
+use Rattle.certificate_text.specs.CertificateReading.{word_from, target_at, function_at, functions_at, second_row, certificate_row, certificate_by, certificate_at}
 use Rattle.certificate_text.proofs.StepLaws.{headed_is}
 use Rattle.certificate_text.proofs.Parted.{targets_found}
 use Rattle.certificate_text.proofs.FunctionLaws.{function_reads, function_spells}

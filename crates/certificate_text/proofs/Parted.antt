@@ -1,5 +1,5 @@
 -- The parts of a function's list, and the words of levels and targets.
-use Rattle.std.proofs.Common.{◌≡◌, ℕ, List, Option, Some, None, refl, ap, sym, ◌∙◌}
+use Rattle.std.proofs.Common.{◌≡◌, List, Option, Some, refl, ap, sym, ◌∙◌}
 use Rattle.std.specs.Prelude.{IfSome, IfNone, option_map}
 use Rattle.std.proofs.Common.{◌≢◌}
 use Rattle.c_values.specs.Name.{Name}

@@ -1,5 +1,5 @@
 -- What the answers of the readers say of a tree.
-use Rattle.std.proofs.Common.{◌≡◌, ℕ, Ok, Err, refl, ap, sym, ◌∙◌}
+use Rattle.std.proofs.Common.{◌≡◌, ℕ, Ok, refl, ap, sym, ◌∙◌}
 use Rattle.ac_sx.specs.Tree.{Tree}
 use Rattle.expression_text.specs.declared.fault.TextFault.{TextFault}
 use Rattle.expression_text.specs.declared.fault.TextFault.TheVariants as F

@@ -4,7 +4,7 @@ use Rattle.ac_sx.specs.Tree.{Tree, IsTree, file, depth, deepest}
 use Rattle.ac_sx.specs.declared.fault.SxFault.{SxFault}
 use Rattle.ac_sx.specs.declared.fault.SxFault.TheVariants as X
 use Rattle.certificate_text.specs.CertificateText.{Certificate, certificate_tree}
-use Rattle.certificate_text.specs.Answer.{IsTextOf, IsCertificateText}
+use Rattle.certificate_text.specs.Answer.{IsCertificateText}
 
 -- what a fault of a tree's text is
 abbrev pub IsOnly : List ℕ → SxFault → Type 0

@@ -1,10 +1,10 @@
 -- Trees read as certificates. A function's list is bad where it has too many or too few steps for its level; at a word that is no level it may have as
 -- many as any level has, and then the word is bad.
-use Rattle.std.specs.Prelude.{ℕ, Bool, true, false, not, List, Option, Some, None, Ok, Err, codes, if◌then◌else◌}
+use Rattle.std.specs.Prelude.{ℕ, Bool, true, false, List, Option, Some, None, Ok, Err, codes, if◌then◌else◌}
 use Rattle.c_values.specs.Name.{Name, same_name}
 use Rattle.c_values.specs.Types.{Target}
-use Rattle.expression_lang.specs.Sort.{Level, Bytes, Words, Numbers}
-use Rattle.ac_sx.specs.Tree.{Tree, Trees, Atom, Node, no_trees, more}
+use Rattle.expression_lang.specs.Sort.{Level, Bytes}
+use Rattle.ac_sx.specs.Tree.{Tree, Trees}
 use Rattle.ac_sx.specs.CodeSx.{word_in, headed_in, two_of, first_of}
 use Rattle.expression_text.specs.Reading.{Read, next, ◌>>=◌, made}
 use Rattle.expression_text.specs.Names.{name_at}

@@ -1,5 +1,5 @@
 -- What the code's certificates stand for.
-use Rattle.std.specs.Prelude.{Option, map}
+use Rattle.std.specs.Prelude.{map}
 use Rattle.std.specs.Option.{option_map}
 use Rattle.c_values.specs.CodeTypes.{target_of}
 use Rattle.ac_sx.specs.CodeSx.{tree_of}

@@ -18,4 +18,4 @@ pub use function_texts::{FunCert, read_function};
 pub use index::{CertIndex, FunEntry};
 pub use scanning::scan;
 pub use texts::{read, read_tree};
-pub use writing::{certificate_tree, write};
+pub use writing::write;

@@ -1,11 +1,9 @@
 -- A command's tree is read as the command, and what is read as a command is its tree.
-use Rattle.std.proofs.Common.{◌≡◌, ℕ, Bool, true, false, cond, ◌&&◌, List, [], ◌∷◌, Option, Some, None, Result, Ok, Err, refl, ap, ap₂, sym, ◌∙◌, if◌then◌else◌}
-use Rattle.std.proofs.lemmas.Bool.{and_parts, and_from, cond-true, cond-false, false≢true}
+use Rattle.std.proofs.Common.{◌≡◌, ℕ, Bool, true, false, cond, ◌&&◌, Option, Some, None, Ok, Err, refl, ap, ap₂, sym, ◌∙◌}
+use Rattle.std.proofs.lemmas.Bool.{and_parts, and_from, cond-false, false≢true}
 use Rattle.c_values.specs.Name.{Name, same_name}
-use Rattle.c_values.specs.Types.{CType}
 use Rattle.ac_sx.specs.Tree.{Tree, Trees, Atom, Node, no_trees, more}
 use Rattle.ac_sx.specs.CodeSx.{one_of, two_of, three_of, first_of}
-use Rattle.expression_lang.specs.Expression.{Exp, Path}
 use Rattle.expression_text.specs.Reading.{Read, next, ◌>>=◌}
 use Rattle.expression_text.specs.Names.{is_name, name_at}
 use Rattle.expression_text.specs.Words.{looked_up}
@@ -15,7 +13,7 @@ use Rattle.expression_text.specs.ExpText.{exp_tree, step_trees, is_exp, is_path}
 use Rattle.expression_text.specs.ExpReading.{exp_at, path_at}
 use Rattle.expression_text.specs.ExpRows.{with_second}
 use Rattle.expression_text.specs.Lists.{each, trees_for, exp_trees, exps_at}
-use Rattle.expression_text.proofs.LookedUp.{looked_up_is, name_is, name_same}
+use Rattle.expression_text.proofs.LookedUp.{looked_up_is, name_is}
 use Rattle.expression_text.proofs.Behind.{behind, all_behind, IsReadAs, AreReadAs, bind_ok, value_ok}
 use Rattle.expression_text.proofs.TypesText.{name_reads, name_spells, type_reads, type_spells}
 use Rattle.expression_text.proofs.ExpsText.{exp_reads, exp_spells, path_reads, path_spells}
@@ -24,11 +22,11 @@ use Rattle.program_text.specs.MonText.{two, three, four}
 use Rattle.program_text.specs.MonReading.{four_of}
 use Rattle.program_text.proofs.KindLaws.{one_is}
 use Rattle.program_text.proofs.PartLaws.{two_is, three_is, four_is, three_same, four_same}
-use Rattle.simpl_lang.specs.Command.{Condition, Simpl, Skip, Throw, Set, SetGlobal, Store, Pick, Seq, Cond, Guard, Catch, While, Call}
+use Rattle.simpl_lang.specs.Command.{Simpl, Skip, Throw, Set, SetGlobal, Store, Pick, Seq, Cond, Guard, Catch, While, Call}
 use Rattle.command_text.specs.declared.heads.CommandHead.{CommandHead}
 use Rattle.command_text.specs.declared.heads.CommandHead.TheVariants as H
 use Rattle.command_text.specs.CommandText.{guard_word, command_word, command_heads, skip_word, throw_word, begins, condition_tree, target_tree, sequence, sequence_parts, command_tree, is_condition, is_target, is_command}
-use Rattle.command_text.specs.CommandReading.{guarded_at, conditions_at, target_at, leaf_at, set_row, gset_row, store_row, pick_row, call_row, is_no_tree, begins_seq, command_at, built_command_at, sequence_at}
+use Rattle.command_text.specs.CommandReading.{guarded_at, conditions_at, target_at, set_row, gset_row, store_row, pick_row, call_row, is_no_tree, begins_seq, command_at, built_command_at, sequence_at}
 use Rattle.command_text.proofs.CommandRows.{command_heads_found}
 use Rattle.command_text.proofs.PartLaws.{guarded_reads, guarded_spells, conditions_read, conditions_spell, target_reads, target_spells}
 

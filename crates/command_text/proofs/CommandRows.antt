@@ -1,12 +1,11 @@
 -- The rows of commands, of parts in whatever number.
-use Rattle.std.proofs.Common.{◌≡◌, ◌≢◌, ℕ, true, false, Option, Some, None, Result, Ok, Err, refl, ap, ap₂, sym, ◌∙◌}
+use Rattle.std.proofs.Common.{◌≡◌, ◌≢◌, ℕ, Option, Some, None, Err, refl, ap, ap₂, sym, ◌∙◌}
 use Rattle.c_values.specs.Name.{Name}
 use Rattle.ac_sx.specs.Tree.{Tree, Trees, Atom, Node, no_trees, more}
 use Rattle.ac_sx.specs.CodeSx.{word_in, headed_in, two_of, three_of}
-use Rattle.expression_text.specs.Reading.{Read, next, ◌>>=◌}
+use Rattle.expression_text.specs.Reading.{next}
 use Rattle.expression_text.specs.Words.{looked_up}
 use Rattle.expression_text.proofs.LookedUp.{AreFound, looked_up_from}
-use Rattle.simpl_lang.specs.Command.{Simpl}
 use Rattle.command_text.specs.declared.heads.CommandHead.{CommandHead}
 use Rattle.command_text.specs.declared.heads.CommandHead.TheVariants as H
 use Rattle.command_text.specs.CommandText.{command_word, command_heads}

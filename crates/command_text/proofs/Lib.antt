@@ -1,6 +1,6 @@
 pub mod PartLaws
 pub mod CommandRows
 pub mod SequencesRead
-pub mod SequencesWritten
+pub mod Writing
 pub mod CommandLaws
 pub mod ReadBack

@@ -1,8 +1,8 @@
 -- Conditions, and where results go, are read as those that their trees are of.
-use Rattle.std.proofs.Common.{◌≡◌, ◌≢◌, ℕ, Bool, true, false, cond, List, [], ◌∷◌, Option, Some, None, Result, Ok, Err, refl, ap, ap₂, sym, ◌∙◌, if◌then◌else◌}
+use Rattle.std.proofs.Common.{◌≡◌, ◌≢◌, ℕ, Bool, true, false, cond, List, Option, Some, None, Ok, Err, refl, ap, ap₂, sym, ◌∙◌}
 use Rattle.std.proofs.lemmas.Bool.{cond-true, false≢true}
 use Rattle.c_values.specs.Name.{Name, same_name}
-use Rattle.ac_sx.specs.Tree.{Tree, Trees, Atom, Node, no_trees, more}
+use Rattle.ac_sx.specs.Tree.{Tree, Atom, Node}
 use Rattle.ac_sx.specs.CodeSx.{word_in, two_of}
 use Rattle.expression_lang.specs.Expression.{Exp}
 use Rattle.expression_lang.specs.GuardKind.{GuardKind, Div, Signed, Shift, Pointer, Bounds, Unreached, Tag, Wrap}

@@ -1,5 +1,5 @@
 -- Trees read as Simpl commands.
-use Rattle.std.specs.Prelude.{ℕ, Bool, true, false, List, [], ◌∷◌, Option, Some, None, Ok, Err, if◌then◌else◌}
+use Rattle.std.specs.Prelude.{ℕ, Bool, true, false, List, Option, Some, None, Ok, Err, if◌then◌else◌}
 use Rattle.c_values.specs.Name.{Name, same_name}
 use Rattle.expression_lang.specs.GuardKind.{GuardKind}
 use Rattle.ac_sx.specs.Tree.{Tree, Trees, Atom, Node, no_trees, more}

@@ -1,7 +1,8 @@
 //! Conditions as trees, both ways.
-ghost use Rattle.std.specs.Prelude.{◌≡◌, ◌≢◌, IfOk, IfSome, IfNone, map};
-ghost use Rattle.ac_sx.specs.Tree.{Atom, Node};
+ghost use Rattle.std.specs.Prelude.{◌≡◌, ◌≢◌, OnOk, IfSome, IfNone, map};
+ghost use Rattle.ac_sx.specs.Tree.{Node};
 ghost use Rattle.ac_sx.specs.CodeSx.{tree_of, trees_in, two_of};
+ghost use Rattle.ac_sx.specs.Writing.{written};
 ghost use Rattle.expression_lang.specs.GuardKind as plain;
 ghost use Rattle.expression_text.specs.CodeFault.{Gives};
 ghost use Rattle.expression_text.specs.Lists.{trees_for, list_at};
@@ -10,12 +11,13 @@ ghost use Rattle.command_text.specs.CommandText.{guard_word, condition_tree};
 ghost use Rattle.command_text.specs.CommandReading as rows;
 ghost use Rattle.command_text.specs.CommandReading.{guard_kind_at, guarded_at, condition_at, conditions_at};
 
-use ac_sx::{Sx, two};
-use expression_text::{TextFault, atom, exp_at, exp_tree, list_of, next, with_part};
+use ac_sx::{Sx, TreeWriter, two};
+use expression_text::{TextFault, exp_at, exp_into, next};
 use simpl_lang::{Condition, GuardKind};
 use std::alloc::{AllocError, Global};
 
-fn guard_word(kind: GuardKind) -> &'static str
+/// The word of a condition's kind.
+pub(crate) fn guard_word(kind: GuardKind) -> &'static str
     ensures { result.now ≡ guard_word (guard_kind_of kind) }
 {
     match kind {
@@ -134,34 +136,34 @@ fn each_condition_at(
     Ok((conditions, at))
 }
 
-/// The word of a condition's kind.
-pub(crate) fn kind_tree(alloc: Global, kind: GuardKind) -> Result<Sx, AllocError>
-    ensures { IfOk result (λ tree. tree_of tree ≡ Atom (guard_word (guard_kind_of kind))) }
+fn condition_into<W: TreeWriter>(
+    alloc: Global,
+    out: &mut W,
+    condition: &Condition,
+) -> Result<(), AllocError>
+    ensures { OnOk result (W.state out.new
+        ≡ written W.writing (W.state out.old) (condition_tree (condition_of condition.now))) }
 {
-    atom(alloc, guard_word(kind))
+    out.enter()?;
+    out.atom(guard_word(condition.kind))?;
+    exp_into(alloc, out, &condition.exp)?;
+    out.leave()
 }
 
-fn condition_tree(alloc: Global, condition: &Condition) -> Result<Sx, AllocError>
-    ensures { IfOk result (λ tree. tree_of tree ≡ condition_tree (condition_of condition.now)) }
+/// Writes the list of these conditions.
+pub(crate) fn conditions_into<W: TreeWriter>(
+    alloc: Global,
+    out: &mut W,
+    conditions: &[Condition],
+) -> Result<(), AllocError>
+    ensures { OnOk result (W.state out.new ≡ written W.writing (W.state out.old)
+        (Node (trees_for condition_tree (map condition_of conditions.now)))) }
 {
-    let kind = kind_tree(alloc, condition.kind)?;
-    let parts = list_of(alloc, kind)?;
-    let exp = exp_tree(alloc, &condition.exp)?;
-    let parts = with_part(parts, exp)?;
-    Ok(Sx::list(parts))
-}
-
-/// The list of these conditions.
-#[tactic(auto, using(expression_text::proofs::Filling::joined_push, expression_text::proofs::Filling::joined_nothing))]
-pub(crate) fn conditions_tree(alloc: Global, conditions: &[Condition]) -> Result<Sx, AllocError>
-    ensures { IfOk result (λ tree.
-        tree_of tree ≡ Node (trees_for condition_tree (map condition_of conditions.now))) }
-{
-    let mut trees = Vec::new(alloc);
+    out.enter()?;
     let mut rest = conditions;
     'conditions: while let Some((condition, others)) = rest.split_first() {
-        trees.push(condition_tree(alloc, condition)?)?;
+        condition_into(alloc, out, condition)?;
         rest = others;
     }
-    Ok(Sx::list(trees))
+    out.leave()
 }

@@ -10,5 +10,5 @@ mod targets;
 mod texts;
 
 pub use command_reading::command_at;
-pub use command_writing::command_tree;
+pub use command_writing::command_into;
 pub use texts::{read_simpl, write_simpl};

@@ -1,12 +1,13 @@
 //! Where results go, as trees, both ways.
-ghost use Rattle.std.specs.Prelude.{◌≡◌, IfOk, option_map, string_bytes};
+ghost use Rattle.std.specs.Prelude.{◌≡◌, OnOk, option_map, string_bytes};
 ghost use Rattle.ac_sx.specs.CodeSx.{tree_of};
+ghost use Rattle.ac_sx.specs.Writing.{written};
 ghost use Rattle.expression_text.specs.CodeFault.{Gives};
 ghost use Rattle.command_text.specs.CommandText.{target_tree};
 ghost use Rattle.command_text.specs.CommandReading.{target_at};
 
-use ac_sx::Sx;
-use expression_text::{TextFault, atom, is_name, next};
+use ac_sx::{Sx, TreeWriter};
+use expression_text::{TextFault, is_name, next};
 use std::alloc::{AllocError, Global};
 
 /// The local that a tree names, or none.
@@ -30,13 +31,16 @@ pub(crate) fn target_at(
     Ok((Some(name), next(at)))
 }
 
-/// The tree of where a result goes.
-pub(crate) fn target_tree(alloc: Global, target: &Option<String>) -> Result<Sx, AllocError>
-    ensures { IfOk result (λ tree.
-        tree_of tree ≡ target_tree (option_map string_bytes target.now)) }
+/// Writes where a result goes.
+pub(crate) fn target_into<W: TreeWriter>(
+    out: &mut W,
+    target: &Option<String>,
+) -> Result<(), AllocError>
+    ensures { OnOk result (W.state out.new ≡ written W.writing (W.state out.old)
+        (target_tree (option_map string_bytes target.now))) }
 {
     match target {
-        Some(name) => atom(alloc, name.as_str()),
-        None => atom(alloc, "-"),
+        Some(name) => out.atom(name.as_str()),
+        None => out.atom("-"),
     }
 }

@@ -10,8 +10,8 @@ ghost use Rattle.command_text.specs.CommandReading as reading;
 ghost use Rattle.command_text.specs.Answer.{IsCommandText};
 
 use crate::command_reading::command_at;
-use crate::command_writing::command_tree;
-use ac_sx::Sx;
+use crate::command_writing::command_into;
+use ac_sx::{Sx, SxBuilder};
 use expression_text::TextFault;
 use simpl_lang::Simpl;
 use std::alloc::{AllocError, Global};
@@ -41,5 +41,7 @@ pub fn read_simpl(alloc: Global, tree: &Sx) -> Result<Simpl, TextFault>
 pub fn write_simpl(alloc: Global, c: &Simpl) -> Result<Sx, AllocError>
     ensures { IfOk result (λ tree. tree_of tree ≡ text.command_tree (simpl_of c.now)) }
 {
-    command_tree(alloc, c)
+    let mut tree = SxBuilder::new(alloc);
+    command_into(alloc, &mut tree, c)?;
+    Ok(tree.finish())
 }

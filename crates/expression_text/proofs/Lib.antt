@@ -8,6 +8,6 @@ pub mod TypesText
 pub mod LeavesText
 pub mod ExpsText
 pub mod ReadBack
-pub mod Filling
+pub mod Writing
 pub mod ListsRead
 pub mod ListLaws

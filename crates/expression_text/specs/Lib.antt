@@ -13,6 +13,5 @@ pub mod ExpReading
 pub mod ExpRows
 pub mod CodeRow
 pub mod Answer
-pub mod CodeAround
 pub mod CodeWriting
 pub mod Lists

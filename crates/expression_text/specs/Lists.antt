@@ -23,6 +23,11 @@ list_at read at (more t ts) = do
   y ← list_at read x.1 ts
   Ok (x.0 ∷ y.0, y.1)
 
+-- some trees, and then others
+abbrev pub joined : Trees → Trees → Trees
+joined no_trees us = us
+joined (more t ts) us = more t (joined ts us)
+
 -- expressions
 abbrev pub exp_trees : List Exp → Trees
 exp_trees = trees_for exp_tree

@@ -1,7 +1,6 @@
 //! Texts of types and of expressions as trees, both ways.
 #![tactic(auto)]
 
-mod building;
 mod exp_reading;
 mod exp_writing;
 mod fault;
@@ -11,6 +10,7 @@ mod list_writing;
 mod names;
 mod numbering;
 mod numbers;
+mod parts;
 mod path_reading;
 mod rows;
 mod shape_heads;
@@ -19,21 +19,19 @@ mod type_reading;
 mod type_writing;
 mod words;
 
-pub use building::{
-    Around, all_filled, atom, begun, list_of, natural_tree, number_tree, with_part, with_parts,
-};
 pub use exp_reading::exp_at;
-pub use exp_writing::{exp_tree, steps_of};
+pub use exp_writing::{exp_into, path_into};
 pub use fault::TextFault;
 pub use heads::Head;
 pub use list_reading::{exps_at, names_at, new_name_at};
-pub use list_writing::{names_tree, with_exps};
+pub use list_writing::{exps_into, names_into};
 pub use names::{is_name, name_at};
 pub use numbering::next;
 pub use numbers::{number_at, width_at};
+pub use parts::{begin_list, natural_into, number_into};
 pub use path_reading::path_at;
 pub use shape_heads::{one_head, place_head, root_head, two_head};
 pub use texts::{read_exp, write_exp};
 pub use type_reading::type_at;
-pub use type_writing::type_tree;
+pub use type_writing::type_into;
 pub use words::int_type_word;

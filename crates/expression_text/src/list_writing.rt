@@ -1,42 +1,37 @@
-//! The trees of lists of expressions and of names.
-ghost use Rattle.std.specs.Prelude.{◌≡◌, IfOk, map, string_bytes};
-ghost use Rattle.ac_sx.specs.CodeSx.{tree_of, trees_in};
+//! Lists of expressions and of names, written.
+ghost use Rattle.std.specs.Prelude.{◌≡◌, OnOk, map, string_bytes};
+ghost use Rattle.ac_sx.specs.Writing.{written, all_written};
 ghost use Rattle.expression_lang.specs.CodeExpression.{exp_of};
 ghost use Rattle.expression_text.specs.Lists.{exp_trees, names_tree};
-ghost use Rattle.expression_text.specs.CodeAround.{joined};
 
-use crate::building::atom;
-use crate::exp_writing::exp_tree;
-use ac_sx::Sx;
+use crate::exp_writing::exp_into;
+use ac_sx::TreeWriter;
 use expression_lang::Exp;
 use std::alloc::{AllocError, Global};
 
-/// A list with the trees of these expressions more.
-#[tactic(auto, using(crate::proofs::Filling::joined_push))]
-pub fn with_exps(alloc: Global, parts: Vec<Sx>, exps: &[Exp]) -> Result<Vec<Sx>, AllocError>
-    ensures { IfOk result (λ whole. trees_in whole.items
-        ≡ joined (trees_in parts.items) (exp_trees (map exp_of exps.now))) }
+/// Writes these expressions, one after the other.
+pub fn exps_into<W: TreeWriter>(alloc: Global, out: &mut W, exps: &[Exp]) -> Result<(), AllocError>
+    ensures { OnOk result (W.state out.new
+        ≡ all_written W.writing (W.state out.old) (exp_trees (map exp_of exps.now))) }
 {
-    let mut whole = parts;
     let mut rest = exps;
     'exps: while let Some((exp, others)) = rest.split_first() {
-        whole.push(exp_tree(alloc, exp)?)?;
+        exp_into(alloc, out, exp)?;
         rest = others;
     }
-    Ok(whole)
+    Ok(())
 }
 
-/// The list of these names.
-#[tactic(auto, using(crate::proofs::Filling::joined_push))]
-pub fn names_tree(alloc: Global, names: &[String]) -> Result<Sx, AllocError>
-    ensures { IfOk result (λ tree.
-        tree_of tree ≡ names_tree (map string_bytes names.now)) }
+/// Writes the list of these names.
+pub fn names_into<W: TreeWriter>(out: &mut W, names: &[String]) -> Result<(), AllocError>
+    ensures { OnOk result (W.state out.new
+        ≡ written W.writing (W.state out.old) (names_tree (map string_bytes names.now))) }
 {
-    let mut atoms = Vec::new(alloc);
+    out.enter()?;
     let mut rest = names;
     'names: while let Some((name, others)) = rest.split_first() {
-        atoms.push(atom(alloc, name.as_str())?)?;
+        out.atom(name.as_str())?;
         rest = others;
     }
-    Ok(Sx::list(atoms))
+    out.leave()
 }

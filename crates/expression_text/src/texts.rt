@@ -9,9 +9,9 @@ ghost use Rattle.expression_text.specs.CodeFault.{Fails};
 ghost use Rattle.expression_text.specs.Answer.{IsExpText, IsRead, IsRefused};
 
 use crate::exp_reading::exp_at;
-use crate::exp_writing::exp_tree;
+use crate::exp_writing::exp_into;
 use crate::fault::TextFault;
-use ac_sx::Sx;
+use ac_sx::{Sx, SxBuilder};
 use expression_lang::Exp;
 use std::alloc::{AllocError, Global};
 
@@ -38,5 +38,7 @@ pub fn read_exp(alloc: Global, tree: &Sx) -> Result<Exp, TextFault>
 pub fn write_exp(alloc: Global, e: &Exp) -> Result<Sx, AllocError>
     ensures { IfOk result (λ tree. tree_of tree ≡ text.exp_tree (exp_of e.now)) }
 {
-    exp_tree(alloc, e)
+    let mut tree = SxBuilder::new(alloc);
+    exp_into(alloc, &mut tree, e)?;
+    Ok(tree.finish())
 }

@@ -1,78 +1,83 @@
-//! The trees of types.
-ghost use Rattle.std.specs.Prelude.{◌≡◌, IfOk};
+//! Types, written.
+ghost use Rattle.std.specs.Prelude.{◌≡◌, OnOk};
 ghost use Rattle.c_values.specs.CodeTypes.{type_of};
-ghost use Rattle.c_values.specs.Types.{Struct};
-ghost use Rattle.ac_sx.specs.Tree.{no_trees, more, Atom};
-ghost use Rattle.ac_sx.specs.CodeSx.{tree_of, trees_in};
-ghost use Rattle.std.specs.Fmt.{decimal};
-ghost use Rattle.expression_text.specs.Words.{type_head_word, PtrHead, ArrayHead};
+ghost use Rattle.ac_sx.specs.Writing.{written};
+ghost use Rattle.expression_text.specs.Words.{type_head_word, StructHead};
 ghost use Rattle.expression_text.specs.TypeText.{type_tree};
+ghost use Rattle.expression_text.specs.CodeWriting.{type_end, type_ends};
 
-use crate::building::{Around, all_filled, atom, begun, list_of, natural_tree, with_part};
+use crate::parts::{begin_list, natural_into};
 use crate::words::int_type_word;
-use ac_sx::Sx;
+use ac_sx::TreeWriter;
 use c_values::CType;
 use std::alloc::{AllocError, Global};
 
-/// The tree of a type. It goes down the type by a loop, since a text may nest types deeply.
-#[tactic(auto, using(crate::proofs::Filling::all_filled_push))]
-pub fn type_tree(alloc: Global, t: &CType) -> Result<Sx, AllocError>
-    ensures { IfOk result (λ tree. tree_of tree ≡ type_tree (type_of t.now)) }
+/// Writes a type. It goes down the type by a loop, since a text may nest types deeply.
+#[tactic(auto, using(crate::proofs::Writing::type_ends_push))]
+pub fn type_into<W: TreeWriter>(alloc: Global, out: &mut W, t: &CType) -> Result<(), AllocError>
+    ensures { OnOk result (W.state out.new
+        ≡ written W.writing (W.state out.old) (type_tree (type_of t.now))) }
 {
     let mut lists = Vec::new(alloc);
     let mut inner = t;
     'down: loop {
         match inner {
             CType::Ptr(next) => {
-                lists.push(pointer(alloc)?)?;
+                begin_list(out, "ptr")?;
+                lists.push(inner)?;
                 inner = &**next;
             }
-            CType::Array(next, length) => {
-                lists.push(array(alloc, *length)?)?;
+            CType::Array(next, _length) => {
+                begin_list(out, "array")?;
+                lists.push(inner)?;
                 inner = &**next;
             }
             CType::Int(integer) => {
-                let word = atom(alloc, int_type_word(*integer))?;
-                return all_filled(lists, word);
+                out.atom(int_type_word(*integer))?;
+                return ends_into(out, lists);
             }
             CType::Void => {
-                let word = atom(alloc, "void")?;
-                return all_filled(lists, word);
+                out.atom("void")?;
+                return ends_into(out, lists);
             }
             CType::Struct(name) => {
-                let tree = struct_tree(alloc, name.as_str())?;
-                return all_filled(lists, tree);
+                struct_into(out, name.as_str())?;
+                return ends_into(out, lists);
             }
         }
     }
 }
 
-fn pointer(alloc: Global) -> Result<Around, AllocError>
-    ensures before { IfOk result (λ list.
-        trees_in list.before.items ≡ more (Atom (type_head_word PtrHead)) no_trees) }
-    ensures behind { IfOk result (λ list. trees_in list.behind.items ≡ no_trees) }
+fn struct_into<W: TreeWriter>(out: &mut W, name: &str) -> Result<(), AllocError>
+    ensures { OnOk result (W.state out.new
+        ≡ W.writing.left (W.writing.put (W.writing.put (W.writing.entered (W.state out.old))
+        (type_head_word StructHead)) name.now)) }
 {
-    let before = begun(alloc, "ptr")?;
-    Ok(Around::ending(alloc, before))
+    begin_list(out, "struct")?;
+    out.atom(name)?;
+    out.leave()
 }
 
-fn array(alloc: Global, length: u32) -> Result<Around, AllocError>
-    ensures before { IfOk result (λ list.
-        trees_in list.before.items ≡ more (Atom (type_head_word ArrayHead)) no_trees) }
-    ensures behind { IfOk result (λ list.
-        trees_in list.behind.items ≡ more (Atom (decimal length)) no_trees) }
+// The ends of the lists of these types, the outermost first.
+#[tactic(auto, using(crate::proofs::Writing::type_ends_push))]
+fn ends_into<W: TreeWriter>(out: &mut W, lists: Vec<&CType>) -> Result<(), AllocError>
+    ensures { OnOk result (W.state out.new
+        ≡ type_ends W.writing lists.entry.items (W.state out.old)) }
 {
-    let before = begun(alloc, "array")?;
-    let length = natural_tree(alloc, u64::from(length))?;
-    let behind = list_of(alloc, length)?;
-    Ok(Around { before, behind })
+    let mut left = lists;
+    'back: while let Some(list) = left.pop() {
+        end_into(out, list)?;
+    }
+    Ok(())
 }
 
-fn struct_tree(alloc: Global, name: &str) -> Result<Sx, AllocError>
-    ensures { IfOk result (λ tree. tree_of tree ≡ type_tree (Struct name.now)) }
+// The end of the list of a type.
+fn end_into<W: TreeWriter>(out: &mut W, t: &CType) -> Result<(), AllocError>
+    ensures { OnOk result (W.state out.new
+        ≡ type_end W.writing (type_of t.now) (W.state out.old)) }
 {
-    let parts = begun(alloc, "struct")?;
-    let name = atom(alloc, name)?;
-    let parts = with_part(parts, name)?;
-    Ok(Sx::list(parts))
+    if let CType::Array(_inner, length) = t {
+        natural_into(out, u64::from(*length))?;
+    }
+    out.leave()
 }

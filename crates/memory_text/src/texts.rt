@@ -14,7 +14,7 @@ ghost use Rattle.memory_text.specs.Answer.{IsMemoryTree, IsTextOf, IsMemoryText,
 use crate::fault::MemoryFault;
 use crate::memory::MemoryText;
 use crate::memory_reading::memory_at;
-use crate::writing::memory_tree;
+use crate::writing::memory_text;
 use ac_sx::{Sx, SxFault};
 use c_lang::tree::TypedUnit;
 use expression_text::TextFault;
@@ -93,6 +93,5 @@ pub fn write_memory(alloc: Global, memory: &MemoryText) -> Result<Vec<u8>, Alloc
         depth (texts.memory_tree (memory_of memory.now)) ≤ deepest →
         IfOk result (λ text. IsMemoryText u text.items (memory_of memory.now)) }
 {
-    let tree = memory_tree(alloc, memory)?;
-    ac_sx::write(alloc, &tree)
+    memory_text(alloc, memory)
 }

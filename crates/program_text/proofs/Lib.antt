@@ -1,7 +1,7 @@
 pub mod KindLaws
 pub mod PartLaws
 pub mod SequencesRead
-pub mod SequencesWritten
+pub mod Writing
 pub mod MonRows
 pub mod MonLaws
 pub mod ReadBack

@@ -1,18 +1,19 @@
 //! Kinds as trees, both ways.
-ghost use Rattle.std.specs.Prelude.{◌≡◌, ◌≢◌, IfOk, IfSome, IfNone, Some};
+ghost use Rattle.std.specs.Prelude.{◌≡◌, ◌≢◌, OnOk, IfSome, IfNone, Some};
 ghost use Rattle.std.specs.Fmt.{decimal};
 ghost use Rattle.ac_sx.specs.Tree.{Atom, Node, no_trees, more};
 ghost use Rattle.ac_sx.specs.CodeSx.{tree_of, trees_in, one_of};
+ghost use Rattle.ac_sx.specs.Writing.{written};
 ghost use Rattle.expression_lang.specs.CodeExpression.{kind_of};
 ghost use Rattle.expression_text.specs.CodeFault.{Gives};
 ghost use Rattle.program_text.specs.Kinds as text;
 ghost use Rattle.program_text.specs.Kinds.{kind_head_word, kind_tree, sized_kind_at, kind_at};
 ghost use Rattle.program_text.specs.declared.kinds.KindHead as H;
 
-use ac_sx::{Sx, headed, one};
+use ac_sx::{Sx, TreeWriter, headed, one};
 use expression_lang::Kind;
-use expression_text::{TextFault, atom, begun, natural_tree, next, width_at, with_part};
-use std::alloc::{AllocError, Global};
+use expression_text::{TextFault, begin_list, natural_into, next, width_at};
+use std::alloc::AllocError;
 
 /// What a kind of so many bits begins with.
 #[derive(Clone, Copy)]
@@ -81,24 +82,24 @@ fn sized_kind_at(
     Ok((head.of_width(width), at))
 }
 
-/// The tree of a kind.
-pub fn kind_tree(alloc: Global, kind: Kind) -> Result<Sx, AllocError>
-    ensures { IfOk result (λ tree. tree_of tree ≡ kind_tree (kind_of kind)) }
+/// Writes a kind.
+pub fn kind_into<W: TreeWriter>(out: &mut W, kind: Kind) -> Result<(), AllocError>
+    ensures { OnOk result (W.state out.new
+        ≡ written W.writing (W.state out.old) (kind_tree (kind_of kind))) }
 {
     match kind {
-        Kind::Word(width) => sized_kind(alloc, "w", width),
-        Kind::Nat(width) => sized_kind(alloc, "nat", width),
-        Kind::Int(width) => sized_kind(alloc, "int", width),
-        Kind::Bool => atom(alloc, "bool"),
+        Kind::Word(width) => sized_kind_into(out, "w", width),
+        Kind::Nat(width) => sized_kind_into(out, "nat", width),
+        Kind::Int(width) => sized_kind_into(out, "int", width),
+        Kind::Bool => out.atom("bool"),
     }
 }
 
-fn sized_kind(alloc: Global, word: &str, width: u8) -> Result<Sx, AllocError>
-    ensures { IfOk result (λ tree. tree_of tree
-        ≡ Node (more (Atom word.now) (more (Atom (decimal width)) no_trees))) }
+fn sized_kind_into<W: TreeWriter>(out: &mut W, word: &str, width: u8) -> Result<(), AllocError>
+    ensures { OnOk result (W.state out.new ≡ written W.writing (W.state out.old)
+        (Node (more (Atom word.now) (more (Atom (decimal width)) no_trees)))) }
 {
-    let parts = begun(alloc, word)?;
-    let width = natural_tree(alloc, u64::from(width))?;
-    let parts = with_part(parts, width)?;
-    Ok(Sx::list(parts))
+    begin_list(out, word)?;
+    natural_into(out, u64::from(width))?;
+    out.leave()
 }

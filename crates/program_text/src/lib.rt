@@ -10,7 +10,7 @@ mod steps;
 mod texts;
 
 pub use fields::{boxed_exp_at, four};
-pub use kinds::{kind_at, kind_tree};
+pub use kinds::{kind_at, kind_into};
 pub use mon_reading::mon_at;
-pub use mon_writing::mon_tree;
+pub use mon_writing::mon_into;
 pub use texts::{read_kind, read_mon, write_kind, write_mon};

@@ -12,10 +12,10 @@ ghost use Rattle.program_text.specs.MonText as text;
 ghost use Rattle.program_text.specs.MonReading as reading;
 ghost use Rattle.program_text.specs.Answer.{IsKindText, IsMonText};
 
-use crate::kinds::{kind_at, kind_tree};
+use crate::kinds::{kind_at, kind_into};
 use crate::mon_reading::mon_at;
-use crate::mon_writing::mon_tree;
-use ac_sx::Sx;
+use crate::mon_writing::mon_into;
+use ac_sx::{Sx, SxBuilder};
 use expression_lang::Kind;
 use expression_text::TextFault;
 use monad_lang::Mon;
@@ -42,7 +42,9 @@ pub fn read_kind(tree: &Sx) -> Result<Kind, TextFault>
 pub fn write_kind(alloc: Global, kind: Kind) -> Result<Sx, AllocError>
     ensures { IfOk result (λ tree. tree_of tree ≡ kinds.kind_tree (kind_of kind)) }
 {
-    kind_tree(alloc, kind)
+    let mut tree = SxBuilder::new(alloc);
+    kind_into(&mut tree, kind)?;
+    Ok(tree.finish())
 }
 
 /// The program whose text a tree is.
@@ -68,5 +70,7 @@ pub fn read_mon(alloc: Global, tree: &Sx) -> Result<Mon, TextFault>
 pub fn write_mon(alloc: Global, m: &Mon) -> Result<Sx, AllocError>
     ensures { IfOk result (λ tree. tree_of tree ≡ text.mon_tree (mon_of m.now)) }
 {
-    mon_tree(alloc, m)
+    let mut tree = SxBuilder::new(alloc);
+    mon_into(alloc, &mut tree, m)?;
+    Ok(tree.finish())
 }

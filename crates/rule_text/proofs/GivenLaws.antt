@@ -1,5 +1,5 @@
 -- Rules with one part of data, made of what is read from it.
-use Rattle.std.proofs.Common.{◌≡◌, ℕ, Bool, true, Option, Some, None, Ok, Err, refl, ap, sym, subst, ◌∙◌}
+use Rattle.std.proofs.Common.{◌≡◌, ℕ, Bool, true, Some, None, Ok, Err, ap, sym, subst, ◌∙◌}
 use Rattle.ac_sx.specs.Tree.{Tree, Trees, no_trees, more}
 use Rattle.c_values.specs.Name.{Name}
 use Rattle.expression_text.specs.Reading.{Read, made}

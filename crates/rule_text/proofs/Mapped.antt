@@ -2,7 +2,7 @@
 use Rattle.std.proofs.Common.{◌≡◌, refl, ap, ap₂}
 use Rattle.ac_sx.specs.Tree.{Trees, more}
 use Rattle.c_values.specs.Name.{Name}
-use Rattle.expression_text.specs.CodeAround.{joined}
+use Rattle.expression_text.specs.Lists.{joined}
 use Rattle.rule_trees.specs.declared.tree.Tree as T
 use Rattle.rule_trees.specs.declared.tree.Tree.{Row_of-Tree, end_of-Tree, more_of-Tree}
 use Rattle.rule_trees.specs.CodeTree.{tree_of, trees_of}

@@ -1,11 +1,11 @@
 -- A tree of rules is read from its text, and what is read from a text is the tree whose text it is, for the rules of any phase whose words are so.
-use Rattle.std.proofs.Common.{◌≡◌, ℕ, suc, Bool, true, false, cond, ◌&&◌, ◌⊎◌, inl, inr, Option, Some, None, Ok, Err, refl, ap, ap₂, sym, subst, ◌∙◌, if◌then◌else◌}
-use Rattle.std.proofs.lemmas.Bool.{and_parts, and_from, cond-true, cond-false}
+use Rattle.std.proofs.Common.{◌≡◌, ℕ, suc, Bool, true, false, cond, ◌&&◌, ◌⊎◌, inl, inr, Option, Some, None, Ok, Err, refl, ap, ap₂, sym, subst, ◌∙◌}
+use Rattle.std.proofs.lemmas.Bool.{and_parts, and_from, cond-true}
 use Rattle.ac_sx.specs.Tree.{Tree, Trees, Atom, Node, no_trees, more}
 use Rattle.c_values.specs.Name.{Name}
-use Rattle.expression_text.specs.CodeAround.{joined}
+use Rattle.expression_text.specs.Lists.{joined}
 use Rattle.expression_text.specs.Reading.{Read, next, ◌>>=◌}
-use Rattle.expression_text.proofs.Behind.{behind, all_behind, IsReadAs, AreReadAs, bind_ok, kept_ok, value_ok}
+use Rattle.expression_text.proofs.Behind.{behind, IsReadAs, AreReadAs, bind_ok, kept_ok, value_ok}
 use Rattle.rule_trees.specs.RuleTree as rules
 use Rattle.rule_text.specs.declared.arity.Arity.{Arity}
 use Rattle.rule_text.specs.Arities.{fits}

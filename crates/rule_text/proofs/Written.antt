@@ -1,27 +1,32 @@
--- The text of a node by its parts, as the writer makes it.
-use Rattle.std.proofs.Common.{◌≡◌, ◌≤◌, ◌<◌, ℕ, suc, ◌+◌, ◌==◌, Bool, true, false, List, [], ◌∷◌, ◌++◌, length, refl, sym, ap, ◌∙◌, arith}
-use Rattle.ac_sx.specs.Tree.{Tree, Trees, Atom, Node, no_trees, more}
-use Rattle.ac_sx.specs.declared.sx.Sx as S
-use Rattle.ac_sx.specs.CodeSx.{tree_of, trees_in}
+-- The text of a node by its parts, as the writer writes it.
+use Rattle.std.proofs.Common.{◌≡◌, suc, ◌+◌, true, false, List, [], ◌∷◌, ◌++◌, length, refl, sym, ap, ◌∙◌, arith}
+use Rattle.ac_sx.specs.Tree.{Trees, Atom, Node, Tree, no_trees, more}
+use Rattle.ac_sx.specs.Writing.{Writing, written, all_written}
 use Rattle.c_values.specs.Name.{Name}
-use Rattle.expression_text.specs.declared.building.Around.{Around}
-use Rattle.expression_text.specs.CodeAround.{joined, filled, all_filled}
-use Rattle.expression_text.proofs.Filling.{joined_push, joined_nothing, all_filled_push}
+use Rattle.expression_text.specs.Lists.{joined}
+use Rattle.expression_text.proofs.Writing.{all_joined}
+use Rattle.program_text.specs.CodeWriting.{lists_left}
+use Rattle.program_text.proofs.Writing.{lists_left_push}
 use Rattle.rule_trees.specs.declared.tree.Tree as T
 use Rattle.rule_trees.specs.declared.tree.Tree.{out-Tree}
 use Rattle.rule_trees.specs.CodeTree as code
 use Rattle.rule_trees.specs.CodeNodes.{nodes, nodes_in}
 use Rattle.rule_trees.proofs.Parts.{tree_parts}
-use Rattle.rule_text.specs.RuleText.{word_with, rule_tree, rule_trees}
-use Rattle.rule_text.specs.CodeWriting.{text_in, texts_in}
+use Rattle.rule_text.specs.RuleText.{word_with, rule_tree}
+use Rattle.rule_text.specs.CodeWriting.{has_trees, text_in, texts_in}
 
-pub not_empty : (b : Bool) (n m : ℕ) → b ≡ (m == 0) → b ≡ false → n ≡ m → n ≡ 0 → ⊥
-not_empty b n m e f same none = let h : true ≡ false = sym (ap (λ k. k == 0) (sym same ∙ none)) ∙ sym e ∙ f in cc
+joined_nothing : (ts : Trees) → joined ts no_trees ≡ ts
+joined_nothing no_trees = refl
+joined_nothing (more t ts) = ap (λ us. more t us) (joined_nothing ts)
 
--- a word with data
-pub with_data : (word : Name) (xs : List S.Sx) → (length xs ≡ 0 → ⊥) → word_with word (trees_in xs) ≡ Node (more (Atom word) (trees_in xs))
-with_data word [] some = absurd (some refl)
-with_data word (x ∷ xs) some = refl
+-- a word without data, and one with data
+pub leaf_plain : (word : Name) (ts : Trees) → has_trees ts ≡ false → word_with word ts ≡ Atom word
+leaf_plain word no_trees none = refl
+leaf_plain word (more t ts) none = absurd cc
+
+pub leaf_listed : (word : Name) (ts : Trees) → has_trees ts ≡ true → word_with word ts ≡ Node (more (Atom word) ts)
+leaf_listed word no_trees some = absurd cc
+leaf_listed word (more t ts) some = refl
 
 with_last : (word : Name) (data' ts : Trees) (t : Tree) (us : Trees) → word_with word (joined data' (joined ts (more t us))) ≡ Node (more (Atom word) (joined data' (joined ts (more t us))))
 with_last word no_trees no_trees t us = refl
@@ -38,53 +43,54 @@ module _ {R : Type 0} (word : R → Name) (data' : R → Trees) where
       let r = (out-Tree R t).rule in
       ap (rule_tree word data') (tree_parts (λ r. r) t) ∙ ap (λ us. word_with (word r) (joined (data' r) (texts_in word data' us))) (sym e)
 
-  -- what is left in a list: the texts of the parts before the last, and of the last
-  abbrev pub left_in : List (T.Tree R) → T.Tree R → Trees
-  left_in others last = joined (texts_in word data' others) (more (text_in word data' last) no_trees)
+  module _ {S : Type 0} (w : Writing S) where
+    -- behind the parts before the last, and the last
+    abbrev pub left_in : List (T.Tree R) → T.Tree R → S → S
+    left_in others last s = w.left (written w (all_written w s (texts_in word data' others)) (text_in word data' last))
 
-  -- a node without parts is its word and its data
-  pub leaf_written : (lists : List Around) (t : T.Tree R) (ts : List (T.Tree R)) (leaf text whole : Tree) → ts ≡ (out-Tree R t).parts.items → length ts ≡ 0 →
-      leaf ≡ word_with (word (out-Tree R t).rule) (data' (out-Tree R t).rule) → text ≡ all_filled lists leaf → all_filled lists (text_in word data' t) ≡ whole → text ≡ whole
-  leaf_written lists t (u ∷ us) leaf text whole e none written is so_far = absurd cc
-  leaf_written lists t [] leaf text whole e none written is so_far =
-      let r = (out-Tree R t).rule in
-      is ∙ ap (all_filled lists) (written ∙ sym (by_parts t [] e ∙ ap (word_with (word r)) (joined_nothing (data' r)))) ∙ so_far
+    module _ {A : Type 0} where
+      -- a node without parts is its word and its data
+      pub leaf_written : (lists : List A) (t : T.Tree R) (ts : List (T.Tree R)) (old new whole : S) → ts ≡ (out-Tree R t).parts.items → length ts ≡ 0 →
+          new ≡ written w old (word_with (word (out-Tree R t).rule) (data' (out-Tree R t).rule)) → lists_left w lists (written w old (text_in word data' t)) ≡ whole → lists_left w lists new ≡ whole
+      leaf_written lists t (u ∷ us) old new whole e none is so_far = absurd cc
+      leaf_written lists t [] old new whole e none is so_far =
+          let r = (out-Tree R t).rule in
+          ap (lists_left w lists) (is ∙ ap (written w old) (sym (by_parts t [] e ∙ ap (word_with (word r)) (joined_nothing (data' r))))) ∙ so_far
 
-  -- a node with parts begins with its word and its data
-  pub node_begun : (lists : List Around) (t : T.Tree R) (ts others : List (T.Tree R)) (last : T.Tree R) (before : List S.Sx) (whole : Tree) → ts ≡ (out-Tree R t).parts.items → ts ≡ others ++ last ∷ [] →
-      trees_in before ≡ more (Atom (word (out-Tree R t).rule)) (data' (out-Tree R t).rule) → all_filled lists (text_in word data' t) ≡ whole → all_filled lists (Node (joined (trees_in before) (left_in others last))) ≡ whole
-  node_begun lists t ts others last before whole e split begun so_far =
-      let r = (out-Tree R t).rule in
-      ap (λ us. all_filled lists (Node (joined us (left_in others last)))) begun
-      ∙ ap (all_filled lists) (sym (
-      by_parts t ts e
-      ∙ ap (λ us. word_with (word r) (joined (data' r) (texts_in word data' us))) split
-      ∙ ap (λ us. word_with (word r) (joined (data' r) us)) (texts_last others last)
-      ∙ with_last (word r) (data' r) (texts_in word data' others) (text_in word data' last) no_trees
-      ))
-      ∙ so_far
+      -- a node with parts begins with its word and its data
+      pub node_begun : (lists : List A) (t : T.Tree R) (ts others : List (T.Tree R)) (last : T.Tree R) (old new whole : S) → ts ≡ (out-Tree R t).parts.items → ts ≡ others ++ last ∷ [] →
+          new ≡ all_written w (w.put (w.entered old) (word (out-Tree R t).rule)) (data' (out-Tree R t).rule) → lists_left w lists (written w old (text_in word data' t)) ≡ whole → lists_left w lists (left_in others last new) ≡ whole
+      node_begun lists t ts others last old new whole e split begun so_far =
+          let r = (out-Tree R t).rule in
+          let begin = w.put (w.entered old) (word r) in
+          let rest = more (text_in word data' last) no_trees in
+          ap (λ s. lists_left w lists (left_in others last s)) begun
+          ∙ ap (lists_left w lists) (sym (
+          ap (written w old) (
+          by_parts t ts e
+          ∙ ap (λ us. word_with (word r) (joined (data' r) (texts_in word data' us))) split
+          ∙ ap (λ us. word_with (word r) (joined (data' r) us)) (texts_last others last)
+          ∙ with_last (word r) (data' r) (texts_in word data' others) (text_in word data' last) no_trees
+          )
+          ∙ ap w.left (all_joined w (data' r) (joined (texts_in word data' others) rest) begin ∙ all_joined w (texts_in word data' others) rest (all_written w begin (data' r)))
+          ))
+          ∙ so_far
 
-  -- one part more is written
-  pub part_written : (lists : List Around) (before now : List S.Sx) (written : S.Sx) (left others : List (T.Tree R)) (part last : T.Tree R) (whole : Tree) → left ≡ part ∷ others → now ≡ before ++ written ∷ [] → tree_of written ≡ text_in word data' part →
-      all_filled lists (Node (joined (trees_in before) (left_in left last))) ≡ whole → all_filled lists (Node (joined (trees_in now) (left_in others last))) ≡ whole
-  part_written lists before now written left others part last whole split pushed is so_far =
-      ap (λ xs. all_filled lists (Node (joined (trees_in xs) (left_in others last)))) pushed
-      ∙ ap (λ us. all_filled lists (Node us)) (joined_push before written (left_in others last))
-      ∙ ap (λ t. all_filled lists (Node (joined (trees_in before) (more t (left_in others last))))) is
-      ∙ ap (λ ts. all_filled lists (Node (joined (trees_in before) (left_in ts last)))) (sym split)
-      ∙ so_far
+      -- one part more is written
+      pub part_written : (lists : List A) (left others : List (T.Tree R)) (part last : T.Tree R) (old new whole : S) → left ≡ part ∷ others → new ≡ written w old (text_in word data' part) →
+          lists_left w lists (left_in left last old) ≡ whole → lists_left w lists (left_in others last new) ≡ whole
+      part_written lists left others part last old new whole split is so_far =
+          ap (λ s. lists_left w lists (left_in others last s)) is
+          ∙ ap (λ ts. lists_left w lists (left_in ts last old)) (sym split)
+          ∙ so_far
 
-  -- only the last part is left
-  pub last_left : (lists now : List Around) (list : Around) (before : List S.Sx) (left : List (T.Tree R)) (last : T.Tree R) (whole : Tree) → length left ≡ 0 → now ≡ lists ++ list ∷ [] → trees_in list.before.items ≡ trees_in before → trees_in list.behind.items ≡ no_trees →
-      all_filled lists (Node (joined (trees_in before) (left_in left last))) ≡ whole → all_filled now (text_in word data' last) ≡ whole
-  last_left lists now list before (u ∷ us) last whole none pushed front back so_far = absurd cc
-  last_left lists now list before [] last whole none pushed front back so_far =
-      let t = text_in word data' last in
-      ap (λ xs. all_filled xs t) pushed
-      ∙ all_filled_push lists list t
-      ∙ ap (λ us. all_filled lists (Node (joined us (more t (trees_in list.behind.items))))) front
-      ∙ ap (λ us. all_filled lists (Node (joined (trees_in before) (more t us)))) back
-      ∙ so_far
+      -- only the last part is left
+      pub last_left : (lists now : List A) (list : A) (left : List (T.Tree R)) (last : T.Tree R) (s whole : S) → length left ≡ 0 → now ≡ lists ++ list ∷ [] →
+          lists_left w lists (left_in left last s) ≡ whole → lists_left w now (written w s (text_in word data' last)) ≡ whole
+      last_left lists now list (u ∷ us) last s whole none pushed so_far = absurd cc
+      last_left lists now list [] last s whole none pushed so_far =
+          let t = written w s (text_in word data' last) in
+          ap (λ xs. lists_left w xs t) pushed ∙ lists_left_push w lists list t ∙ so_far
 
 module _ {R : Type 0} where
   nodes_last : (ts : List (T.Tree R)) (t : T.Tree R) → nodes_in (code.trees_in (λ r. r) (ts ++ t ∷ [])) ≡ nodes_in (code.trees_in (λ r. r) ts) + nodes (code.tree_of (λ r. r) t)

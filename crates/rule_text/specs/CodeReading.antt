@@ -1,6 +1,6 @@
 -- How the code reads a node: the rule that a list begins with, and then the trees of its parts.
 use Rattle.std.specs.Prelude.{ℕ, Option, Some, None, Ok, Err, if◌then◌else◌}
-use Rattle.ac_sx.specs.Tree.{Tree, Trees, no_trees, more}
+use Rattle.ac_sx.specs.Tree.{Trees, more}
 use Rattle.c_values.specs.Name.{Name}
 use Rattle.expression_text.specs.Reading.{Read, next, ◌>>=◌}
 use Rattle.rule_trees.specs.RuleTree as rules

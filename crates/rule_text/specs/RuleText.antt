@@ -2,7 +2,7 @@
 use Rattle.std.specs.Prelude.{Bool, true, ◌&&◌}
 use Rattle.ac_sx.specs.Tree.{Tree, Trees, Atom, Node, no_trees, more}
 use Rattle.c_values.specs.Name.{Name}
-use Rattle.expression_text.specs.CodeAround.{joined}
+use Rattle.expression_text.specs.Lists.{joined}
 use Rattle.rule_trees.specs.RuleTree as rules
 use Rattle.rule_text.specs.declared.arity.Arity.{Arity}
 use Rattle.rule_text.specs.Arities.{fits}

@@ -1,7 +1,8 @@
 //! Trees of the rules of equality.
 
-ghost use Rattle.std.specs.Prelude.{◌≡◌, ◌≢◌, ◌^◌, true, Ok, Err, IfOk, IfSome, IfNone};
+ghost use Rattle.std.specs.Prelude.{◌≡◌, ◌≢◌, ◌^◌, true, Ok, Err, OnOk, IfSome, IfNone};
 ghost use Rattle.ac_sx.specs.CodeSx.{tree_of};
+ghost use Rattle.ac_sx.specs.Writing.{written};
 ghost use Rattle.expression_text.specs.Numbers.{natural_at};
 ghost use Rattle.expression_text.specs.CodeFault.{Gives};
 ghost use Rattle.rule_eq.specs.Rule as R;
@@ -11,10 +12,10 @@ ghost use Rattle.rule_text.specs.EqualityText.{word, data_of, text_of, is_plain}
 
 use crate::arity::Arity;
 use crate::reading::{RuleReading, tree_at};
-use crate::writing::{RuleText, rule_tree};
-use ac_sx::Sx;
-use expression_text::{TextFault, list_of, natural_tree, number_at};
-use program_text::{mon_at, write_mon};
+use crate::writing::{RuleText, rule_into};
+use ac_sx::{Sx, TreeWriter};
+use expression_text::{TextFault, natural_into, number_at};
+use program_text::{mon_at, mon_into};
 use rule_eq::Rule;
 use rule_trees::Tree;
 use std::alloc::{AllocError, Global};
@@ -40,11 +41,15 @@ impl RuleText for Rule {
         }
     }
 
-    fn data(&self, alloc: Global) -> Result<Vec<Sx>, AllocError> {
+    fn has_data(&self) -> bool {
+        matches!(self, Rule::Trans(_) | Rule::RetOne(_))
+    }
+
+    fn data_into<W: TreeWriter>(&self, alloc: Global, out: &mut W) -> Result<(), AllocError> {
         match self {
-            Rule::Trans(middle) => list_of(alloc, write_mon(alloc, middle)?),
-            Rule::RetOne(position) => list_of(alloc, natural_tree(alloc, u64::from(*position))?),
-            _ => Ok(Vec::new(alloc)),
+            Rule::Trans(middle) => mon_into(alloc, out, middle),
+            Rule::RetOne(position) => natural_into(out, u64::from(*position)),
+            _ => Ok(()),
         }
     }
 }
@@ -115,12 +120,17 @@ fn plain_rule(word: &str) -> Option<Rule>
     }
 }
 
-/// The text of a tree of the rules of equality.
+/// Writes a tree of the rules of equality.
 #[tactic(auto, using(crate::proofs::Mapped::mapped))]
-pub fn equality_tree(alloc: Global, tree: &Tree<Rule>) -> Result<Sx, AllocError>
-    ensures { IfOk result (λ text. tree_of text ≡ text_of (code.tree_of tree.now)) }
+pub fn equality_into<W: TreeWriter>(
+    alloc: Global,
+    out: &mut W,
+    tree: &Tree<Rule>,
+) -> Result<(), AllocError>
+    ensures { OnOk result (W.state out.new
+        ≡ written W.writing (W.state out.old) (text_of (code.tree_of tree.now))) }
 {
-    rule_tree(alloc, tree)
+    rule_into(alloc, out, tree)
 }
 
 /// The tree of the rules of equality that a tree is.

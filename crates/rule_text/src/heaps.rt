@@ -1,7 +1,8 @@
 //! Trees of the rules of typed heaps.
 
-ghost use Rattle.std.specs.Prelude.{◌≡◌, ◌≢◌, true, IfOk, IfSome, IfNone};
+ghost use Rattle.std.specs.Prelude.{◌≡◌, ◌≢◌, true, OnOk, IfSome, IfNone};
 ghost use Rattle.ac_sx.specs.CodeSx.{tree_of};
+ghost use Rattle.ac_sx.specs.Writing.{written};
 ghost use Rattle.expression_text.specs.CodeFault.{Gives};
 ghost use Rattle.rule_heap.specs.Rule as R;
 ghost use Rattle.rule_heap.specs.CodeRule as code;
@@ -10,9 +11,9 @@ ghost use Rattle.rule_text.specs.HeapText.{word, data_of, text_of, is_plain};
 
 use crate::arity::Arity;
 use crate::reading::{RuleReading, tree_at};
-use crate::writing::{RuleText, rule_tree};
-use ac_sx::Sx;
-use expression_text::{TextFault, exp_tree, list_of};
+use crate::writing::{RuleText, rule_into};
+use ac_sx::{Sx, TreeWriter};
+use expression_text::{TextFault, exp_into};
 use program_text::boxed_exp_at;
 use rule_heap::Rule;
 use rule_trees::Tree;
@@ -50,10 +51,14 @@ impl RuleText for Rule {
         }
     }
 
-    fn data(&self, alloc: Global) -> Result<Vec<Sx>, AllocError> {
+    fn has_data(&self) -> bool {
+        matches!(self, Rule::Drop(_) | Rule::Known(_))
+    }
+
+    fn data_into<W: TreeWriter>(&self, alloc: Global, out: &mut W) -> Result<(), AllocError> {
         match self {
-            Rule::Drop(address) | Rule::Known(address) => list_of(alloc, exp_tree(alloc, address)?),
-            _ => Ok(Vec::new(alloc)),
+            Rule::Drop(address) | Rule::Known(address) => exp_into(alloc, out, address),
+            _ => Ok(()),
         }
     }
 }
@@ -134,12 +139,17 @@ fn plain_rule(word: &str) -> Option<Rule>
     }
 }
 
-/// The text of a tree of the rules of typed heaps.
+/// Writes a tree of the rules of typed heaps.
 #[tactic(auto, using(crate::proofs::Mapped::mapped))]
-pub fn heap_tree(alloc: Global, tree: &Tree<Rule>) -> Result<Sx, AllocError>
-    ensures { IfOk result (λ text. tree_of text ≡ text_of (code.tree_of tree.now)) }
+pub fn heap_into<W: TreeWriter>(
+    alloc: Global,
+    out: &mut W,
+    tree: &Tree<Rule>,
+) -> Result<(), AllocError>
+    ensures { OnOk result (W.state out.new
+        ≡ written W.writing (W.state out.old) (text_of (code.tree_of tree.now))) }
 {
-    rule_tree(alloc, tree)
+    rule_into(alloc, out, tree)
 }
 
 /// The tree of the rules of typed heaps that a tree is.

@@ -11,9 +11,9 @@ mod reading;
 mod texts;
 mod writing;
 
-pub use equality::{equality_tree, equality_tree_at};
-pub use exceptions::{exception_tree, exception_tree_at};
-pub use heaps::{heap_tree, heap_tree_at};
-pub use locals::{local_tree, local_tree_at};
-pub use numbers::{word_tree, word_tree_at};
+pub use equality::{equality_into, equality_tree_at};
+pub use exceptions::{exception_into, exception_tree_at};
+pub use heaps::{heap_into, heap_tree_at};
+pub use locals::{local_into, local_tree_at};
+pub use numbers::{word_into, word_tree_at};
 pub use texts::{read_heap_tree, write_heap_tree};

@@ -1,7 +1,8 @@
 //! Trees of the rules that lift locals.
 
-ghost use Rattle.std.specs.Prelude.{◌≡◌, ◌≢◌, IfOk, IfSome, IfNone};
+ghost use Rattle.std.specs.Prelude.{◌≡◌, ◌≢◌, OnOk, IfSome, IfNone};
 ghost use Rattle.ac_sx.specs.CodeSx.{tree_of};
+ghost use Rattle.ac_sx.specs.Writing.{written};
 ghost use Rattle.expression_text.specs.CodeFault.{Gives};
 ghost use Rattle.rule_local.specs.Rule as R;
 ghost use Rattle.rule_local.specs.CodeRule as code;
@@ -10,8 +11,8 @@ ghost use Rattle.rule_text.specs.LocalText.{word, data_of, text_of};
 
 use crate::arity::Arity;
 use crate::reading::{RuleReading, tree_at};
-use crate::writing::{RuleText, rule_tree};
-use ac_sx::Sx;
+use crate::writing::{RuleText, rule_into};
+use ac_sx::{Sx, TreeWriter};
 use expression_text::TextFault;
 use rule_local::Rule;
 use rule_trees::Tree;
@@ -40,8 +41,12 @@ impl RuleText for Rule {
         }
     }
 
-    fn data(&self, alloc: Global) -> Result<Vec<Sx>, AllocError> {
-        Ok(Vec::new(alloc))
+    fn has_data(&self) -> bool {
+        false
+    }
+
+    fn data_into<W: TreeWriter>(&self, _alloc: Global, _out: &mut W) -> Result<(), AllocError> {
+        Ok(())
     }
 }
 
@@ -108,12 +113,17 @@ fn plain_rule(word: &str) -> Option<Rule>
     }
 }
 
-/// The text of a tree of the rules that lift locals.
+/// Writes a tree of the rules that lift locals.
 #[tactic(auto, using(crate::proofs::Mapped::mapped))]
-pub fn local_tree(alloc: Global, tree: &Tree<Rule>) -> Result<Sx, AllocError>
-    ensures { IfOk result (λ text. tree_of text ≡ text_of (code.tree_of tree.now)) }
+pub fn local_into<W: TreeWriter>(
+    alloc: Global,
+    out: &mut W,
+    tree: &Tree<Rule>,
+) -> Result<(), AllocError>
+    ensures { OnOk result (W.state out.new
+        ≡ written W.writing (W.state out.old) (text_of (code.tree_of tree.now))) }
 {
-    rule_tree(alloc, tree)
+    rule_into(alloc, out, tree)
 }
 
 /// The tree of the rules that lift locals that a tree is.

@@ -1,7 +1,8 @@
 //! Trees of the rules of numbers.
 
-ghost use Rattle.std.specs.Prelude.{◌≡◌, ◌≢◌, true, IfOk, IfSome, IfNone, map};
+ghost use Rattle.std.specs.Prelude.{◌≡◌, ◌≢◌, true, OnOk, IfSome, IfNone, map};
 ghost use Rattle.ac_sx.specs.CodeSx.{tree_of, trees_in};
+ghost use Rattle.ac_sx.specs.Writing.{written};
 ghost use Rattle.expression_lang.specs.CodeExpression.{kind_of};
 ghost use Rattle.expression_text.specs.CodeFault.{Gives};
 ghost use Rattle.expression_text.specs.Lists.{list_at};
@@ -13,11 +14,11 @@ ghost use Rattle.rule_text.specs.WordText.{kinds_tree, word, data_of, text_of, i
 
 use crate::arity::Arity;
 use crate::reading::{RuleReading, tree_at};
-use crate::writing::{RuleText, rule_tree};
-use ac_sx::Sx;
+use crate::writing::{RuleText, rule_into};
+use ac_sx::{Sx, TreeWriter};
 use expression_lang::Kind;
-use expression_text::{TextFault, list_of, next};
-use program_text::{kind_at, write_kind};
+use expression_text::{TextFault, next};
+use program_text::{kind_at, kind_into};
 use rule_trees::Tree;
 use rule_word::Rule;
 use std::alloc::{AllocError, Global};
@@ -66,13 +67,18 @@ impl RuleText for Rule {
         }
     }
 
-    fn data(&self, alloc: Global) -> Result<Vec<Sx>, AllocError> {
+    fn has_data(&self) -> bool {
+        matches!(
+            self,
+            Rule::Bind(_) | Rule::Loop(_) | Rule::Recast(_) | Rule::Word(_) | Rule::Eq(_)
+        )
+    }
+
+    fn data_into<W: TreeWriter>(&self, _alloc: Global, out: &mut W) -> Result<(), AllocError> {
         match self {
-            Rule::Bind(kinds) | Rule::Loop(kinds) | Rule::Recast(kinds) => {
-                list_of(alloc, kinds_tree(alloc, kinds)?)
-            }
-            Rule::Word(kind) | Rule::Eq(kind) => list_of(alloc, write_kind(alloc, *kind)?),
-            _ => Ok(Vec::new(alloc)),
+            Rule::Bind(kinds) | Rule::Loop(kinds) | Rule::Recast(kinds) => kinds_into(out, kinds),
+            Rule::Word(kind) | Rule::Eq(kind) => kind_into(out, *kind),
+            _ => Ok(()),
         }
     }
 }
@@ -198,12 +204,17 @@ fn plain_rule(word: &str) -> Option<Rule>
     }
 }
 
-/// The text of a tree of the rules of numbers.
+/// Writes a tree of the rules of numbers.
 #[tactic(auto, using(crate::proofs::Mapped::mapped))]
-pub fn word_tree(alloc: Global, tree: &Tree<Rule>) -> Result<Sx, AllocError>
-    ensures { IfOk result (λ text. tree_of text ≡ text_of (code.tree_of tree.now)) }
+pub fn word_into<W: TreeWriter>(
+    alloc: Global,
+    out: &mut W,
+    tree: &Tree<Rule>,
+) -> Result<(), AllocError>
+    ensures { OnOk result (W.state out.new
+        ≡ written W.writing (W.state out.old) (text_of (code.tree_of tree.now))) }
 {
-    rule_tree(alloc, tree)
+    rule_into(alloc, out, tree)
 }
 
 /// The tree of the rules of numbers that a tree is.
@@ -213,18 +224,18 @@ pub fn word_tree_at(alloc: Global, tree: &Sx, at: u32) -> Result<(Tree<Rule>, u3
     tree_at(alloc, tree, at)
 }
 
-// The list of these kinds.
-#[tactic(auto, using(expression_text::proofs::Filling::joined_push))]
-fn kinds_tree(alloc: Global, kinds: &[Kind]) -> Result<Sx, AllocError>
-    ensures { IfOk result (λ text. tree_of text ≡ kinds_tree (map kind_of kinds.now)) }
+// Writes the list of these kinds.
+fn kinds_into<W: TreeWriter>(out: &mut W, kinds: &[Kind]) -> Result<(), AllocError>
+    ensures { OnOk result (W.state out.new
+        ≡ written W.writing (W.state out.old) (kinds_tree (map kind_of kinds.now))) }
 {
-    let mut parts = Vec::new(alloc);
+    out.enter()?;
     let mut rest = kinds;
     'kinds: while let Some((kind, others)) = rest.split_first() {
-        parts.push(write_kind(alloc, *kind)?)?;
+        kind_into(out, *kind)?;
         rest = others;
     }
-    Ok(Sx::list(parts))
+    out.leave()
 }
 
 // The kinds that a list is.

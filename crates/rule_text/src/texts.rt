@@ -9,8 +9,8 @@ ghost use Rattle.rule_heap.specs.CodeRule as code;
 ghost use Rattle.rule_text.specs.HeapText as texts;
 ghost use Rattle.rule_text.specs.Answer.{IsHeapText};
 
-use crate::heaps::{heap_tree, heap_tree_at};
-use ac_sx::Sx;
+use crate::heaps::{heap_into, heap_tree_at};
+use ac_sx::{Sx, SxBuilder};
 use expression_text::TextFault;
 use rule_heap::Rule;
 use rule_trees::Tree;
@@ -40,5 +40,7 @@ pub fn read_heap_tree(alloc: Global, tree: &Sx) -> Result<Tree<Rule>, TextFault>
 pub fn write_heap_tree(alloc: Global, rules: &Tree<Rule>) -> Result<Sx, AllocError>
     ensures { IfOk result (λ tree. tree_of tree ≡ texts.text_of (code.tree_of rules.now)) }
 {
-    heap_tree(alloc, rules)
+    let mut tree = SxBuilder::new(alloc);
+    heap_into(alloc, &mut tree, rules)?;
+    Ok(tree.finish())
 }

@@ -1,15 +1,14 @@
 //! Trees of rules, written.
 
-ghost use Rattle.std.specs.Prelude.{◌≡◌, IfOk};
-ghost use Rattle.ac_sx.specs.Tree.{Trees, Atom, more};
-ghost use Rattle.ac_sx.specs.CodeSx.{tree_of, trees_in};
+ghost use Rattle.std.specs.Prelude.{◌≡◌, OnOk};
+ghost use Rattle.ac_sx.specs.Tree.{Trees};
+ghost use Rattle.ac_sx.specs.Writing.{written, all_written};
 ghost use Rattle.c_values.specs.Name.{Name};
-ghost use Rattle.expression_text.specs.CodeAround.{joined};
 ghost use Rattle.rule_text.specs.RuleText.{word_with};
-ghost use Rattle.rule_text.specs.CodeWriting.{text_in};
+ghost use Rattle.rule_text.specs.CodeWriting.{has_trees, text_in};
 
-use ac_sx::Sx;
-use expression_text::{Around, all_filled, atom, begun, with_parts};
+use ac_sx::TreeWriter;
+use expression_text::begin_list;
 use rule_trees::Tree;
 use std::alloc::{AllocError, Global};
 
@@ -23,52 +22,72 @@ pub(crate) trait RuleText: Drop {
     fn word(&self) -> &'static str
         ensures { result.now ≡ its_word self.now };
 
-    /// What stands behind its word.
-    fn data(&self, alloc: Global) -> Result<Vec<Sx>, AllocError>
-        ensures { IfOk result (λ parts. trees_in parts.items ≡ its_data self.now) };
+    /// Whether something stands behind its word.
+    fn has_data(&self) -> bool
+        ensures { result ≡ has_trees (its_data self.now) };
+
+    /// Writes what stands behind its word.
+    fn data_into<W: TreeWriter>(&self, alloc: Global, out: &mut W) -> Result<(), AllocError>
+        ensures { OnOk result (W.state out.new
+            ≡ all_written W.writing (W.state out.old) (its_data self.now)) };
 }
 
-/// The text of a tree. It goes along the last parts by a loop, since a tree may be as deep as a
-/// program is long.
-pub(crate) fn rule_tree<R: RuleText>(alloc: Global, tree: &Tree<R>) -> Result<Sx, AllocError>
-    ensures { IfOk result (λ text. tree_of text ≡ text_in (R.its_word) (R.its_data) tree.now) }
+/// Writes a tree. It goes along the last parts by a loop, since a tree may be as deep as a program
+/// is long.
+#[tactic(auto, using(program_text::proofs::Writing::lists_left_push))]
+pub(crate) fn rule_into<R: RuleText, W: TreeWriter>(
+    alloc: Global,
+    out: &mut W,
+    tree: &Tree<R>,
+) -> Result<(), AllocError>
+    ensures { OnOk result (W.state out.new ≡ written W.writing (W.state out.old)
+        (text_in (R.its_word) (R.its_data) tree.now)) }
 {
     let mut lists = Vec::new(alloc);
     let mut rest = tree;
-    'along: loop {
-        let Some((last, others)) = rest.parts.split_last() else {
-            return all_filled(lists, leaf(alloc, &rest.rule)?);
-        };
-        let mut before = headed(alloc, &rest.rule)?;
+    'along: while let Some((last, others)) = rest.parts.split_last() {
+        headed_into(alloc, out, &rest.rule)?;
         let mut left = others;
         'parts: while let Some((part, behind)) = left.split_first() {
-            before.push(rule_tree(alloc, part)?)?;
+            rule_into(alloc, out, part)?;
             left = behind;
         }
-        lists.push(Around::ending(alloc, before))?;
+        lists.push(rest)?;
         rest = last;
     }
+    leaf_into(alloc, out, &rest.rule)?;
+    'back: while let Some(_list) = lists.pop() {
+        out.leave()?;
+    }
+    Ok(())
 }
 
-// A rule's word and data.
-fn headed<R: RuleText>(alloc: Global, rule: &R) -> Result<Vec<Sx>, AllocError>
-    ensures { IfOk result (λ parts.
-        trees_in parts.items ≡ more (Atom (R.its_word rule.now)) (R.its_data rule.now)) }
+// The beginning of a list with a rule's word and data.
+fn headed_into<R: RuleText, W: TreeWriter>(
+    alloc: Global,
+    out: &mut W,
+    rule: &R,
+) -> Result<(), AllocError>
+    ensures { OnOk result (W.state out.new ≡ all_written W.writing
+        (W.writing.put (W.writing.entered (W.state out.old)) (R.its_word rule.now))
+        (R.its_data rule.now)) }
 {
-    let word = begun(alloc, rule.word())?;
-    let data = rule.data(alloc)?;
-    with_parts(word, data)
+    begin_list(out, rule.word())?;
+    rule.data_into(alloc, out)
 }
 
 // A node without parts: its word alone, where it has no data.
-fn leaf<R: RuleText>(alloc: Global, rule: &R) -> Result<Sx, AllocError>
-    ensures { IfOk result (λ text.
-        tree_of text ≡ word_with (R.its_word rule.now) (R.its_data rule.now)) }
+fn leaf_into<R: RuleText, W: TreeWriter>(
+    alloc: Global,
+    out: &mut W,
+    rule: &R,
+) -> Result<(), AllocError>
+    ensures { OnOk result (W.state out.new ≡ written W.writing (W.state out.old)
+        (word_with (R.its_word rule.now) (R.its_data rule.now))) }
 {
-    let data = rule.data(alloc)?;
-    if data.is_empty() {
-        return atom(alloc, rule.word());
+    if !rule.has_data() {
+        return out.atom(rule.word());
     }
-    let word = begun(alloc, rule.word())?;
-    Ok(Sx::list(with_parts(word, data)?))
+    headed_into(alloc, out, rule)?;
+    out.leave()
 }

@@ -4,7 +4,7 @@ use Rattle.std.proofs.lemmas.Bool.{and_parts}
 use Rattle.c_values.specs.Name.{Name}
 use Rattle.expression_lang.specs.Sort.{is_kind}
 use Rattle.ac_sx.specs.Tree.{Trees, no_trees, more, IsTree, AreTrees, is_atom}
-use Rattle.expression_text.specs.CodeAround.{joined}
+use Rattle.expression_text.specs.Lists.{joined}
 use Rattle.program_text.specs.Kinds.{kind_tree}
 use Rattle.rule_trees.specs.RuleTree as rules
 use Rattle.rule_exn.specs.Rule as X

@@ -1,8 +1,8 @@
 //! The programs of a unit, written.
 
-ghost use Rattle.std.specs.Prelude.{◌≡◌, IfOk, codes, map};
-ghost use Rattle.ac_sx.specs.Tree.{Atom, Node, no_trees, more};
-ghost use Rattle.ac_sx.specs.CodeSx.{tree_of, trees_in};
+ghost use Rattle.std.specs.Prelude.{◌≡◌, IfOk, OnOk, map};
+ghost use Rattle.ac_sx.specs.Tree.{Node};
+ghost use Rattle.ac_sx.specs.Writing.{written, all_written};
 ghost use Rattle.expression_lang.specs.CodeExpression.{kind_of, level_of};
 ghost use Rattle.expression_lang.specs.CodeSignature.{binder_of};
 ghost use Rattle.expression_text.specs.Lists.{trees_for};
@@ -11,45 +11,63 @@ ghost use Rattle.program_text.specs.Kinds.{kind_tree};
 ghost use Rattle.certificate_text.specs.CertificateText.{level_word};
 ghost use Rattle.unit_text.specs.UnitText.{parameter_tree, function_tree, unit_tree, unit_text};
 
-use ac_sx::Sx;
+use ac_sx::{Speller, TreeWriter};
 use expression_lang::{Binder, Kind, Level};
-use expression_text::{atom, begun, list_of, with_part};
+use expression_text::begin_list;
 use monad_lang::{FinalFn, FinalUnit};
-use program_text::{write_kind, write_mon};
+use program_text::{kind_into, mon_into};
 use std::alloc::{AllocError, Global};
 
 /// The text of a unit's programs, with the line's end behind it.
 pub fn write_program(alloc: Global, unit: &FinalUnit) -> Result<Vec<u8>, AllocError>
     ensures { IfOk result (λ text. text.items ≡ unit_text (final_unit_of unit.now)) }
 {
-    let tree = unit_tree(alloc, unit)?;
-    ac_sx::write(alloc, &tree)
+    let mut text = Speller::new(alloc);
+    unit_into(alloc, &mut text, unit)?;
+    text.finish()
 }
 
-// The tree of a unit's programs.
-#[tactic(auto, using(expression_text::proofs::Filling::joined_push))]
-fn unit_tree(alloc: Global, unit: &FinalUnit) -> Result<Sx, AllocError>
-    ensures { IfOk result (λ tree. tree_of tree ≡ unit_tree (final_unit_of unit.now)) }
+fn unit_into<W: TreeWriter>(alloc: Global, out: &mut W, unit: &FinalUnit) -> Result<(), AllocError>
+    ensures { OnOk result (W.state out.new
+        ≡ written W.writing (W.state out.old) (unit_tree (final_unit_of unit.now))) }
 {
-    let mut parts = begun(alloc, "program")?;
-    let mut rest = unit.functions.as_slice();
+    begin_list(out, "program")?;
+    functions_into(alloc, out, &unit.functions)?;
+    out.leave()
+}
+
+fn functions_into<W: TreeWriter>(
+    alloc: Global,
+    out: &mut W,
+    functions: &[FinalFn],
+) -> Result<(), AllocError>
+    ensures { OnOk result (W.state out.new ≡ all_written W.writing (W.state out.old)
+        (trees_for function_tree (map final_fn_of functions.now))) }
+{
+    let mut rest = functions;
     'functions: while let Some((function, others)) = rest.split_first() {
-        parts.push(function_tree(alloc, function)?)?;
+        function_into(alloc, out, function)?;
         rest = others;
     }
-    Ok(Sx::list(parts))
+    Ok(())
 }
 
 // A function: its name, its level, its parameters, the kinds of its results and its program.
-fn function_tree(alloc: Global, function: &FinalFn) -> Result<Sx, AllocError>
-    ensures { IfOk result (λ tree. tree_of tree ≡ function_tree (final_fn_of function.now)) }
+fn function_into<W: TreeWriter>(
+    alloc: Global,
+    out: &mut W,
+    function: &FinalFn,
+) -> Result<(), AllocError>
+    ensures { OnOk result (W.state out.new
+        ≡ written W.writing (W.state out.old) (function_tree (final_fn_of function.now))) }
 {
-    let parts = list_of(alloc, atom(alloc, function.name.as_str())?)?;
-    let parts = with_part(parts, atom(alloc, word_of(function.level))?)?;
-    let parts = with_part(parts, parameters_tree(alloc, &function.params)?)?;
-    let parts = with_part(parts, kinds_tree(alloc, &function.results)?)?;
-    let parts = with_part(parts, write_mon(alloc, &function.body)?)?;
-    Ok(Sx::list(parts))
+    out.enter()?;
+    out.atom(function.name.as_str())?;
+    out.atom(word_of(function.level))?;
+    parameters_into(out, &function.params)?;
+    kinds_into(out, &function.results)?;
+    mon_into(alloc, out, &function.body)?;
+    out.leave()
 }
 
 fn word_of(level: Level) -> &'static str
@@ -62,38 +80,38 @@ fn word_of(level: Level) -> &'static str
     }
 }
 
-#[tactic(auto, using(expression_text::proofs::Filling::joined_push))]
-fn parameters_tree(alloc: Global, parameters: &[Binder]) -> Result<Sx, AllocError>
-    ensures { IfOk result (λ tree. tree_of tree
-        ≡ Node (trees_for parameter_tree (map binder_of parameters.now))) }
+fn parameters_into<W: TreeWriter>(out: &mut W, parameters: &[Binder]) -> Result<(), AllocError>
+    ensures { OnOk result (W.state out.new ≡ written W.writing (W.state out.old)
+        (Node (trees_for parameter_tree (map binder_of parameters.now)))) }
 {
-    let mut parts = Vec::new(alloc);
+    out.enter()?;
     let mut rest = parameters;
     'parameters: while let Some((parameter, others)) = rest.split_first() {
-        parts.push(parameter_tree(alloc, parameter)?)?;
+        parameter_into(out, parameter)?;
         rest = others;
     }
-    Ok(Sx::list(parts))
+    out.leave()
 }
 
-fn parameter_tree(alloc: Global, parameter: &Binder) -> Result<Sx, AllocError>
-    ensures { IfOk result (λ tree. tree_of tree ≡ parameter_tree (binder_of parameter.now)) }
+fn parameter_into<W: TreeWriter>(out: &mut W, parameter: &Binder) -> Result<(), AllocError>
+    ensures { OnOk result (W.state out.new
+        ≡ written W.writing (W.state out.old) (parameter_tree (binder_of parameter.now))) }
 {
-    let parts = list_of(alloc, atom(alloc, parameter.name.as_str())?)?;
-    let parts = with_part(parts, write_kind(alloc, parameter.kind)?)?;
-    Ok(Sx::list(parts))
+    out.enter()?;
+    out.atom(parameter.name.as_str())?;
+    kind_into(out, parameter.kind)?;
+    out.leave()
 }
 
-#[tactic(auto, using(expression_text::proofs::Filling::joined_push))]
-fn kinds_tree(alloc: Global, kinds: &[Kind]) -> Result<Sx, AllocError>
-    ensures { IfOk result (λ tree. tree_of tree
-        ≡ Node (trees_for kind_tree (map kind_of kinds.now))) }
+fn kinds_into<W: TreeWriter>(out: &mut W, kinds: &[Kind]) -> Result<(), AllocError>
+    ensures { OnOk result (W.state out.new
+        ≡ written W.writing (W.state out.old) (Node (trees_for kind_tree (map kind_of kinds.now)))) }
 {
-    let mut parts = Vec::new(alloc);
+    out.enter()?;
     let mut rest = kinds;
     'kinds: while let Some((kind, others)) = rest.split_first() {
-        parts.push(write_kind(alloc, *kind)?)?;
+        kind_into(out, *kind)?;
         rest = others;
     }
-    Ok(Sx::list(parts))
+    out.leave()
 }

@@ -1,8 +1,6 @@
-use Rattle.std.proofs.Common.{ap, ◌∙◌}
-use Rattle.ac_sx.specs.Tree.{file}
 use Rattle.memory_text.specs.CodeMemory.{memory_of}
 use Rattle.memory_text.proofs.ReadBack.{if_ok, written}
 use Rattle.memory_text.proofs.texts.write_memory.Goals as goal
 
 pub returns-clause-read_again : goal.returns-clause-read_again
-returns-clause-read_again c = λ u is shallow. if_ok c.write.result _ _ (λ text same. written u (memory_of c.args.memory.now) text.items is shallow (same ∙ ap file c.in_ok-tree.ensures)) c.write.ensures
+returns-clause-read_again c = λ u is shallow. if_ok c.memory_text.result _ _ (λ text same. written u (memory_of c.args.memory.now) text.items is shallow same) c.memory_text.ensures

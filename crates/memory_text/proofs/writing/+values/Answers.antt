@@ -1,27 +1,26 @@
-use Rattle.std.proofs.Common.{◌≡◌, suc, IfOk, ap, sym, subst, ◌∙◌, arith}
+use Rattle.std.proofs.Common.{◌≡◌, suc, OnOk, rules, ap, sym, subst, ◌∙◌}
 use Rattle.std.proofs.lemmas.List.{nil_from_length}
-use Rattle.ac_sx.specs.CodeSx.{tree_of, trees_in}
+use Rattle.ac_sx.specs.Writing.{written}
 use Rattle.c_values.specs.Value.{Parts}
 use Rattle.c_values.specs.CodeValue.{value_of}
 use Rattle.c_values.specs.CodeParts.{values_in, rank, ranks}
 use Rattle.c_values.proofs.Listed.{parts_value}
-use Rattle.expression_text.specs.CodeAround.{joined}
-use Rattle.memory_text.specs.ValueText.{value_tree, value_trees}
-use Rattle.memory_text.proofs.WritingValues.{all_written}
+use Rattle.memory_text.specs.ValueText.{value_tree}
+use Rattle.memory_text.proofs.WritingValues.{values_ended}
 use Rattle.memory_text.proofs.writing.+values.Goals as goal
 
-pub value_tree-parts_tree-requires : goal.value_tree-parts_tree-requires
-value_tree-parts_tree-requires t c =
+pub value_into-parts_into-requires : goal.value_into-parts_into-requires
+value_into-parts_into-requires g t c =
     let whole : rank (value_of c.args.value.now) ≡ suc (ranks (values_in c.deref.result.now)) =
     ap (λ v. rank (value_of v)) c.in-Parts.is ∙ ap rank (parts_value c.in-Parts.parts) ∙ ap (λ vs. suc (ranks (values_in vs))) (sym c.deref.ensures.value) in
-    (omega (arith, whole, c.decreases), tt)
+    search (rules, whole)
 
-pub value_tree-returns-in-Parts : goal.value_tree-returns-in-Parts
-value_tree-returns-in-Parts t c =
-    subst (λ w. IfOk c.parts_tree.result (λ tree. tree_of tree ≡ value_tree w))
+pub value_into-returns-in-Parts : goal.value_into-returns-in-Parts
+value_into-returns-in-Parts g t c =
+    subst (λ v. OnOk c.parts_into.result (g.W.TreeWriter.state c.parts_into.new.out ≡ written g.W.TreeWriter.writing (g.W.TreeWriter.state c.args.out.now) (value_tree v)))
     (ap (λ vs. Parts (values_in vs)) c.deref.ensures.value ∙ sym (parts_value c.in-Parts.parts) ∙ ap value_of (sym c.in-Parts.is))
-    c.parts_tree.ensures
+    c.parts_into.ensures
 
-pub with_values-returns : goal.with_values-returns
-with_values-returns t c =
-    all_written (trees_in c.values.whole.items) (joined (trees_in c.args.parts.items) (value_trees (values_in c.args.values.now))) c.values.rest.now (nil_from_length c.values.rest.now c.in_default.ensures.cases) c.values.invariant.same
+pub values_into-returns : goal.values_into-returns
+values_into-returns g t c =
+    values_ended g.W.TreeWriter.writing c.values.rest.now (g.W.TreeWriter.state c.values.out) _ (nil_from_length c.values.rest.now c.in_default.ensures.cases) c.values.invariant.same

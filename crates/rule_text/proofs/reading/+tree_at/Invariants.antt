@@ -1,5 +1,5 @@
 -- The parts so far, and those to come, are the node's.
-use Rattle.std.proofs.Common.{◌≡◌, ◌≤◌, length}
+use Rattle.std.proofs.Common.{◌≡◌, ◌≤◌}
 use Rattle.ac_sx.specs.Tree.{nodes, all_nodes}
 use Rattle.ac_sx.specs.CodeSx.{tree_of, trees_in}
 use Rattle.expression_text.specs.Reading.{made}
