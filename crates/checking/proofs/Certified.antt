@@ -1,33 +1,65 @@
--- The answer to a certificate, by its target.
-use Rattle.std.proofs.Common.{◌≡◌, List, ℕ, inr, sym, subst}
-use Rattle.std.specs.Prelude.{◌≢◌, codes}
+-- The answer to a certificate, by its target, and by what is judged of it.
+use Rattle.std.proofs.Common.{◌≡◌, List, ℕ, inl, inr, sym, subst}
+use Rattle.std.specs.Prelude.{◌≢◌, codes, Result, Ok, Err}
+use Rattle.c_values.specs.Name.{Name}
 use Rattle.c_values.specs.Types.{Target}
+use Rattle.expression_lang.specs.Sort.{Level}
+use Rattle.expression_text.specs.declared.fault.TextFault.{TextFault}
 use Rattle.c_lang.specs.Typed.{TypedUnit}
+use Rattle.c_lang.specs.WellTyped.{IsWellTyped}
+use Rattle.c_levels.specs.CodeModes.{AreLevels}
 use Rattle.certificate_text.specs.CertificateText.{Certificate}
-use Rattle.certificate_text.specs.Answer.{IsCertificateText}
+use Rattle.certificate_text.specs.Answer.{IsCertificateText, IsFaultOf}
+use Rattle.answers.specs.declared.answer.Answer.{Answer}
 use Rattle.answers.specs.declared.status.Status.{Status}
 use Rattle.answers.specs.declared.status.Status.TheVariants.{Done, No, Words, Source, Text, ReadFault, WriteFault, Limit, Memory, NotYet}
-use Rattle.checking.specs.Checked.{target_for, OfCertificate, IsVerdict, IsChecked}
+use Rattle.checking.specs.declared.verdicts.Accepted.{Accepted}
+use Rattle.checking.specs.Checked.{level_in, target_for, IsSaid, IsChecked}
+use Rattle.checking.specs.CodeJudged.{IsTurnedAway, IsJudged, IsJudgedAs}
+use Rattle.checking.specs.Lines.{accepted_lines}
+use Rattle.checking.proofs.Decided.{accepts}
 
-module _ (target : Target) (unit : TypedUnit) (text : List ℕ) (c : Certificate) (is_text : IsCertificateText text c) where
-  module _ (same : target_for c.version ≡ target) where
-    of_certificate : (status : Status) (lines : List ℕ) → IsVerdict unit c.functions status lines → OfCertificate target unit text status lines
-    of_certificate status lines h = record { certificate = c; is_text = is_text; for_target = same; verdict = h }
+module _ (target : Target) (unit : TypedUnit) (text : List ℕ) where
+  -- what is answered to a text that is turned away
+  pub turned_away : (status : Status) (lines : List ℕ) → IsTurnedAway target text unit status lines → IsChecked target text unit status lines
+  turned_away Text lines h = h
+  turned_away No lines h = h
+  turned_away Done lines h = absurd h
+  turned_away Words lines h = absurd h
+  turned_away Source lines h = absurd h
+  turned_away ReadFault lines h = absurd h
+  turned_away WriteFault lines h = absurd h
+  turned_away Limit lines h = absurd h
+  turned_away Memory lines h = absurd h
+  turned_away NotYet lines h = absurd h
 
-    pub for_target : (status : Status) (lines : List ℕ) → IsVerdict unit c.functions status lines → IsChecked target text unit status lines
-    for_target Done lines h = of_certificate Done lines h
-    for_target No lines h = of_certificate No lines h
-    for_target Words lines h = of_certificate Words lines h
-    for_target Source lines h = of_certificate Source lines h
-    for_target Text lines h = absurd h
-    for_target ReadFault lines h = of_certificate ReadFault lines h
-    for_target WriteFault lines h = of_certificate WriteFault lines h
-    for_target Limit lines h = of_certificate Limit lines h
-    for_target Memory lines h = of_certificate Memory lines h
-    for_target NotYet lines h = of_certificate NotYet lines h
+  pub no_certificate : (fault : TextFault) (status : Status) (lines : List ℕ) → IsFaultOf text fault → (status ≡ Text) × IsSaid fault lines →
+      IsTurnedAway target text unit status lines
+  no_certificate fault status lines cause h =
+      subst (λ s. IsTurnedAway target text unit s lines) (sym h.0) (inl (record { fault = fault; cause = cause; said = h.1 }))
 
-  pub for_another : (status : Status) (lines : List ℕ) → target_for c.version ≢ target →
-      (status ≡ Text) × (lines ≡ codes "text: certificate other target\n") → IsChecked target text unit status lines
-  for_another status lines other h =
-      subst (λ s. IsChecked target text unit s lines) (sym h.0)
-      (inr (record { certificate = c; is_text = is_text; other = other; written = h.1 }))
+  module _ (c : Certificate) (is_text : IsCertificateText text c) where
+    pub for_another : (status : Status) (lines : List ℕ) → target_for c.version ≢ target →
+        (status ≡ Text) × (lines ≡ codes "text: certificate other target\n") → IsTurnedAway target text unit status lines
+    for_another status lines other h =
+        subst (λ s. IsTurnedAway target text unit s lines) (sym h.0)
+        (inr (record { certificate = c; is_text = is_text; other = other; written = h.1 }))
+
+    pub for_target : target_for c.version ≡ target → (r : Result Accepted Answer) → IsJudgedAs text unit c r → IsJudged target text unit r
+    for_target same (Ok a) h = (c, same, h)
+    for_target same (Err answer) h =
+        subst (λ s. IsTurnedAway target text unit s answer.lines.items) (sym h.0)
+        (record { certificate = c; is_text = is_text; for_target = same; verdict = h.1 })
+
+  -- what is answered where it is accepted
+  pub told_accepted : (a : Accepted) (status : Status) (lines : List ℕ) → IsWellTyped unit → IsJudged target text unit (Ok a) → status ≡ Done →
+      ((levels : Name → Level) → AreLevels unit a.modes levels → lines ≡ accepted_lines levels unit.functions) → IsChecked target text unit status lines
+  told_accepted a status lines typed h done written =
+      let (c, same, is) = h in
+      subst (λ s. IsChecked target text unit s lines) (sym done)
+      (record {
+        certificate = c;
+        is_text = is.is_text;
+        for_target = same;
+        verdict = accepts unit c.functions is.listed typed lines is.accepted (written (level_in c.functions) is.levels);
+      })

@@ -13,6 +13,7 @@ use Rattle.acceptance.specs.Certificate.{Steps}
 use Rattle.acceptance.specs.Accepted.{IsAccepted}
 use Rattle.acceptance_laws.specs.Units.{on_numbers, functions_with, last_unit}
 use Rattle.acceptance_laws.proofs.AcceptedExact.{accepted_is_exact}
+use Rattle.steady_units.proofs.AcceptedSteady.{accepted_is_steady}
 use Rattle.unit_translation.proofs.Formed.{last_formed, last_programs, last_forms}
 use Rattle.certificate_text.specs.CertificateText.{Certificate}
 use Rattle.certificate_text.specs.Answer.{IsCertificateText}
@@ -71,4 +72,5 @@ exact_programs u levels g cs v typed is h same =
       exact = accepted_is_exact u typed levels cs accepted;
       well_formed = last_formed u levels cs typed accepted;
       formed = last_forms u levels cs typed accepted;
+      steady = accepted_is_steady u typed levels cs accepted;
     })

@@ -4,7 +4,7 @@ pub mod Answered
 mod Certified
 mod Dropped
 pub mod Indexed
-pub mod Judged
+pub mod Decided
 mod LastPrograms
 mod LinesLeft
 mod Listed

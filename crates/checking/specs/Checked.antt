@@ -14,6 +14,7 @@ use Rattle.acceptance.specs.Accepted.{IsAccepted}
 use Rattle.acceptance.specs.Verdict.{Place}
 use Rattle.acceptance.specs.UnitVerdict.{of_function, IsUnitVerdict}
 use Rattle.acceptance_laws.specs.Units.{last_unit}
+use Rattle.steady_units.specs.SteadyUnits.{IsUnitSteady}
 use Rattle.unit_translation.specs.Forms.{AreOfTheirForms}
 use Rattle.expression_text.specs.declared.fault.TextFault.{TextFault}
 use Rattle.expression_text.specs.declared.fault.TextFault.TheVariants as F
@@ -50,7 +51,7 @@ module _ (unit : TypedUnit) (cs : List Steps) where
   apart = listed_apart 0 (function_names unit.functions) (names_in cs)
 
   -- The certificate is accepted for what is generated for the text at its levels, so its last programs are those of the C functions, exact,
-  -- well-formed and each of its level's form.
+  -- well-formed, each of its level's form, in range, and steady where they are lifted.
   pub record Accepts (lines : List ℕ) : Type 0 where
     pub listed : apart ≡ None
     pub accepted : IsAccepted (generated unit levels) cs
@@ -58,6 +59,7 @@ module _ (unit : TypedUnit) (cs : List Steps) where
     pub exact : IsExact unit levels (last_unit (generated unit levels) cs)
     pub well_formed : IsWellFormed (last_unit (generated unit levels) cs)
     pub formed : AreOfTheirForms (last_unit (generated unit levels) cs).functions
+    pub steady : IsUnitSteady (last_unit (generated unit levels) cs)
     pub written : lines ≡ accepted_lines levels unit.functions
 
   -- its functions aren't the text's: this is the first that differs

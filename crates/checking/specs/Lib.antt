@@ -5,3 +5,4 @@ pub mod CodeRefused
 pub mod Levels
 pub mod CodeLevels
 pub mod Programs
+pub mod CodeJudged

@@ -17,4 +17,4 @@ pub use certificates::{check_certificate, final_unit};
 pub use levels::{ListFault, index_levels, levels_of};
 pub use refused::{Phase, Refused};
 pub use texts::{check_text, final_text};
-pub use verdicts::checked;
+pub use verdicts::{Accepted, checked, judged};

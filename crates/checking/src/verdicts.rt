@@ -1,4 +1,4 @@
-//! What is said of the text of a certificate: the target that it is for, and the verdict on it.
+//! The verdict on the text of a certificate: the target that it is for, and whether it is accepted.
 
 ghost use Rattle.std.specs.Prelude.{◌≡◌, ◌<◌, ◌^◌, ◌↔◌, [], None, IfOk, IsTrue, length, slice_index_or};
 ghost use Rattle.c_lang.specs.CodeTyped.{unit_of};
@@ -13,7 +13,8 @@ ghost use Rattle.answers.specs.declared.status.Status.{Status};
 ghost use Rattle.checking.specs.Lines.{refusal_line};
 ghost use Rattle.checking.specs.Refused.{refused_text};
 ghost use Rattle.checking.specs.CodeRefused.{phase_of};
-ghost use Rattle.checking.specs.Checked.{IsChecked, IsSaid, IsVerdict, apart, function_names, target_for};
+ghost use Rattle.checking.specs.Checked.{IsChecked, IsSaid, apart, function_names, target_for};
+ghost use Rattle.checking.specs.CodeJudged.{IsJudged, IsJudgedAs};
 
 use crate::levels::levels;
 use crate::lines::{accepted, name_at, phase_word, refusal};
@@ -22,12 +23,23 @@ use crate::refused::Refused;
 use crate::texts::check_text;
 use answers::{Answer, Status, line, push};
 use c_lang::tree::TypedUnit;
+use c_levels::Modes;
 use c_values::Target;
 use certificate_text::{CertIndex, Version, scan};
 use expression_text::TextFault;
 use itoa::Buffer;
 use simpl_gen::generate;
+use simpl_lang::SimplUnit;
 use std::alloc::{AllocError, Global};
+
+/// A certificate that is accepted for a typed text: what was found in its text, its levels, and what
+/// is generated for the typed text at them.
+#[derive(Drop)]
+pub struct Accepted {
+    pub index: CertIndex,
+    pub modes: Modes,
+    pub generated: SimplUnit,
+}
 
 /// The answer to a typed text and the text of a certificate: whether it is accepted for it, and
 /// else why not. A text that is accepted has exact programs, the last ones of the certificate.
@@ -44,12 +56,30 @@ pub fn checked(
     ensures { IfOk result (λ a.
         IsChecked (types.target_of target) text.now (unit_of unit.now) a.status a.lines.items) }
 {
+    match judged(alloc, unit, target, text)? {
+        Ok(found) => accepted(alloc, unit, &found.modes),
+        Err(answer) => Ok(answer),
+    }
+}
+
+/// What an accepted certificate comes to, by its text; or the answer that says why the text isn't
+/// that of one. It takes as much memory as `checked`, and the same texts are too long.
+pub fn judged(
+    alloc: Global,
+    unit: &TypedUnit,
+    target: Target,
+    text: &[u8],
+) -> Result<Result<Accepted, Answer>, AllocError>
+    requires typed { IsWellTyped (unit_of unit.now) }
+    ensures judged { IfOk result (IsJudged (types.target_of target) text.now (unit_of unit.now)) }
+    ensures short { IfOk result (λ _. length text.now < 2 ^ 32) }
+{
     if text.len() > u32::MAX as usize {
         return Err(AllocError);
     }
     match scan(alloc, text) {
-        Ok(index) => of_index(alloc, unit, target, text, &index),
-        Err(fault) => no_certificate(alloc, fault),
+        Ok(index) => of_index(alloc, unit, target, text, index),
+        Err(fault) => Ok(Err(no_certificate(alloc, fault)?)),
     }
 }
 
@@ -79,24 +109,23 @@ fn bad_node(alloc: Global, at: u32) -> Result<Answer, AllocError>
     })
 }
 
-// The answer to the text of a certificate, by its index.
+// What the text of a certificate comes to, by its index.
 fn of_index(
     alloc: Global,
     unit: &TypedUnit,
     target: Target,
     text: &[u8],
-    index: &CertIndex,
-) -> Result<Answer, AllocError>
+    index: CertIndex,
+) -> Result<Result<Accepted, Answer>, AllocError>
     requires typed { IsWellTyped (unit_of unit.now) }
-    requires scanned { IsIndexOf text.now (index_in index.now) }
+    requires scanned { IsIndexOf text.now (index_in index) }
     requires short { length text.now < 2 ^ 32 }
-    ensures { IfOk result (λ a.
-        IsChecked (types.target_of target) text.now (unit_of unit.now) a.status a.lines.items) }
+    ensures { IfOk result (IsJudged (types.target_of target) text.now (unit_of unit.now)) }
 {
     if is_for(index.version, target) {
         verdict(alloc, unit, text, index)
     } else {
-        line(alloc, Status::Text, "text: certificate other target\n")
+        Ok(Err(line(alloc, Status::Text, "text: certificate other target\n")?))
     }
 }
 
@@ -117,16 +146,16 @@ fn verdict(
     alloc: Global,
     unit: &TypedUnit,
     text: &[u8],
-    index: &CertIndex,
-) -> Result<Answer, AllocError>
+    index: CertIndex,
+) -> Result<Result<Accepted, Answer>, AllocError>
     requires typed { IsWellTyped (unit_of unit.now) }
-    requires scanned { IsIndexOf text.now (index_in index.now) }
+    requires scanned { IsIndexOf text.now (index_in index) }
     requires short { length text.now < 2 ^ 32 }
     ensures { (c : texts.Certificate) → IsCertificateText text.now c →
-        IfOk result (λ a. IsVerdict (unit_of unit.now) c.functions a.status a.lines.items) }
+        IfOk result (IsJudgedAs text.now (unit_of unit.now) c) }
 {
     match apart(&unit.functions, &index.functions) {
-        Some((at, name)) => refusal(alloc, name, "list", at),
+        Some((at, name)) => Ok(Err(refusal(alloc, name, "list", at)?)),
         None => verdict_on_listed(alloc, unit, text, index),
     }
 }
@@ -136,21 +165,25 @@ fn verdict_on_listed(
     alloc: Global,
     unit: &TypedUnit,
     text: &[u8],
-    index: &CertIndex,
-) -> Result<Answer, AllocError>
+    index: CertIndex,
+) -> Result<Result<Accepted, Answer>, AllocError>
     requires typed { IsWellTyped (unit_of unit.now) }
-    requires scanned { IsIndexOf text.now (index_in index.now) }
+    requires scanned { IsIndexOf text.now (index_in index) }
     requires short { length text.now < 2 ^ 32 }
     requires listed { (c : texts.Certificate) → IsCertificateText text.now c →
         apart (unit_of unit.now) c.functions ≡ None }
     ensures { (c : texts.Certificate) → IsCertificateText text.now c →
-        IfOk result (λ a. IsVerdict (unit_of unit.now) c.functions a.status a.lines.items) }
+        IfOk result (IsJudgedAs text.now (unit_of unit.now) c) }
 {
     let modes = levels(alloc, &index.functions)?;
     let generated = generate(alloc, unit, &modes)?;
-    match check_text(alloc, &generated, text, index)? {
-        Ok(()) => accepted(alloc, unit, &modes),
-        Err(refused) => refused_line(alloc, unit, refused),
+    match check_text(alloc, &generated, text, &index)? {
+        Ok(()) => Ok(Ok(Accepted {
+            index,
+            modes,
+            generated,
+        })),
+        Err(refused) => Ok(Err(refused_line(alloc, unit, refused)?)),
     }
 }
 

@@ -1,7 +1,7 @@
 -- The function and the signature at one position are of one name, and are found by it.
 use Rattle.std.proofs.Common.{◌≡◌, ℕ, zero, suc, ◌<◌, Bool, true, false, not, ◌&&◌, ◌||◌, List, [], ◌∷◌, length, get_or, map, Option, Some, refl, sym, ap, ◌∙◌, subst, arith}
 use Rattle.std.proofs.lemmas.Bool.{and_parts, or_parts, false≢true, not-true}
-use Rattle.std.specs.Prelude.{string_bytes, slice_get, Result, Ok, Err}
+use Rattle.std.specs.Prelude.{string_bytes, slice_get, Result, Ok, Err, IfOk}
 use Rattle.std.specs.Option.{IsSomeAnd}
 use Rattle.correspondence.specs.Outcome.{Ends}
 use Rattle.c_values.specs.declared.values.Value as V
@@ -19,7 +19,7 @@ use Rattle.simpl_lang.specs.declared.units.SimplFn as F
 use Rattle.simpl_lang.specs.Command.{SimplFn, simpl_fn}
 use Rattle.simpl_lang.specs.Sorted.{same_level, come_first, holds_result, are_signed}
 use Rattle.simpl_lang.specs.CodeCommand.{simpl_fn_of}
-use Rattle.command_runs.specs.CodeRun.{HasReturned, outcome_of, IsEnd}
+use Rattle.command_runs.specs.CodeRun.{HasReturned, IsStateOf, outcome_of, IsEnd, OnLasting}
 use Rattle.command_runs.proofs.LocalsLaws.{by_test, where_true, where_false}
 
 -- a name that stands at a place is among the names
@@ -114,6 +114,13 @@ some_and P o x e h = subst (λ q. IsSomeAnd q P) (sym e) h
 
 pub and_some : {X : Type 0} (P : X → Type 0) (o : Option X) (x : X) → o ≡ Some x → IsSomeAnd o P → P x
 and_some P o x e h = subst (λ q. IsSomeAnd q P) e h
+
+pub returned_lasts : (u : U.SimplUnit) (r : Result (Option V.Value) P.Stop) (s : C.CState) → IfOk r (λ v. IsStateOf u s) → OnLasting u (outcome_of r s)
+returned_lasts u (Ok v) s h = h
+returned_lasts u (Err (P.TheVariants.Guard k)) s h = tt
+returned_lasts u (Err P.TheVariants.OutOfTurns) s h = tt
+returned_lasts u (Err P.TheVariants.Deep) s h = tt
+returned_lasts u (Err P.TheVariants.Memory) s h = tt
 
 pub returned_end : (u : U.SimplUnit) (ends : Ends Returned GuardKind) (r : Result (Option V.Value) P.Stop) (s : C.CState) → HasReturned u ends r s → IsEnd u ends (outcome_of r s)
 returned_end u ends (Ok v) s h = h

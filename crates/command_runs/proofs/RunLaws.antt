@@ -10,7 +10,7 @@ use Rattle.command_runs.specs.declared.frame.Frame as R
 use Rattle.command_runs.specs.declared.machine.Next as N
 use Rattle.command_runs.specs.declared.machine.Pending as W
 use Rattle.command_runs.specs.declared.outcome.CState as C
-use Rattle.command_runs.specs.CodeRun.{machine_in, ends_in, HasStopped}
+use Rattle.command_runs.specs.CodeRun.{machine_in, ends_in, HasStopped, IsStateOf}
 use Rattle.command_runs.specs.CodeMachine.{Running, Ended, Point, point, now_of, frame_of, whole, steps_left, CanGoOn, Steps}
 use Rattle.command_runs.proofs.Resumed.{stopped_within, whole_stops}
 use Rattle.command_runs.proofs.StepLaws.{pushed}
@@ -24,6 +24,9 @@ pub record IsLeft (f : R.Frame) (c : Simpl) (n : ℕ) (m : Machine) (a : Point) 
 module _ (f : R.Frame) (c : Simpl) (n : ℕ) (m : Machine) where
   pub left_step : (a b : Point) → IsLeft f c n m a → Steps a b → IsLeft f c n m b
   left_step a b h step = record { within = record { each = λ o x. h.within.each o (step.within.each o x) }; sorted = step.sorted; unit = step.unit ∙ h.unit }
+
+  pub left_state : (a : Point) → IsLeft f c n m a → IsStateOf f.unit.now a.state
+  left_state a h = subst (λ u. IsStateOf u a.state) h.unit h.sorted.fits.state
 
   -- at what is next in the code
 

@@ -100,6 +100,11 @@ pub record IsStateOf (u : U.SimplUnit) (s : C.CState) : Type 0 where
   pub heap : IsHeap u.layout (byte_content s.heap)
   pub globals : AreOfTypes u.layout u.globals.items s.globals.items
 
+-- where an outcome has a state, functions of the unit can run from there
+abbrev pub OnLasting : U.SimplUnit → O.COutcome → Type 0
+OnLasting u (O.TheVariants.Value v s) = IsStateOf u s
+OnLasting u _ = Unit {0}
+
 -- a unit whose runs meet no operation that is wide
 pub record CanRun (u : U.SimplUnit) : Type 0 where
   pub formed : IsWellFormed (simpl_unit_of u)

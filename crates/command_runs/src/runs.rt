@@ -1,6 +1,6 @@
 //! Runs of commands, step by step, with what is still to do on a stack of their own.
 
-ghost use Rattle.std.specs.Prelude.{◌≡◌, map, Some};
+ghost use Rattle.std.specs.Prelude.{◌≡◌, map, Some, IfOk};
 ghost use Rattle.c_values.specs.Choice.{Fill};
 ghost use Rattle.c_values.specs.CodeValue.{value_of};
 ghost use Rattle.simpl_lang.specs.Exec.{simpl_runs};
@@ -31,11 +31,12 @@ impl<'a> Frame<'a> {
         requires called { CanBeCalled self.now.unit.now function.now signature.now
             (map value_of arguments.now) }
         requires state { IsStateOf self.now.unit.now state.old }
-        ensures { HasReturned self.now.unit.now
+        ensures end { HasReturned self.now.unit.now
             (simpl_runs (simpl_unit_of self.now.unit.now) (Fill self.now.fill) turns
             (Some self.now.depth)
             (call_of function.now (map value_of arguments.now)
             (state_in self.now.unit.now state.old))) result state.new }
+        ensures lasts { IfOk result (λ _. IsStateOf self.now.unit.now state.new) }
     {
         let mut locals = started(self.alloc, self.locals, arguments)?;
         self.run(&function.body, turns, &mut locals, state)?;
@@ -56,10 +57,11 @@ impl<'a> Frame<'a> {
         requires frame { IsFrame self.now }
         requires fits { Fits self.now locals.old.items state.old }
         requires sorted { CanRunIn self.now (simpl_of c.now) }
-        ensures { HasRun
+        ensures end { HasRun
             (ends_in self.now (simpl_of c.now) turns
             (machine_in self.now locals.old.items state.old)) result
             (machine_in self.now locals.new.items state.new) }
+        ensures lasts { IfOk result (λ _. IsStateOf self.now.unit.now state.new) }
     {
         let mut stack = Vec::new(self.alloc);
         let mut next = Next::Running(*self, c, turns);

@@ -5,7 +5,7 @@ ghost use Rattle.c_values.specs.Choice.{Fill};
 ghost use Rattle.c_values.specs.CodeValue.{value_of};
 ghost use Rattle.simpl_lang.specs.Exec.{simpl_runs};
 ghost use Rattle.simpl_lang.specs.CodeCommand.{simpl_unit_of};
-ghost use Rattle.command_runs.specs.CodeRun.{CanRun, IsStateOf, TakesThem, call_of, state_in, outcome_of, IsEnd};
+ghost use Rattle.command_runs.specs.CodeRun.{CanRun, IsStateOf, TakesThem, call_of, state_in, outcome_of, IsEnd, OnLasting};
 
 use crate::ends::Stop;
 use crate::frame::Frame;
@@ -21,7 +21,8 @@ const NESTED_CALLS: u32 = 256;
 /// is the fill number modulo 2 to the width, and `false` of truth values. The answer is the one end
 /// of the run that the definitions of commands allow there, or `Memory`.
 ///
-/// - `Value` with the result, where the function has one, and the state after it.
+/// - `Value` with the result, where the function has one, and the state after it, from which functions
+/// can run as from the one before.
 /// - `Guard` with the kind of the first guard that doesn't hold.
 /// - `OutOfTurns` where a turn of a loop or a call is asked at the bound 0. A turn and a call each take
 /// one: the body, and the rest of the loop, run at a bound that is smaller by one.
@@ -42,9 +43,10 @@ pub fn run_simpl(
     requires unit { CanRun u.now }
     requires called { TakesThem u.now f (map value_of args.now) }
     requires state { IsStateOf u.now state }
-    ensures { IsSomeAnd (slice_get u.now.functions.items f) (λ g. IsEnd u.now
+    ensures end { IsSomeAnd (slice_get u.now.functions.items f) (λ g. IsEnd u.now
         (simpl_runs (simpl_unit_of u.now) (Fill fill) turns (Some 256)
         (call_of g (map value_of args.now) (state_in u.now state))) result) }
+    ensures lasts { OnLasting u.now result }
 {
     let mut state = state;
     let function = &u.functions[f as usize];

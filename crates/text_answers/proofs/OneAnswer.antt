@@ -1,5 +1,5 @@
 -- A text that has tokens, a tree within the limits and a typing is answered by what is answered to its unit.
-use Rattle.std.proofs.Common.{◌≡◌, ℕ, List, Some, None, ◌⊎◌, inl, inr, sym, subst}
+use Rattle.std.proofs.Common.{◌≡◌, ℕ, List, Some, inl, inr, subst}
 use Rattle.c_values.specs.Types.{Target}
 use Rattle.c_lex.specs.Lexeme.{Lexeme}
 use Rattle.c_lex.specs.Tokens.{Tokens}
@@ -13,7 +13,7 @@ use Rattle.typing_rules.specs.Unit.{checked, IsTyped}
 use Rattle.typing_rules.specs.declared.fault.TypeKind.{TypeKind}
 use Rattle.answers.specs.declared.status.Status.{Status}
 use Rattle.answers.specs.declared.status.Status.TheVariants.{Done, No, Words, Source, Text, ReadFault, WriteFault, Limit, Memory, NotYet}
-use Rattle.text_answers.specs.TextAnswer.{IsTree, IsTextOf, OfUnit, OfTree, IsPast, IsNoTree, IsUntyped, IsTokensAnswer, OfTokens, HasNoTokens, IsTextAnswer}
+use Rattle.text_answers.specs.TextAnswer.{IsTree, IsTextOf, OfUnit, IsPast, IsUntyped, IsTokensAnswer, OfTokens, IsTextAnswer}
 
 module _ (t : Target) (of_unit : TypedUnit → Status → List ℕ → Type 0) (text : List ℕ) (unit : TypedUnit) (is : IsTextOf t text unit) where
   abbrev ts : List Lexeme

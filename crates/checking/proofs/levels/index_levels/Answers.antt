@@ -11,7 +11,7 @@ use Rattle.certificate_text.specs.declared.index.FunEntry as E
 use Rattle.checking.specs.Checked.{apart, function_names, level_in}
 use Rattle.checking.specs.Levels.{levels_listed, entry_names, entry_levels}
 use Rattle.checking.proofs.Indexed.{names_there, levels_there}
-use Rattle.checking.proofs.Judged.{levels_are}
+use Rattle.checking.proofs.Decided.{levels_are}
 use Rattle.checking.proofs.Named.{entries_names, entries_levels}
 use Rattle.checking.proofs.Told.{told_for, if_given, one_each}
 use Rattle.checking.proofs.levels.index_levels.Goals as goal

@@ -10,7 +10,7 @@ use Rattle.acceptance.specs.declared.certificate.Steps as S
 use Rattle.c_lang.specs.declared.tree.TypedFn as F
 use Rattle.checking.specs.Checked.{apart, function_names, level_in, names_in}
 use Rattle.checking.specs.Levels.{levels_listed}
-use Rattle.checking.proofs.Judged.{levels_are}
+use Rattle.checking.proofs.Decided.{levels_are}
 use Rattle.checking.proofs.Named.{steps_names, steps_levels}
 use Rattle.checking.proofs.Told.{told_for, if_given, one_each}
 use Rattle.checking.proofs.levels.levels_of.Goals as goal

@@ -13,15 +13,13 @@ returns-then-is_for c =
     let (d, is, same) = c.requires.scanned in
     let version = ap (λ (i : Index). target_for i.version) same in
     of_result c.verdict.result _ _
-    (λ a. for_target (types.target_of c.args.target) (unit_of c.args.unit.now) c.args.text.now d is (sym version ∙ c.is_for.ensures.0 c.if-is_for.true) a.status
-    a.lines.items)
+    (λ r. for_target (types.target_of c.args.target) (unit_of c.args.unit.now) c.args.text.now d is (sym version ∙ c.is_for.ensures.0 c.if-is_for.true) r)
     (c.verdict.ensures d is)
 
-pub returns-else-is_for : goal.returns-else-is_for
-returns-else-is_for c =
+pub returns-in_ok-line : goal.returns-in_ok-line
+returns-in_ok-line c =
     let (d, is, same) = c.requires.scanned in
     let version = ap (λ (i : Index). target_for i.version) same in
-    of_result c.line.result _ _
-    (λ a. for_another (types.target_of c.args.target) (unit_of c.args.unit.now) c.args.text.now d is a.status a.lines.items
-    (λ e. let t = sym c.if-is_for.false ∙ c.is_for.ensures.1 (version ∙ e) in absurd cc))
-    c.line.ensures
+    for_another (types.target_of c.args.target) (unit_of c.args.unit.now) c.args.text.now d is c.in_ok-line.field-0.status c.in_ok-line.field-0.lines.items
+    (λ e. let t = sym c.if-is_for.false ∙ c.is_for.ensures.1 (version ∙ e) in absurd cc)
+    c.in_ok-line.ensures

@@ -1,5 +1,5 @@
 -- The levels are the certificate's, and so what is generated is at them.
-use Rattle.std.proofs.Common.{◌≡◌, List, map, ap, subst, ◌∙◌, arith}
+use Rattle.std.proofs.Common.{◌≡◌, List, map, refl, ap, subst, ◌∙◌, arith}
 use Rattle.std.proofs.lemmas.List.{length-map}
 use Rattle.expression_lang.specs.CodeExpression.{level_of}
 use Rattle.simpl_lang.specs.CodeCommand.{simpl_unit_of}
@@ -16,9 +16,9 @@ use Rattle.checking.specs.Refused.{IsAnswer}
 use Rattle.checking.specs.CodeRefused.{answer_of, refused_of}
 use Rattle.checking.specs.Levels.{levels_listed}
 use Rattle.checking.proofs.Indexed.{code_levels}
-use Rattle.checking.proofs.Judged.{long_enough, levels_are, well_formed, at_levels, accepts, refuses}
+use Rattle.checking.proofs.Decided.{long_enough, levels_are, well_formed, at_levels, is_accepted, refuses}
 use Rattle.checking.proofs.OneText.{one_index, fewer_than_bytes}
-use Rattle.checking.proofs.Results.{of_result, of_both}
+use Rattle.answers.specs.declared.status.Status.TheVariants.{No}
 use Rattle.checking.proofs.verdicts.verdict_on_listed.Goals as goal
 
 -- the levels that were taken from the index are the certificate's
@@ -31,7 +31,7 @@ generate-requires c =
     let (d, is, same) = c.requires.scanned in
     let k = length-map c.args.unit.now.functions.items function_of in
     let l = long_enough (unit_of c.args.unit.now) d.functions (c.requires.listed d is) c.in_ok-modes.modes
-    (told c.args.index.now d c.in_ok-modes.modes c.deref.result.now same c.deref.ensures.value c.in_ok-modes.ensures) in
+    (told c.args.index d c.in_ok-modes.modes c.deref.result.now same c.deref.ensures.value c.in_ok-modes.ensures) in
     omega (arith, k, l)
 
 pub check_text-requires-clause-formed : goal.check_text-requires-clause-formed
@@ -41,40 +41,45 @@ check_text-requires-clause-formed c =
     well_formed (unit_of c.args.unit.now) d.functions none c.requires.typed (simpl_unit_of c.in_ok-generated.generated)
     (c.in_ok-generated.ensures.generated (level_in d.functions)
     (levels_are (unit_of c.args.unit.now) d.functions none c.requires.typed c.in_ok-modes.modes
-    (told c.args.index.now d c.in_ok-modes.modes c.deref.result.now same c.deref.ensures.value c.in_ok-modes.ensures)))
+    (told c.args.index d c.in_ok-modes.modes c.deref.result.now same c.deref.ensures.value c.in_ok-modes.ensures)))
 
 pub check_text-requires-clause-at_levels : goal.check_text-requires-clause-at_levels
 check_text-requires-clause-at_levels c = λ d is.
     let none = c.requires.listed d is in
-    let same = one_index c.args.text.now (index_in c.args.index.now) d c.requires.scanned is in
+    let same = one_index c.args.text.now (index_in c.args.index) d c.requires.scanned is in
     at_levels (unit_of c.args.unit.now) d.functions none c.requires.typed (simpl_unit_of c.in_ok-generated.generated)
     (c.in_ok-generated.ensures.generated (level_in d.functions)
     (levels_are (unit_of c.args.unit.now) d.functions none c.requires.typed c.in_ok-modes.modes
-    (told c.args.index.now d c.in_ok-modes.modes c.deref.result.now same c.deref.ensures.value c.in_ok-modes.ensures)))
+    (told c.args.index d c.in_ok-modes.modes c.deref.result.now same c.deref.ensures.value c.in_ok-modes.ensures)))
 
 pub returns-in-Ok : goal.returns-in-Ok
 returns-in-Ok c = λ d is.
     let none = c.requires.listed d is in
-    let same = one_index c.args.text.now (index_in c.args.index.now) d c.requires.scanned is in
+    let same = one_index c.args.text.now (index_in c.args.index) d c.requires.scanned is in
     let are = levels_are (unit_of c.args.unit.now) d.functions none c.requires.typed c.in_ok-modes.modes
-    (told c.args.index.now d c.in_ok-modes.modes c.deref.result.now same c.deref.ensures.value c.in_ok-modes.ensures) in
-    of_both c.accepted.result _ _ _
-    (λ a status lines. accepts (unit_of c.args.unit.now) d.functions none c.requires.typed (simpl_unit_of c.in_ok-generated.generated)
-    (c.in_ok-generated.ensures.generated (level_in d.functions) are) a.status a.lines.items
-    (subst (λ r. IsAnswer (simpl_unit_of c.in_ok-generated.generated) d.functions (answer_of r)) c.in-Ok.is (c.in_ok-check_text.ensures.answer d is)) status
-    (lines (level_in d.functions) are))
-    c.accepted.ensures.status c.accepted.ensures.lines
+    (told c.args.index d c.in_ok-modes.modes c.deref.result.now same c.deref.ensures.value c.in_ok-modes.ensures) in
+    let made = c.in_ok-generated.ensures.generated (level_in d.functions) are in
+    record {
+      is_text = is;
+      listed = none;
+      accepted = is_accepted (unit_of c.args.unit.now) d.functions none c.requires.typed (simpl_unit_of c.in_ok-generated.generated) made
+          (subst (λ r. IsAnswer (simpl_unit_of c.in_ok-generated.generated) d.functions (answer_of r)) c.in-Ok.is (c.in_ok-check_text.ensures.answer d is));
+      index = same;
+      levels = are;
+      generated = made;
+    }
 
-pub returns : goal.returns
-returns c = λ d is.
+pub returns-in_ok-refused_line-in-Err : goal.returns-in_ok-refused_line-in-Err
+returns-in_ok-refused_line-in-Err c = λ d is.
     let none = c.requires.listed d is in
-    let same = one_index c.args.text.now (index_in c.args.index.now) d c.requires.scanned is in
-    let few = fewer_than_bytes c.args.text.now d is in
-    of_result c.refused_line.result _ _
-    (λ a. refuses (unit_of c.args.unit.now) d.functions none c.requires.typed (simpl_unit_of c.in_ok-generated.generated)
-    (c.in_ok-generated.ensures.generated (level_in d.functions)
-    (levels_are (unit_of c.args.unit.now) d.functions none c.requires.typed c.in_ok-modes.modes
-    (told c.args.index.now d c.in_ok-modes.modes c.deref.result.now same c.deref.ensures.value c.in_ok-modes.ensures)))
-    (omega (arith, few, c.requires.short)) (refused_of c.in-Err.refused) a.status a.lines.items
-    (subst (λ r. IsAnswer (simpl_unit_of c.in_ok-generated.generated) d.functions (answer_of r)) c.in-Err.is (c.in_ok-check_text.ensures.answer d is)))
-    c.refused_line.ensures
+    let same = one_index c.args.text.now (index_in c.args.index) d c.requires.scanned is in
+    let few = fewer_than_bytes c.args.text.now d is in (
+      c.in_ok-refused_line-in-Err.ensures.0,
+      refuses (unit_of c.args.unit.now) d.functions none c.requires.typed (simpl_unit_of c.in_ok-generated.generated)
+          (c.in_ok-generated.ensures.generated (level_in d.functions)
+          (levels_are (unit_of c.args.unit.now) d.functions none c.requires.typed c.in_ok-modes.modes
+          (told c.args.index d c.in_ok-modes.modes c.deref.result.now same c.deref.ensures.value c.in_ok-modes.ensures)))
+          (omega (arith, few, c.requires.short)) (refused_of c.in-Err.refused) No c.in_ok-refused_line-in-Err.field-0.lines.items
+          (subst (λ r. IsAnswer (simpl_unit_of c.in_ok-generated.generated) d.functions (answer_of r)) c.in-Err.is (c.in_ok-check_text.ensures.answer d is))
+          (refl, c.in_ok-refused_line-in-Err.ensures.1),
+    )

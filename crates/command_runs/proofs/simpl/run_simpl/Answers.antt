@@ -9,8 +9,8 @@ use Rattle.expression_lang.specs.Sort.{word_sort_of}
 use Rattle.expression_lang.specs.Signature.{kinds_of}
 use Rattle.expression_lang.specs.CodeSignature.{binder_of, signature_of}
 use Rattle.command_runs.specs.Locals.{AreOfSorts}
-use Rattle.command_runs.specs.CodeRun.{state_in, call_of, IsEnd}
-use Rattle.command_runs.proofs.Indexed.{function_at, signature_at, same_count, some_below, get_some, some_and, and_some, returned_end}
+use Rattle.command_runs.specs.CodeRun.{state_in, call_of, IsEnd, OnLasting}
+use Rattle.command_runs.proofs.Indexed.{function_at, signature_at, same_count, some_below, get_some, some_and, and_some, returned_end, returned_lasts}
 use Rattle.command_runs.proofs.simpl.run_simpl.Goals as goal
 
 pub index-function-requires : goal.index-function-requires
@@ -41,8 +41,8 @@ returned-given-requires-clause-called c =
       arguments = and_some (λ r. AreOfSorts (map word_sort_of (kinds_of (map binder_of r.params.items))) (map value_of c.args.args.now)) (slice_get u.signatures.items f) s (get_some u.signatures.items f s below c.index.ensures) c.requires.called;
     }
 
-pub returns : goal.returns
-returns c =
+pub returns-clause-end : goal.returns-clause-end
+returns-clause-end c =
     let u = c.args.u.now in
     let f = c.args.f in
     let h = c.index-function.result.now in
@@ -53,4 +53,9 @@ returns c =
     (λ g. IsEnd u (simpl_runs (simpl_unit_of u) (Fill c.args.fill) c.args.turns (Some 256) (call_of g (map value_of c.args.args.now) (state_in u c.args.state))) c.outcome.result)
     (slice_get u.functions.items f) h (get_some u.functions.items f h lt c.index-function.ensures)
     (subst (λ o. IsEnd u (simpl_runs (simpl_unit_of u) (Fill c.args.fill) c.args.turns (Some 256) (call_of h (map value_of c.args.args.now) (state_in u c.args.state))) o) (sym c.outcome.ensures)
-    (returned_end u (simpl_runs (simpl_unit_of u) (Fill c.args.fill) c.args.turns (Some 256) (call_of h (map value_of c.args.args.now) (state_in u c.args.state))) c.returned-given.result c.returned-given.new.state c.returned-given.ensures))
+    (returned_end u (simpl_runs (simpl_unit_of u) (Fill c.args.fill) c.args.turns (Some 256) (call_of h (map value_of c.args.args.now) (state_in u c.args.state))) c.returned-given.result c.returned-given.new.state c.returned-given.ensures.end))
+
+pub returns-clause-lasts : goal.returns-clause-lasts
+returns-clause-lasts c =
+    subst (OnLasting c.args.u.now) (sym c.outcome.ensures)
+    (returned_lasts c.args.u.now c.returned-given.result c.returned-given.new.state c.returned-given.ensures.lasts)

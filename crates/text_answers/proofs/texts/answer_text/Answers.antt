@@ -1,7 +1,4 @@
-use Rattle.std.proofs.Common.{◌<◌, ◌^◌, length, arith, sym, subst}
-use Rattle.c_lex.specs.Lexeme.{lexemes_of}
-use Rattle.c_lex.specs.Tokens.{Tokens}
-use Rattle.text_answers.proofs.Told.{of_result, tokens_answer}
+use Rattle.std.proofs.Common.{◌<◌, ◌^◌, length, arith}
 use Rattle.text_answers.proofs.texts.answer_text.Goals as goal
 
 pub answer_tokens-requires : goal.answer_tokens-requires
@@ -10,5 +7,5 @@ answer_tokens-requires g c =
     record {
       text = c.args.text.now;
       short = short;
-      are_tokens = subst (λ ts. Tokens c.args.text.now (lexemes_of ts)) (sym c.deref.ensures.value) c.in-Ok.ensures.found;
+      are_tokens = c.in-Ok.ensures.found;
     }

@@ -2,7 +2,6 @@ use Rattle.std.proofs.Common.{subst}
 use Rattle.c_grammar.specs.CodeTree.{unit_of as tree_of}
 use Rattle.c_lang.specs.CodeTyped.{unit_of}
 use Rattle.typing_rules.specs.Unit.{IsTyped}
-use Rattle.text_answers.proofs.Told.{of_result, unit_answer, untyped_answer}
 use Rattle.text_answers.proofs.texts.answer_tree.Goals as goal
 
 pub answer-requires : goal.answer-requires
@@ -12,8 +11,8 @@ answer-requires g c = record {
   is_text = record {
     tokens = c.requires.tokens;
     are_tokens = c.requires.of_text.are_tokens;
-    tree = tree_of c.args.tree.now;
+    tree = tree_of c.args.tree;
     is_tree = c.requires.is_tree;
-    typed = subst (λ t. IsTyped t (tree_of c.args.tree.now) (unit_of c.in-Ok.unit)) c.target.ensures c.in-Ok.ensures.typed;
+    typed = subst (λ t. IsTyped t (tree_of c.args.tree) (unit_of c.in-Ok.unit)) c.target.ensures c.in-Ok.ensures.typed;
   };
 }

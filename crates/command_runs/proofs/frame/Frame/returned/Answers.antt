@@ -25,8 +25,8 @@ run-requires-clause-fits c =
 pub run-requires-clause-sorted : goal.run-requires-clause-sorted
 run-requires-clause-sorted c = body_runs c.args.self.now c.args.function.now c.args.signature.now (map value_of c.args.arguments.now) c.requires.unit c.requires.locals c.requires.called
 
-pub returns-in_err-run : goal.returns-in_err-run
-returns-in_err-run c =
+pub returns-in_err-run-clause-end : goal.returns-in_err-run-clause-end
+returns-in_err-run-clause-end c =
     let f = c.args.self.now in
     let h = c.args.function.now in
     let vs = map value_of c.args.arguments.now in
@@ -35,10 +35,10 @@ returns-in_err-run c =
     let same : c.from_residual-in_err-run.result ≡ Err err = search rules in
     let n = machine_in f c.run.new.locals.items c.run.new.state in
     subst (λ r. HasReturned f.unit.now (simpl_runs (simpl_unit_of f.unit.now) (Fill f.fill) c.args.turns (Some f.depth) (call_of h vs (state_in f.unit.now s))) r c.run.new.state) (sym same)
-    (body_stopped f h c.args.signature.now vs c.requires.unit c.requires.locals c.requires.called c.in_ok-locals.locals.items s c.requires.state c.in_ok-locals.ensures c.args.turns err n c.run.new.state c.in_err-run.ensures)
+    (body_stopped f h c.args.signature.now vs c.requires.unit c.requires.locals c.requires.called c.in_ok-locals.locals.items s c.requires.state c.in_ok-locals.ensures c.args.turns err n c.run.new.state c.in_err-run.ensures.end)
 
-pub returns-in-None : goal.returns-in-None
-returns-in-None c =
+pub returns-in-None-clause-end : goal.returns-in-None-clause-end
+returns-in-None-clause-end c =
     let f = c.args.self.now in
     let h = c.args.function.now in
     let vs = map value_of c.args.arguments.now in
@@ -46,10 +46,10 @@ returns-in-None c =
     let n = machine_in f c.run.new.locals.items c.run.new.state in
     subst (λ r. simpl_runs (simpl_unit_of f.unit.now) (Fill f.fill) c.args.turns (Some f.depth) (call_of h vs (state_in f.unit.now s)) (Done (record { result = result_of r n; state = n.state })))
     (ap (option_map kind_of) c.in-None.is)
-    (body_done f h c.args.signature.now vs c.requires.unit c.requires.locals c.requires.called c.in_ok-locals.locals.items s c.requires.state c.in_ok-locals.ensures c.args.turns c.in_ok-run.field-0 n c.in_ok-run.ensures)
+    (body_done f h c.args.signature.now vs c.requires.unit c.requires.locals c.requires.called c.in_ok-locals.locals.items s c.requires.state c.in_ok-locals.ensures c.args.turns c.in_ok-run.field-0 n c.in_ok-run.ensures.end)
 
-pub returns-in-Some : goal.returns-in-Some
-returns-in-Some c =
+pub returns-in-Some-clause-end : goal.returns-in-Some-clause-end
+returns-in-Some-clause-end c =
     let f = c.args.self.now in
     let h = c.args.function.now in
     let vs = map value_of c.args.arguments.now in
@@ -58,4 +58,4 @@ returns-in-Some c =
     subst (λ v. simpl_runs (simpl_unit_of f.unit.now) (Fill f.fill) c.args.turns (Some f.depth) (call_of h vs (state_in f.unit.now s)) (Done (record { result = Some v; state = n.state }))) (sym c.taken.ensures)
     (subst (λ r. simpl_runs (simpl_unit_of f.unit.now) (Fill f.fill) c.args.turns (Some f.depth) (call_of h vs (state_in f.unit.now s)) (Done (record { result = result_of r n; state = n.state })))
     (ap (option_map kind_of) c.in-Some.is)
-    (body_done f h c.args.signature.now vs c.requires.unit c.requires.locals c.requires.called c.in_ok-locals.locals.items s c.requires.state c.in_ok-locals.ensures c.args.turns c.in_ok-run.field-0 n c.in_ok-run.ensures))
+    (body_done f h c.args.signature.now vs c.requires.unit c.requires.locals c.requires.called c.in_ok-locals.locals.items s c.requires.state c.in_ok-locals.ensures c.args.turns c.in_ok-run.field-0 n c.in_ok-run.ensures.end))

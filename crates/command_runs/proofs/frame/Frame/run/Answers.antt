@@ -4,11 +4,11 @@ use Rattle.simpl_lang.specs.CodeCommand.{simpl_of}
 use Rattle.command_runs.specs.declared.machine.Next as N
 use Rattle.command_runs.specs.CodeRun.{machine_in, ends_in, HasRun}
 use Rattle.command_runs.specs.CodeMachine.{Ended, now_of, point}
-use Rattle.command_runs.proofs.RunLaws.{left_at, left_step, left_stops, fewer_at, popped_step}
+use Rattle.command_runs.proofs.RunLaws.{left_at, left_state, left_step, left_stops, fewer_at, popped_step}
 use Rattle.command_runs.proofs.frame.Frame.run.Goals as goal
 
-pub returns-in_err-next-in-Running : goal.returns-in_err-next-in-Running
-returns-in_err-next-in-Running c =
+pub returns-in_err-next-in-Running-clause-end : goal.returns-in_err-next-in-Running-clause-end
+returns-in_err-next-in-Running-clause-end c =
     let f = c.args.self.now in
     let whole = simpl_of c.args.c.now in
     let n = c.args.turns in
@@ -22,6 +22,16 @@ returns-in_err-next-in-Running c =
     subst (λ r. HasRun (ends_in f whole n m) r (machine_in f c.step.new.locals.items c.step.new.state)) (sym same)
     (left_stops f whole n m c.in-Running.frame (simpl_of c.in-Running.command.now) c.in-Running.left items bs s err
     (left_at f whole n m items c.steps.next next bs s c.in-Running.is c.steps.invariant) c.in_err-next-in-Running.ensures.stops)
+
+-- nothing is pending, and the frame's state can be gone on with
+pub returns-in-None-clause-lasts : goal.returns-in-None-clause-lasts
+returns-in-None-clause-lasts c =
+    let f = c.args.self.now in
+    let m = machine_in f c.args.locals.now.items c.args.state.now in
+    let next : N.Next = N.TheVariants.Ended c.in-Ended.frame c.in-Ended.flow in
+    left_state f (simpl_of c.args.c.now) c.args.turns m
+    (point c.steps.stack.items (now_of next) c.steps.locals.items c.steps.state)
+    (left_at f (simpl_of c.args.c.now) c.args.turns m c.steps.stack.items c.steps.next next c.steps.locals.items c.steps.state c.in-Ended.is c.steps.invariant)
 
 pub steps-smaller : goal.steps-smaller
 steps-smaller c =

@@ -18,12 +18,13 @@ use Rattle.acceptance.specs.Accepted.{IsAccepted}
 use Rattle.acceptance.specs.UnitVerdict.{IsUnitVerdict}
 use Rattle.acceptance.proofs.UnitVerdicts.{unit_verdicts_decide}
 use Rattle.acceptance_laws.proofs.AcceptedExact.{accepted_is_exact}
+use Rattle.steady_units.proofs.AcceptedSteady.{accepted_is_steady}
 use Rattle.unit_translation.proofs.LevelsThere.{levels_there}
 use Rattle.unit_translation.proofs.Formed.{last_formed, last_programs, last_forms}
 use Rattle.answers.specs.declared.status.Status.{Status}
-use Rattle.answers.specs.declared.status.Status.TheVariants.{Done, No}
+use Rattle.answers.specs.declared.status.Status.TheVariants.{No}
 use Rattle.checking.specs.Lines.{accepted_lines, refusal_line}
-use Rattle.checking.specs.Checked.{names_in, function_names, level_in, apart, listed_apart, IsVerdict}
+use Rattle.checking.specs.Checked.{names_in, function_names, level_in, apart, listed_apart, Accepts, IsVerdict}
 use Rattle.checking.specs.Refused.{Refused, told, refused_text, at_place, names_apart, AreAtLevels, IsAnswer}
 use Rattle.checking.specs.Levels.{levels_listed}
 use Rattle.checking.proofs.Listed.{names_agree, levels_agree, names_generated, levels_generated, position_there}
@@ -64,6 +65,18 @@ module _ (u : TypedUnit) (cs : List Steps) where
       pub levels_are : (m : Modes) → levels_in m ≡ levels_listed cs → AreLevels u m (level_in cs)
       levels_are m told = are_levels ∙ sym told
 
+      pub accepts : (lines : List ℕ) → IsAccepted (generated u (level_in cs)) cs → lines ≡ accepted_lines (level_in cs) u.functions → Accepts u cs lines
+      accepts lines accepted e = record {
+        listed = listed;
+        accepted = accepted;
+        of_unit = last_programs u (level_in cs) cs typed accepted;
+        exact = accepted_is_exact u typed (level_in cs) cs accepted;
+        well_formed = last_formed u (level_in cs) cs typed accepted;
+        formed = last_forms u (level_in cs) cs typed accepted;
+        steady = accepted_is_steady u typed (level_in cs) cs accepted;
+        written = e;
+      }
+
       module _ (g : SimplUnit) (is : g ≡ generated u (level_in cs)) where
         pub well_formed : IsWellFormed g
         well_formed = subst IsWellFormed (sym is) (generated_is_well_formed u typed (level_in cs))
@@ -78,21 +91,8 @@ module _ (u : TypedUnit) (cs : List Steps) where
         there : (r : _) → IsUnitVerdict g cs r → IsUnitVerdict (generated u (level_in cs)) cs r
         there r h = subst (λ (v : SimplUnit). IsUnitVerdict v cs r) is h
 
-        pub accepts : (status : Status) (lines : List ℕ) → IsAnswer g cs (Ok tt) → status ≡ Done → lines ≡ accepted_lines (level_in cs) u.functions →
-            IsVerdict u cs status lines
-        accepts status lines h s e =
-            let accepted : IsAccepted (generated u (level_in cs)) cs =
-            unit_verdicts_decide (generated u (level_in cs)) cs (Ok tt) (there (Ok tt) (judged_answer g cs none_differ (Ok tt) h)) in
-            subst (λ s. IsVerdict u cs s lines) (sym s)
-            (record {
-              listed = listed;
-              accepted = accepted;
-              of_unit = last_programs u (level_in cs) cs typed accepted;
-              exact = accepted_is_exact u typed (level_in cs) cs accepted;
-              well_formed = last_formed u (level_in cs) cs typed accepted;
-              formed = last_forms u (level_in cs) cs typed accepted;
-              written = e;
-            })
+        pub is_accepted : IsAnswer g cs (Ok tt) → IsAccepted (generated u (level_in cs)) cs
+        is_accepted h = unit_verdicts_decide (generated u (level_in cs)) cs (Ok tt) (there (Ok tt) (judged_answer g cs none_differ (Ok tt) h))
 
         named_there : (at : ℕ) → at < length cs → slice_get (function_names u.functions) at ≡ Some (slice_index_or (function_names u.functions) at [])
         named_there at lt =

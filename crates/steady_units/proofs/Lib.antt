@@ -1,0 +1,5 @@
+pub mod AcceptedSteady
+pub mod CallsKept
+pub mod KindWords
+pub mod LiftedCalls
+pub mod TakenSteady
