@@ -1,5 +1,5 @@
 -- What an answer and its sink leave open: a call that ends, and texts that are answered as they should be.
-use Rattle.std.proofs.Common.{◌≡◌, ℕ, ◌<◌, Bool, true, false, List, length, Option, Some, None, ◌⊎◌, inl, inr, refl, subst, arith}
+use Rattle.std.proofs.Common.{◌≡◌, ℕ, ◌<◌, ◌≤◌, Bool, true, false, List, [], length, Option, Some, None, ◌⊎◌, inl, inr, refl, subst, arith}
 use Rattle.c_values.specs.Name.{Name}
 use Rattle.c_values.specs.Types.{Target}
 use Rattle.generation.specs.Generate.{generated}
@@ -13,8 +13,14 @@ use Rattle.text_answers.proofs.OneAnswer.{one_answer}
 use Rattle.certificate_text.specs.CertificateText.{Certificate}
 use Rattle.checking.specs.Checked.{IsChecked, IsAcceptedText}
 use Rattle.checking.proofs.AcceptedText.{accepted_is_done}
+use Rattle.c_memory.specs.TagFault.{first_fault}
+use Rattle.memory_text.specs.MemoryText as memories
+use Rattle.memory_text.specs.MemoryText.{most_turns}
+use Rattle.memory_text.specs.Answer.{IsMemoryText}
+use Rattle.running.specs.Ran.{IsRan}
+use Rattle.running.proofs.RunDone.{runs_are_done}
 use Rattle.ac_core.specs.Written.{is_function, has_long_function, IsWithin, IsWritten}
-use Rattle.ac_core.specs.Answer.{File, source, certificate, Holds, Reads, IsFileAnswer, IsAnswerTo, EndsWith}
+use Rattle.ac_core.specs.Answer.{File, source, certificate, memory, Holds, Reads, IsFileAnswer, IsAnswerTo, EndsWith}
 use Rattle.answers.specs.declared.status.Status.{Status}
 use Rattle.answers.specs.declared.status.Status.TheVariants.{Done, No, Words, Source, Text, ReadFault, WriteFault, Limit, Memory, NotYet}
 
@@ -25,7 +31,7 @@ module _ (contents : Name → Option (List ℕ)) (before after : Name → ℕ) w
   never_write_fault None lines h = h
   never_write_fault (Some (Write form file options)) lines h = h.answer.answer.answer.answer
   never_write_fault (Some (Check file cert target)) lines h = h.answer.answer.answer.answer.answer.verdict
-  never_write_fault (Some (Run file cert memory target)) lines h = h
+  never_write_fault (Some (Run file cert memory target)) lines h = h.answer.answer.answer.answer.answer.answer
   never_write_fault (Some (Prove file cert triples target)) lines h = h
   never_write_fault (Some (Sample n)) lines h = h
   never_write_fault (Some (Trial n target)) lines (inl h) = h.1.answer.answer.answer
@@ -35,7 +41,7 @@ module _ (contents : Name → Option (List ℕ)) (before after : Name → ℕ) w
   never_memory None lines h = h
   never_memory (Some (Write form file options)) lines h = h.answer.answer.answer.answer
   never_memory (Some (Check file cert target)) lines h = h.answer.answer.answer.answer.answer.verdict
-  never_memory (Some (Run file cert memory target)) lines h = h
+  never_memory (Some (Run file cert memory target)) lines h = h.answer.answer.answer.answer.answer.answer
   never_memory (Some (Prove file cert triples target)) lines h = h
   never_memory (Some (Sample n)) lines h = h
   never_memory (Some (Trial n target)) lines (inl h) = h.1.answer.answer.answer
@@ -140,3 +146,20 @@ module _ (words : List Name) (contents : Name → Option (List ℕ)) (before aft
       (λ t. IsFileAnswer contents before after (certificate held) (λ r. IsTextAnswer target (IsChecked target r) t)) status lines
       (subst (λ (o : Option Command). IsAnswerTo contents before after o status lines) asks h)))))
       sound
+
+  pub ran : (file held mem text read said : List ℕ) (target : Target) (unit : TypedUnit) (c : Certificate) (m : memories.Memory) → command_of words ≡ Some (Run file held mem target) →
+      Holds contents (source file) text → Holds contents (certificate held) read → Holds contents (memory mem) said → IsTextOf target text unit → IsAcceptedText target read unit c →
+      IsMemoryText unit said m → m.turns ≤ most_turns → first_fault unit.layout [] 0 m.tags ≡ None →
+      (Rose (before file) (after file) → ⊥) → (Rose (before held) (after held) → ⊥) → (Rose (before mem) (after mem) → ⊥) → (Rose sink_before sink_after → ⊥) → (status : Status) →
+      EndsWith words contents before after taken taken' sink_before sink_after status → (status ≡ Done) ⊎ (status ≡ Memory)
+  ran file held mem text read said target unit c m asks holds holds' holds'' is is' is'' within sound readable readable' readable'' taken =
+      ends_done
+      (λ status lines h. runs_are_done unit said m is'' target read c is' within sound status lines
+      (one_answer target (IsRan target read said) text unit is status lines
+      (file_answer contents before after (memory mem) said holds'' readable'' (λ s. IsTextAnswer target (IsRan target read s) text) status lines
+      (file_answer contents before after (certificate held) read holds' readable'
+      (λ r. IsFileAnswer contents before after (memory mem) (λ s. IsTextAnswer target (IsRan target r s) text)) status lines
+      (file_answer contents before after (source file) text holds readable
+      (λ t. IsFileAnswer contents before after (certificate held) (λ r. IsFileAnswer contents before after (memory mem) (λ s. IsTextAnswer target (IsRan target r s) t))) status lines
+      (subst (λ (o : Option Command). IsAnswerTo contents before after o status lines) asks h))))))
+      taken

@@ -9,6 +9,7 @@ use Rattle.ac_base.specs.Sink.{grown, TakesPart}
 use Rattle.command_line.specs.Words.{Form, Command, Write, Check, Run, Prove, Sample, Trial, command_of, target_of}
 use Rattle.text_answers.specs.TextAnswer.{IsTextAnswer}
 use Rattle.checking.specs.Checked.{IsChecked}
+use Rattle.running.specs.Ran.{IsRan}
 use Rattle.sample_text.specs.Sample.{sample_text}
 use Rattle.ac_core.specs.Written.{IsWritten}
 use Rattle.ac_core.specs.Trial.{IsTried}
@@ -22,6 +23,10 @@ source_limit = 262144
 -- bytes of a certificate that are read: 64 MiB
 abbrev pub certificate_limit : ℕ
 certificate_limit = 67108864
+
+-- bytes of a memory's text that are read: 1 MiB
+abbrev pub memory_limit : ℕ
+memory_limit = 1048576
 
 -- the most functions of a sample
 abbrev pub count_limit : ℕ
@@ -48,6 +53,7 @@ IsNotBuilt _ lines = ⊥
 abbrev pub AsksForNone : Option Command → Type 0
 AsksForNone (Some (Write form file options)) = ⊥
 AsksForNone (Some (Check file cert target)) = ⊥
+AsksForNone (Some (Run file cert memory target)) = ⊥
 AsksForNone _ = Unit {0}
 
 -- Files, read whole before anything is done with what they hold. Of each: its name, the most bytes that it may have and the limit's name.
@@ -61,6 +67,9 @@ source name = record { name = name; most = source_limit; limit = codes "source" 
 
 abbrev pub certificate : Name → File
 certificate name = record { name = name; most = certificate_limit; limit = codes "certificate" }
+
+abbrev pub memory : Name → File
+memory name = record { name = name; most = memory_limit; limit = codes "memory" }
 
 -- the file holds this text, and no more than it may
 pub record Holds (contents : Name → Option (List ℕ)) (file : File) (text : List ℕ) : Type 0 where
@@ -104,11 +113,19 @@ module _ (contents : Name → Option (List ℕ)) (before after : Name → ℕ) w
       IsFileAnswer (certificate cert) (λ of_certificate.
       IsTextAnswer target (IsChecked target of_certificate) text))
 
+  -- all three files are read, and then the text is looked at, the certificate and the memory last
+  abbrev pub IsRunAnswer : Name → Name → Name → Target → Status → List ℕ → Type 0
+  IsRunAnswer file cert mem target =
+      IsFileAnswer (source file) (λ text.
+      IsFileAnswer (certificate cert) (λ of_certificate.
+      IsFileAnswer (memory mem) (λ of_memory.
+      IsTextAnswer target (IsRan target of_certificate of_memory) text)))
+
   abbrev pub IsCommandAnswer : Command → Status → List ℕ → Type 0
   IsCommandAnswer (Write form file options) status lines = IsWriteAnswer form file options status lines
   IsCommandAnswer (Check file cert target) status lines = IsCheckAnswer file cert target status lines
   IsCommandAnswer (Sample n) status lines = IsSampled n status lines
-  IsCommandAnswer (Run file cert memory target) status lines = IsNotBuilt status lines
+  IsCommandAnswer (Run file cert mem target) status lines = IsRunAnswer file cert mem target status lines
   IsCommandAnswer (Prove file cert triples target) status lines = IsNotBuilt status lines
   IsCommandAnswer (Trial n target) status lines = IsTrialAnswer n target status lines
 

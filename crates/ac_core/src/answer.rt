@@ -7,11 +7,12 @@ ghost use Rattle.command_line.specs.Words.{command_of};
 ghost use Rattle.command_line.specs.CodeCommand.{command_in};
 ghost use Rattle.text_answers.specs.TextAnswer.{IsTextAnswer};
 ghost use Rattle.checking.specs.Checked.{IsChecked};
-ghost use Rattle.ac_core.specs.Answer.{certificate, AsksForNone, source, IsAnswerTo, IsCheckAnswer, IsCommandAnswer, IsFileAnswer, IsSampled, IsTrialAnswer};
+ghost use Rattle.running.specs.Ran.{IsRan};
+ghost use Rattle.ac_core.specs.Answer.{certificate, memory, source, AsksForNone, IsAnswerTo, IsCheckAnswer, IsCommandAnswer, IsFileAnswer, IsRunAnswer, IsSampled, IsTrialAnswer};
 ghost use Rattle.ac_core.specs.CodeTrouble.{IsTrouble};
 ghost use Rattle.answers.specs.declared.status.Status.{Status};
 
-use crate::tasks::{Checks, Tries, Writes};
+use crate::tasks::{Checks, Runs, Tries, Writes};
 use ac_base::{ReadTrouble, Shelf, read_whole};
 use answers::{Answer, Status, line, push, read_fault};
 use c_values::Target;
@@ -25,6 +26,9 @@ const SOURCE_LIMIT: u64 = 262_144;
 
 /// Bytes of a certificate that are read.
 const CERTIFICATE_LIMIT: u64 = 67_108_864;
+
+/// Bytes of a memory's text that are read.
+const MEMORY_LIMIT: u64 = 1_048_576;
 
 /// The most functions of a sample.
 const COUNT_LIMIT: u8 = 200;
@@ -70,9 +74,15 @@ fn answer_by<H: Shelf>(
         }
         Command::Sample(count) => sampled(alloc, count),
         Command::Trial(count, target) => trial(alloc, count, target),
-        Command::Run(_, _, _, _) | Command::Prove(_, _, _, _) => {
-            line(alloc, Status::NotYet, "not yet\n")
+        Command::Run(file, certificate, memory, target) => {
+            let files = RunFiles {
+                file,
+                certificate,
+                memory,
+            };
+            run(alloc, files, target, shelf)
         }
+        Command::Prove(_, _, _, _) => line(alloc, Status::NotYet, "not yet\n"),
     }
 }
 
@@ -140,6 +150,87 @@ fn with_certificate<H: Shelf>(
             answer_text(alloc, text, &task)
         }
         Err(trouble) => unread(alloc, file, "certificate", trouble),
+    }
+}
+
+// The files of a run.
+#[derive(Clone, Copy)]
+struct RunFiles<'a> {
+    file: &'a str,
+    certificate: &'a str,
+    memory: &'a str,
+}
+
+// The answer to a file of C text, a certificate and a memory, all of which are read before the text
+// is looked at.
+fn run<H: Shelf>(
+    alloc: Global,
+    files: RunFiles<'_>,
+    target: Target,
+    shelf: &mut H,
+) -> Result<Answer, AllocError>
+    ensures answer { IfOk result (λ a. IsRunAnswer (H.contents shelf.old) (H.faults shelf.old)
+        (H.faults shelf.new) files.entry.file.now files.entry.certificate.now files.entry.memory.now
+        (types.target_of target) a.status a.lines.items) }
+    ensures contents { (name : List ℕ) → H.contents shelf.new name ≡ H.contents shelf.old name }
+    ensures counts { (name : List ℕ) → H.faults shelf.old name ≤ H.faults shelf.new name }
+{
+    match read_whole(alloc, shelf, files.file, SOURCE_LIMIT) {
+        Ok(text) => run_certified(alloc, &text, files.certificate, files.memory, target, shelf),
+        Err(trouble) => unread(alloc, files.file, "source", trouble),
+    }
+}
+
+// The answer to a C text and the files of a certificate and of a memory.
+fn run_certified<H: Shelf>(
+    alloc: Global,
+    text: &[u8],
+    file: &str,
+    start: &str,
+    target: Target,
+    shelf: &mut H,
+) -> Result<Answer, AllocError>
+    ensures answer { IfOk result (λ a. IsFileAnswer (H.contents shelf.old) (H.faults shelf.old)
+        (H.faults shelf.new) (certificate file.now)
+        (λ held. IsFileAnswer (H.contents shelf.old) (H.faults shelf.old) (H.faults shelf.new)
+        (memory start.now)
+        (λ said. IsTextAnswer (types.target_of target) (IsRan (types.target_of target) held said)
+        text.now)) a.status a.lines.items) }
+    ensures contents { (name : List ℕ) → H.contents shelf.new name ≡ H.contents shelf.old name }
+    ensures counts { (name : List ℕ) → H.faults shelf.old name ≤ H.faults shelf.new name }
+{
+    match read_whole(alloc, shelf, file, CERTIFICATE_LIMIT) {
+        Ok(certificate) => run_from(alloc, text, &certificate, start, target, shelf),
+        Err(trouble) => unread(alloc, file, "certificate", trouble),
+    }
+}
+
+// The answer to a C text, the text of a certificate and the file of a memory.
+fn run_from<H: Shelf>(
+    alloc: Global,
+    text: &[u8],
+    certificate: &[u8],
+    file: &str,
+    target: Target,
+    shelf: &mut H,
+) -> Result<Answer, AllocError>
+    ensures answer { IfOk result (λ a. IsFileAnswer (H.contents shelf.old) (H.faults shelf.old)
+        (H.faults shelf.new) (memory file.now)
+        (λ said. IsTextAnswer (types.target_of target)
+        (IsRan (types.target_of target) certificate.now said) text.now) a.status a.lines.items) }
+    ensures contents { (name : List ℕ) → H.contents shelf.new name ≡ H.contents shelf.old name }
+    ensures counts { (name : List ℕ) → H.faults shelf.old name ≤ H.faults shelf.new name }
+{
+    match read_whole(alloc, shelf, file, MEMORY_LIMIT) {
+        Ok(memory) => {
+            let task = Runs {
+                target,
+                certificate,
+                memory: &memory,
+            };
+            answer_text(alloc, text, &task)
+        }
+        Err(trouble) => unread(alloc, file, "memory", trouble),
     }
 }
 

@@ -12,6 +12,7 @@ use c_lang::tree::TypedUnit;
 use c_values::Target;
 use checking::checked;
 use command_line::{Writing, target_of};
+use running::ran;
 use std::alloc::{AllocError, Global};
 use text_answers::Task;
 
@@ -58,6 +59,30 @@ impl Task for Checks<'_> {
 
     fn answer(&self, alloc: Global, unit: TypedUnit) -> Result<Answer, AllocError> {
         checked(alloc, &unit, self.target, self.certificate)
+    }
+}
+
+/// A function of it is run from a memory, beside its program in a certificate.
+#[derive(Clone, Copy)]
+pub(crate) struct Runs<'a> {
+    pub(crate) target: Target,
+    pub(crate) certificate: &'a [u8],
+    pub(crate) memory: &'a [u8],
+}
+
+impl Task for Runs<'_> {
+    ghost use Rattle.running.specs.Ran.{IsRan};
+
+    ghost target_for = { λ task. types.target_of task.target };
+
+    ghost answers = { λ task. IsRan (types.target_of task.target) task.certificate.now task.memory.now };
+
+    fn target(&self) -> Target {
+        self.target
+    }
+
+    fn answer(&self, alloc: Global, unit: TypedUnit) -> Result<Answer, AllocError> {
+        ran(alloc, &unit, self.target, self.certificate, self.memory)
     }
 }
 

@@ -1,15 +1,18 @@
 //! The top call.
 
-ghost use Rattle.std.specs.Prelude.{◌≡◌, ◌≤◌, ◌⊎◌, ℕ, List, map, None, Some, string_bytes};
+ghost use Rattle.std.specs.Prelude.{◌≡◌, ◌≤◌, ◌⊎◌, ℕ, [], List, map, None, Some, string_bytes};
 ghost use Rattle.c_values.specs.Types.{Target};
 ghost use Rattle.ac_base.specs.Count.{Rose};
 ghost use Rattle.c_lang.specs.Typed.{TypedUnit};
-ghost use Rattle.command_line.specs.Words.{Form, Write, Check, command_of, target_of, first_unknown};
+ghost use Rattle.command_line.specs.Words.{Form, Write, Check, Run, command_of, target_of, first_unknown};
 ghost use Rattle.text_answers.specs.TextAnswer.{IsTextOf};
 ghost use Rattle.certificate_text.specs.CertificateText as texts;
 ghost use Rattle.checking.specs.Checked.{IsAcceptedText};
 ghost use Rattle.ac_core.specs.Written.{IsWithin, is_function};
-ghost use Rattle.ac_core.specs.Answer.{EndsWith, Holds, AsksForNone, source, certificate};
+ghost use Rattle.c_memory.specs.TagFault.{first_fault};
+ghost use Rattle.memory_text.specs.MemoryText as memories;
+ghost use Rattle.memory_text.specs.Answer.{IsMemoryText};
+ghost use Rattle.ac_core.specs.Answer.{EndsWith, Holds, AsksForNone, source, certificate, memory};
 ghost use Rattle.answers.specs.declared.status.Status.{Status};
 
 use crate::answer::answer_to;
@@ -20,7 +23,7 @@ use std::alloc::Global;
 /// Does what the words ask for: reads the files that they name from the shelf, and writes the
 /// answer, or the line of a fault, to the sink.
 ///
-/// So far `show`, `print`, `translate`, `check`, `sample` and `trial` are built. Programs that are
+/// So far `show`, `print`, `translate`, `check`, `run`, `sample` and `trial` are built. Programs that are
 /// written are tidy, and have names, types and numbers of the text alone, so that what is written is
 /// the text of no others.
 pub fn autocorres<H: Shelf, K: Sink>(
@@ -56,6 +59,23 @@ pub fn autocorres<H: Shelf, K: Sink>(
         IsTextOf target text unit → IsAcceptedText target read unit c →
         ¬ Rose (H.faults shelf.old file) (H.faults shelf.new file) →
         ¬ Rose (H.faults shelf.old held) (H.faults shelf.new held) →
+        ¬ Rose (K.faults sink.old) (K.faults sink.new) →
+        (result ≡ Status.Done) ⊎ (result ≡ Status.Memory) }
+
+    // A function of an accepted certificate is run, from a memory with no more turns than a run may
+    // have and tags that can lie there, likewise.
+    ensures ran { (file held mem text read said : List ℕ) (target : Target) (unit : TypedUnit)
+        (c : texts.Certificate) (m : memories.Memory) →
+        command_of (map string_bytes words.now) ≡ Some (Run file held mem target) →
+        Holds (H.contents shelf.old) (source file) text →
+        Holds (H.contents shelf.old) (certificate held) read →
+        Holds (H.contents shelf.old) (memory mem) said →
+        IsTextOf target text unit → IsAcceptedText target read unit c →
+        IsMemoryText unit said m → m.turns ≤ memories.most_turns →
+        first_fault unit.layout [] 0 m.tags ≡ None →
+        ¬ Rose (H.faults shelf.old file) (H.faults shelf.new file) →
+        ¬ Rose (H.faults shelf.old held) (H.faults shelf.new held) →
+        ¬ Rose (H.faults shelf.old mem) (H.faults shelf.new mem) →
         ¬ Rose (K.faults sink.old) (K.faults sink.new) →
         (result ≡ Status.Done) ⊎ (result ≡ Status.Memory) }
 

@@ -42,9 +42,22 @@ pub(crate) fn run(
     certificate: &[u8],
     outside: &Outside,
 ) -> Result<(Status, Vec<u8>), AllocError> {
+    run_with(alloc, words, text, certificate, b"", outside)
+}
+
+/// The same with the text of a memory.
+pub(crate) fn run_with(
+    alloc: Global,
+    words: &str,
+    text: &[u8],
+    certificate: &[u8],
+    memory: &[u8],
+    outside: &Outside,
+) -> Result<(Status, Vec<u8>), AllocError> {
     let mut files = Vec::new(alloc);
     files.push(file(alloc, "a.c", text)?)?;
     files.push(file(alloc, "c.cert", certificate)?)?;
+    files.push(file(alloc, "m.mem", memory)?)?;
     let shelf_fails = Vec::from_slice(alloc, outside.shelf_fails)?;
     let sink_fails = Vec::from_slice(alloc, outside.sink_fails)?;
     let step = outside.step.max(1);

@@ -147,7 +147,7 @@ fn shows_plain_files(rt: HostRuntime) -> Result<(), Fail> {
         ("print f.c words=f", "read fault: f.c\n"),
         ("translate f.c", "read fault: f.c\n"),
         ("check f.c c.cert", "read fault: f.c\n"),
-        ("run f.c c.cert f.mem", "not yet\n"),
+        ("run f.c c.cert f.mem", "read fault: f.c\n"),
         (
             "sample 0",
             "struct node { unsigned v; struct node *next; };\n",

@@ -12,6 +12,10 @@ mod forms;
 #[cfg(test)]
 mod generated;
 #[cfg(test)]
+mod guards;
+#[cfg(test)]
+mod runs;
+#[cfg(test)]
 mod type_rows;
 #[cfg(test)]
 mod wrong_nodes;

@@ -11,17 +11,18 @@ use std::test::Fail;
 const TYPED: &str = "int f(int a) { return a; }";
 
 const USAGE: &str = "use one of these forms:
-  show C OPT ..            write the programs of a C file, as a tree
-  print C OPT ..           write them in lines, for readers
-  translate C OPT ..       write them with all steps and rules, as a certificate
-  check C CERT [target=T]  tell whether a certificate is accepted for a C file
-  sample N                 write a C file of N functions, 200 at most
-  trial N [target=T]       translate and check such a file, and tell its numbers
-C is a file of C text without directives, CERT a file that translate wrote.
-Each OPT is one of these:
-  words=F                  numbers of the function F are words, which wrap
-  bytes=F                  the function F works on the bytes of memory
-  target=T                 T is ilp32, or lp64, where long and pointers have 64 bits
+  show C OPT ..              write the programs of a C file, as a tree
+  print C OPT ..             write them in lines, for readers
+  translate C OPT ..         write them with all steps and rules, as a certificate
+  check C CERT [target=T]    tell whether a certificate is accepted for a C file
+  run C CERT MEM [target=T]  run a function and its program, side by side, from a memory
+  sample N                   write a C file of N functions, 200 at most
+  trial N [target=T]         translate and check such a file, and tell its numbers
+C is a file of C text without directives, CERT a file that translate wrote, and MEM one that
+says where to begin. Each OPT is one of these:
+  words=F                    numbers of the function F are words, which wrap
+  bytes=F                    the function F works on the bytes of memory
+  target=T                   T is ilp32, or lp64, where long and pointers have 64 bits
 ";
 
 // What is said of these words, over a shelf that holds the text as `a.c`, and whose first read fails
@@ -130,6 +131,27 @@ fn says_why(rt: HostRuntime) -> Result<(), Fail> {
             "check a.c a.cert",
             Status::Text,
             "a.cert: this isn't what translate writes, or it is for another target\n",
+        ),
+        ("run a.c a.cert a.mem", Status::Source, changed),
+        (
+            "run a.c a.cert a.mem",
+            Status::ReadFault,
+            "a.c, a.cert or a.mem: the file can't be read\n",
+        ),
+        (
+            "run a.c a.cert a.mem",
+            Status::No,
+            "a.cert: the certificate isn't accepted for this C file: the answer names the function, the step and the node\n",
+        ),
+        (
+            "run a.c a.cert a.mem",
+            Status::Text,
+            "a.cert or a.mem: this isn't what translate writes for the target, or no memory that a function of the C file can run from\n",
+        ),
+        (
+            "run a.c a.cert a.mem",
+            Status::Limit,
+            "a.mem: a memory has at most 1048576 bytes and 100000 turns, and a certificate 67108864 bytes\n",
         ),
         (
             "show a.c",

@@ -1,10 +1,11 @@
 -- A text that the shelf tells and that is refused is shown with the place of its fault.
 use Rattle.std.proofs.Common.{◌≡◌, ℕ, ◌≤◌, List, length, inl, inr, sym, subst, arith}
-use Rattle.std.specs.Prelude.{Option, Some, None}
+use Rattle.std.specs.Prelude.{Option, Some, None, Result, Ok, Err, IfOk}
 use Rattle.c_values.specs.Name.{Name}
 use Rattle.c_values.specs.Types.{Target}
 use Rattle.ac_base.specs.Shelf.{AreWhole, IsLonger}
 use Rattle.command_line.specs.Words.{Command, Write, Check, Run, Prove, Sample, Trial, target_of}
+use Rattle.answers.specs.declared.status.Status.{Status}
 use Rattle.answers.specs.declared.status.Status.TheVariants.{Source}
 use Rattle.remarks.specs.Remark.{source_limit, Refuses, OfText, c_file, OfFile, IsRemark, IsRefused}
 use Rattle.remarks.specs.Fault.{IsTyped}
@@ -38,7 +39,21 @@ module _ (contents : Name → Option (List ℕ)) (before after : Name → ℕ) (
   pub placed : (command : Command) (bytes : List ℕ) → c_file command ≡ Some (file, target) → IsRemark contents before after (Some command) Source bytes → Refuses target file text bytes
   placed (Write form f options) bytes e h = of_some _ bytes (f, target_of options) e h
   placed (Check f cert t) bytes e h = of_some _ bytes (f, t) e h
-  placed (Run f cert memory t) bytes e h = absurd cc
+  placed (Run f cert memory t) bytes e h = of_some _ bytes (f, t) e h
   placed (Prove f cert triples t) bytes e h = absurd cc
   placed (Sample n) bytes e h = absurd cc
   placed (Trial n t) bytes e h = absurd cc
+
+same_command : (x y : Command) → Some x ≡ Some y → x ≡ y
+same_command x y e = cc
+
+-- the same of what is answered, for the command that was asked for
+pub placed_if : {V E : Type 0} (bytes_of : V → List ℕ) (contents : Name → Option (List ℕ)) (before after : Name → ℕ) (target : Target) (file : Name) (text : List ℕ) →
+    IsRefused contents before after target file text → (command asked : Command) (status : Status) → Some asked ≡ Some command → status ≡ Source →
+    c_file command ≡ Some (file, target) → (r : Result V E) → IfOk r (λ v. IsRemark contents before after (Some asked) status (bytes_of v)) →
+    IfOk r (λ v. Refuses target file text (bytes_of v))
+placed_if bytes_of contents before after target file text refused command asked status same source the_file (Ok v) h =
+    placed contents before after target file text refused command (bytes_of v) the_file
+    (subst (λ s. IsRemark contents before after (Some command) s (bytes_of v)) source
+    (subst (λ x. IsRemark contents before after (Some x) status (bytes_of v)) (same_command asked command same) h))
+placed_if bytes_of contents before after target file text refused command asked status same source the_file (Err e) h = tt

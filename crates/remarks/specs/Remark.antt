@@ -5,7 +5,7 @@ use Rattle.c_values.specs.Name.{Name}
 use Rattle.c_values.specs.Types.{Target}
 use Rattle.ac_base.specs.Count.{Rose}
 use Rattle.ac_base.specs.Shelf.{AreWhole, IsLonger}
-use Rattle.command_line.specs.Words.{Command, Write, Check, Sample, Trial, target_of}
+use Rattle.command_line.specs.Words.{Command, Write, Check, Run, Sample, Trial, target_of}
 use Rattle.text_places.specs.Place.{line_at, column_at}
 use Rattle.text_places.specs.Shown.{marked_line}
 use Rattle.answers.specs.declared.status.Status.{Status}
@@ -45,6 +45,9 @@ long_function = codes "a function has more than 800 commands once it is generate
 abbrev pub long_certificate : List ℕ
 long_certificate = codes "the file has more than 67108864 bytes"
 
+abbrev pub long_run : List ℕ
+long_run = codes "a memory has at most 1048576 bytes and 100000 turns, and a certificate 67108864 bytes"
+
 abbrev pub unread : List ℕ
 unread = codes "the file can't be read"
 
@@ -56,6 +59,9 @@ not_accepted = codes "the certificate isn't accepted for this C file: the answer
 
 abbrev pub no_certificate : List ℕ
 no_certificate = codes "this isn't what translate writes, or it is for another target"
+
+abbrev pub no_start : List ℕ
+no_start = codes "this isn't what translate writes for the target, or no memory that a function of the C file can run from"
 
 abbrev pub long_sample : List ℕ
 long_sample = codes "a sample has at most 200 functions\n"
@@ -78,19 +84,27 @@ of_words _ = usage
 abbrev pub of_unread : Option Command → List ℕ
 of_unread (Some (Write form file options)) = about file unread
 of_unread (Some (Check file cert target)) = about (file ++ (codes " or " ++ cert)) unread
+of_unread (Some (Run file cert mem target)) = about (file ++ (codes ", " ++ (cert ++ (codes " or " ++ mem)))) unread
 of_unread _ = []
 
--- about the certificate of the command
-abbrev pub of_certificate : Option Command → List ℕ → List ℕ
-of_certificate (Some (Check file cert target)) words = about cert words
-of_certificate _ words = []
+-- of a certificate that isn't accepted
+abbrev pub of_refused : Option Command → List ℕ
+of_refused (Some (Check file cert target)) = about cert not_accepted
+of_refused (Some (Run file cert mem target)) = about cert not_accepted
+of_refused _ = []
+
+-- of a file whose text isn't of its form
+abbrev pub of_text : Option Command → List ℕ
+of_text (Some (Check file cert target)) = about cert no_certificate
+of_text (Some (Run file cert mem target)) = about (cert ++ (codes " or " ++ mem)) no_start
+of_text _ = []
 
 abbrev pub plain : Option Command → Status → List ℕ
 plain command Done = []
-plain command No = of_certificate command not_accepted
+plain command No = of_refused command
 plain command Words = of_words command
 plain command Source = []
-plain command Text = of_certificate command no_certificate
+plain command Text = of_text command
 plain command ReadFault = of_unread command
 plain command WriteFault = not_written
 plain command Limit = []
@@ -115,6 +129,7 @@ OfText target file otherwise text bytes = Refuses target file text bytes ⊎ Typ
 abbrev pub c_file : Command → Option (Name × Target)
 c_file (Write form file options) = Some (file, target_of options)
 c_file (Check file cert target) = Some (file, target)
+c_file (Run file cert mem target) = Some (file, target)
 c_file _ = None
 
 module _ (contents : Name → Option (List ℕ)) (before after : Name → ℕ) where
@@ -141,12 +156,14 @@ module _ (contents : Name → Option (List ℕ)) (before after : Name → ℕ) w
   abbrev pub OfSource : Command → List ℕ → Type 0
   OfSource (Write form file options) bytes = OfFile (target_of options) file (about file changed) bytes
   OfSource (Check file cert target) bytes = OfFile target file (about file changed) bytes
+  OfSource (Run file cert mem target) bytes = OfFile target file (about file changed) bytes
   OfSource _ bytes = bytes ≡ []
 
-  -- a limit was passed: by the C text, or, where that is typed, by what is generated for it or by the certificate
+  -- a limit was passed: by the C text, or, where that is typed, by what is generated for it, by the certificate or by the memory
   abbrev pub OfLimit : Command → List ℕ → Type 0
   OfLimit (Write form file options) bytes = OfFile (target_of options) file (about file long_function) bytes
   OfLimit (Check file cert target) bytes = OfFile target file (about cert long_certificate) bytes
+  OfLimit (Run file cert mem target) bytes = OfFile target file (about mem long_run) bytes
   OfLimit (Sample n) bytes = bytes ≡ long_sample
   OfLimit (Trial n target) bytes = bytes ≡ long_sample
   OfLimit _ bytes = bytes ≡ []

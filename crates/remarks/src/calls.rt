@@ -23,6 +23,9 @@ const LONG_FUNCTION: &str =
 
 const LONG_CERTIFICATE: &str = "the file has more than 67108864 bytes";
 
+const LONG_RUN: &str =
+    "a memory has at most 1048576 bytes and 100000 turns, and a certificate 67108864 bytes";
+
 const UNREAD: &str = "the file can't be read";
 
 const UNKNOWN_FUNCTION: &str =
@@ -32,6 +35,9 @@ const NOT_ACCEPTED: &str =
     "the certificate isn't accepted for this C file: the answer names the function, the step and the node";
 
 const NO_CERTIFICATE: &str = "this isn't what translate writes, or it is for another target";
+
+const NO_START: &str =
+    "this isn't what translate writes for the target, or no memory that a function of the C file can run from";
 
 /// What is said on standard error of a call with these words that ended with this status: why, and
 /// where a C text was refused, at which place of its file. Nothing is said of a call that did what
@@ -111,6 +117,13 @@ fn of_source<H: Shelf>(
             };
             of_file(alloc, target, file, otherwise, shelf)
         }
+        Command::Run(file, _, _, target) => {
+            let otherwise = Otherwise {
+                file,
+                sentence: CHANGED,
+            };
+            of_file(alloc, target, file, otherwise, shelf)
+        }
         _ => Ok(Vec::new(alloc)),
     }
 }
@@ -141,6 +154,13 @@ fn of_limit<H: Shelf>(
             };
             of_file(alloc, target, file, otherwise, shelf)
         }
+        Command::Run(file, _, memory, target) => {
+            let otherwise = Otherwise {
+                file: memory,
+                sentence: LONG_RUN,
+            };
+            of_file(alloc, target, file, otherwise, shelf)
+        }
         Command::Sample(_) | Command::Trial(_, _) => {
             text(alloc, "a sample has at most 200 functions\n")
         }
@@ -155,9 +175,9 @@ fn plain(alloc: Global, command: Option<Command<'_>>, status: Status) -> Result<
 {
     match status {
         Status::Done | Status::Source | Status::Limit => Ok(Vec::new(alloc)),
-        Status::No => of_certificate(alloc, command, NOT_ACCEPTED),
+        Status::No => not_accepted(alloc, command),
         Status::Words => of_words(alloc, command),
-        Status::Text => of_certificate(alloc, command, NO_CERTIFICATE),
+        Status::Text => no_text(alloc, command),
         Status::ReadFault => of_unread(alloc, command),
         Status::WriteFault => text(alloc, "the answer couldn't be written whole\n"),
         Status::Memory => text(alloc, "there isn't enough memory\n"),
@@ -165,17 +185,29 @@ fn plain(alloc: Global, command: Option<Command<'_>>, status: Status) -> Result<
     }
 }
 
-// What is said of a command's certificate.
-fn of_certificate(
-    alloc: Global,
-    command: Option<Command<'_>>,
-    sentence: &str,
-) -> Result<Vec<u8>, AllocError>
-    ensures { IfOk result (λ v. v.items
-        ≡ specs.of_certificate (option_map command_in command.entry) sentence.now) }
+// What is said of a certificate that isn't accepted.
+fn not_accepted(alloc: Global, command: Option<Command<'_>>) -> Result<Vec<u8>, AllocError>
+    ensures { IfOk result
+        (λ v. v.items ≡ specs.of_refused (option_map command_in command.entry)) }
 {
     match command {
-        Some(Command::Check(_, certificate, _)) => about(alloc, certificate, sentence),
+        Some(Command::Check(_, certificate, _) | Command::Run(_, certificate, _, _)) => {
+            about(alloc, certificate, NOT_ACCEPTED)
+        }
+        _ => Ok(Vec::new(alloc)),
+    }
+}
+
+// What is said of a file whose text isn't of its form.
+fn no_text(alloc: Global, command: Option<Command<'_>>) -> Result<Vec<u8>, AllocError>
+    ensures { IfOk result
+        (λ v. v.items ≡ specs.of_text (option_map command_in command.entry)) }
+{
+    match command {
+        Some(Command::Check(_, certificate, _)) => about(alloc, certificate, NO_CERTIFICATE),
+        Some(Command::Run(_, certificate, memory, _)) => {
+            either(alloc, certificate, memory, NO_START)
+        }
         _ => Ok(Vec::new(alloc)),
     }
 }
@@ -198,19 +230,36 @@ fn of_unread(alloc: Global, command: Option<Command<'_>>) -> Result<Vec<u8>, All
 {
     match command {
         Some(Command::Write(_, file, _)) => about(alloc, file, UNREAD),
-        Some(Command::Check(file, certificate, _)) => either(alloc, file, certificate),
+        Some(Command::Check(file, certificate, _)) => { either(alloc, file, certificate, UNREAD) }
+        Some(Command::Run(file, certificate, memory, _)) => {
+            any_of_three(alloc, file, certificate, memory)
+        }
         _ => Ok(Vec::new(alloc)),
     }
 }
 
-// That one of two files couldn't be read.
-fn either(alloc: Global, file: &str, other: &str) -> Result<Vec<u8>, AllocError>
+// A sentence about one of two files.
+fn either(alloc: Global, file: &str, other: &str, sentence: &str) -> Result<Vec<u8>, AllocError>
     ensures { IfOk result
-        (λ v. v.items ≡ specs.about (file.now ++ (codes " or " ++ other.now)) specs.unread) }
+        (λ v. v.items ≡ specs.about (file.now ++ (codes " or " ++ other.now)) sentence.now) }
 {
     let mut lines = Vec::from_slice(alloc, file.as_bytes())?;
     push(&mut lines, " or ")?;
     push(&mut lines, other)?;
+    push_sentence(&mut lines, sentence)?;
+    Ok(lines)
+}
+
+// That one of three files couldn't be read.
+fn any_of_three(alloc: Global, file: &str, second: &str, third: &str) -> Result<Vec<u8>, AllocError>
+    ensures { IfOk result (λ v. v.items ≡ specs.about
+        (file.now ++ (codes ", " ++ (second.now ++ (codes " or " ++ third.now)))) specs.unread) }
+{
+    let mut lines = Vec::from_slice(alloc, file.as_bytes())?;
+    push(&mut lines, ", ")?;
+    push(&mut lines, second)?;
+    push(&mut lines, " or ")?;
+    push(&mut lines, third)?;
     push_sentence(&mut lines, UNREAD)?;
     Ok(lines)
 }

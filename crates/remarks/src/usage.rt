@@ -4,17 +4,18 @@ ghost use Rattle.std.specs.Prelude.{◌≡◌};
 ghost use Rattle.remarks.specs.Usage as specs;
 
 const USAGE: &str = "use one of these forms:
-  show C OPT ..            write the programs of a C file, as a tree
-  print C OPT ..           write them in lines, for readers
-  translate C OPT ..       write them with all steps and rules, as a certificate
-  check C CERT [target=T]  tell whether a certificate is accepted for a C file
-  sample N                 write a C file of N functions, 200 at most
-  trial N [target=T]       translate and check such a file, and tell its numbers
-C is a file of C text without directives, CERT a file that translate wrote.
-Each OPT is one of these:
-  words=F                  numbers of the function F are words, which wrap
-  bytes=F                  the function F works on the bytes of memory
-  target=T                 T is ilp32, or lp64, where long and pointers have 64 bits
+  show C OPT ..              write the programs of a C file, as a tree
+  print C OPT ..             write them in lines, for readers
+  translate C OPT ..         write them with all steps and rules, as a certificate
+  check C CERT [target=T]    tell whether a certificate is accepted for a C file
+  run C CERT MEM [target=T]  run a function and its program, side by side, from a memory
+  sample N                   write a C file of N functions, 200 at most
+  trial N [target=T]         translate and check such a file, and tell its numbers
+C is a file of C text without directives, CERT a file that translate wrote, and MEM one that
+says where to begin. Each OPT is one of these:
+  words=F                    numbers of the function F are words, which wrap
+  bytes=F                    the function F works on the bytes of memory
+  target=T                   T is ilp32, or lp64, where long and pointers have 64 bits
 ";
 
 /// The commands that are built, with their words.

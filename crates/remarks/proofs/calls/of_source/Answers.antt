@@ -18,3 +18,9 @@ returns-in-Check-clause-said g c =
     subst (λ command. IfOk c.of_file-in-Check.result (λ v. OfSource (g.H.Shelf.contents c.args.shelf.now) (g.H.Shelf.faults c.args.shelf.now) (g.H.Shelf.faults c.of_file-in-Check.new.shelf) (command_in command) v.items))
     (sym c.in-Check.is)
     c.of_file-in-Check.ensures.said
+
+pub returns-in-Run-clause-said : goal.returns-in-Run-clause-said
+returns-in-Run-clause-said g c =
+    subst (λ command. IfOk c.of_file-in-Run.result (λ v. OfSource (g.H.Shelf.contents c.args.shelf.now) (g.H.Shelf.faults c.args.shelf.now) (g.H.Shelf.faults c.of_file-in-Run.new.shelf) (command_in command) v.items))
+    (sym c.in-Run.is)
+    c.of_file-in-Run.ensures.said

@@ -1,0 +1,88 @@
+-- The answer, by what is judged of the certificate and read of the memory.
+use Rattle.std.proofs.Common.{◌≡◌, ℕ, ◌≤◌, List, [], Some, ◌⊎◌, inl, inr, sym, subst}
+use Rattle.std.specs.Prelude.{codes}
+use Rattle.c_values.specs.Types.{Target}
+use Rattle.c_memory.specs.TagFault.{first_fault}
+use Rattle.c_memory.specs.declared.faults.HeapFault.{HeapFault}
+use Rattle.c_memory.specs.declared.faults.HeapFault.TheVariants as H
+use Rattle.c_lang.specs.Typed.{TypedUnit}
+use Rattle.c_lang.specs.WellTyped.{IsWellTyped}
+use Rattle.acceptance.specs.Certificate.{Steps}
+use Rattle.acceptance_laws.proofs.AcceptedExact.{accepted_is_exact}
+use Rattle.certificate_text.specs.CertificateText.{Certificate}
+use Rattle.expression_text.specs.declared.fault.TextFault.{TextFault}
+use Rattle.expression_text.specs.declared.fault.TextFault.TheVariants as F
+use Rattle.memory_text.specs.MemoryText.{Memory, most_turns}
+use Rattle.memory_text.specs.Answer.{IsMemoryText, IsFaultOf}
+use Rattle.memory_text.specs.declared.fault.MemoryFault.TheVariants as M
+use Rattle.answers.specs.declared.status.Status.{Status}
+use Rattle.answers.specs.declared.status.Status.TheVariants.{Done, No, Words, Source, Text, ReadFault, WriteFault, Limit, Memory as Short, NotYet}
+use Rattle.checking.specs.Checked.{target_for, level_in}
+use Rattle.checking.specs.CodeJudged.{IsAcceptedAs, IsTurnedAway}
+use Rattle.checking.specs.declared.verdicts.Accepted.{Accepted}
+use Rattle.running.specs.Ran.{OfAccepted, OfMemory, IsNoMemory, IsBadlyTagged, HasTooManyTurns, IsRan, fault_text, heap_text}
+use Rattle.running.specs.CodeRuns.{IsRunFrom, IsRunOf}
+
+module _ (target : Target) (text memory : List ℕ) (unit : TypedUnit) where
+  pub turned_away : (status : Status) (lines : List ℕ) → IsTurnedAway target text unit status lines → IsRan target text memory unit status lines
+  turned_away Text lines h = inl h
+  turned_away No lines h = h
+  turned_away Done lines h = absurd h
+  turned_away Words lines h = absurd h
+  turned_away Source lines h = absurd h
+  turned_away ReadFault lines h = absurd h
+  turned_away WriteFault lines h = absurd h
+  turned_away Limit lines h = absurd h
+  turned_away Short lines h = absurd h
+  turned_away NotYet lines h = absurd h
+
+  module _ (typed : IsWellTyped unit) (c : Certificate) (for_target : target_for c.version ≡ target) (a : Accepted) (is : IsAcceptedAs text unit c a) where
+    of_accepted : (next : List Steps → Type 0) → next c.functions → OfAccepted target unit text next
+    of_accepted next h = record {
+      certificate = c;
+      accepted = record { is_text = is.is_text; for_target = for_target; listed = is.listed; accepted = is.accepted };
+      exact = accepted_is_exact unit typed (level_in c.functions) c.functions is.accepted;
+      answer = h;
+    }
+
+    pub after_certificate : (status : Status) (lines : List ℕ) → IsRunOf unit c.functions memory status lines → IsRan target text memory unit status lines
+    after_certificate Done lines h = of_accepted (OfMemory unit memory lines) h
+    after_certificate Limit lines h = of_accepted (λ cs. HasTooManyTurns unit memory lines) h
+    after_certificate Text lines h = inr (of_accepted (λ cs. IsNoMemory unit memory lines ⊎ IsBadlyTagged unit memory lines) h)
+    after_certificate No lines h = absurd h
+    after_certificate Words lines h = absurd h
+    after_certificate Source lines h = absurd h
+    after_certificate ReadFault lines h = absurd h
+    after_certificate WriteFault lines h = absurd h
+    after_certificate Short lines h = absurd h
+    after_certificate NotYet lines h = absurd h
+
+module _ (unit : TypedUnit) (cs : List Steps) (text : List ℕ) where
+  pub not_read : (fault : TextFault) (status : Status) (lines : List ℕ) → IsFaultOf unit text (M.Text fault) →
+      (status ≡ Text) × (lines ≡ fault_text fault) × (fault ≡ F.Memory → ⊥) → IsRunOf unit cs text status lines
+  not_read fault status lines cause h =
+      subst (λ s. IsRunOf unit cs text s lines) (sym h.0)
+      (inl (record { fault = fault; cause = cause; not_memory = h.2; written = h.1 }))
+
+  pub too_long : (status : Status) (lines : List ℕ) → IsFaultOf unit text M.Turns → (status ≡ Limit) × (lines ≡ codes "limit: turns\n") → IsRunOf unit cs text status lines
+  too_long status lines cause h = subst (λ s. IsRunOf unit cs text s lines) (sym h.0) (record { cause = cause; written = h.1 })
+
+  module _ (m : Memory) (is : IsMemoryText unit text m) (within : m.turns ≤ most_turns) where
+    pub from_memory : (status : Status) (lines : List ℕ) → IsRunFrom unit cs m status lines → IsRunOf unit cs text status lines
+    from_memory Done lines h = record { memory = m; text = record { is_text = is; within = within }; runs = h }
+    from_memory Text lines (fault, first, written) =
+        inr (record { memory = m; text = record { is_text = is; within = within }; fault = fault; first = first; written = written })
+    from_memory No lines h = absurd h
+    from_memory Limit lines h = absurd h
+    from_memory Words lines h = absurd h
+    from_memory Source lines h = absurd h
+    from_memory ReadFault lines h = absurd h
+    from_memory WriteFault lines h = absurd h
+    from_memory Short lines h = absurd h
+    from_memory NotYet lines h = absurd h
+
+  pub bad_tag : (m : Memory) (fault : HeapFault) (status : Status) (lines : List ℕ) →
+      (fault ≡ H.Memory) ⊎ (first_fault unit.layout [] 0 m.tags ≡ Some fault) → (status ≡ Text) × (lines ≡ heap_text fault) × (fault ≡ H.Memory → ⊥) →
+      IsRunFrom unit cs m status lines
+  bad_tag m fault status lines (inl none) h = absurd (h.2 none)
+  bad_tag m fault status lines (inr first) h = subst (λ s. IsRunFrom unit cs m s lines) (sym h.0) (fault, first, h.1)
