@@ -4,7 +4,6 @@
 #![tactic(auto)]
 
 mod certificates;
-mod copies;
 mod last_programs;
 mod levels;
 mod lines;

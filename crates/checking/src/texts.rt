@@ -28,7 +28,7 @@ ghost use Rattle.checking.specs.Refused.{names_apart, AreAtLevels, IsJudged, IsA
 ghost use Rattle.checking.specs.CodeRefused.{answer_of};
 ghost use Rattle.checking.specs.Programs.{AreExactPrograms};
 
-use crate::last_programs::{last_function, with_functions};
+use crate::last_programs::with_functions;
 use crate::names::apart;
 use crate::refused::Refused;
 use ac_sx::Terms;

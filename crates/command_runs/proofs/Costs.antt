@@ -3,7 +3,7 @@ use Rattle.std.proofs.Common.{◌≡◌, ℕ, ◌+◌, ◌<◌, ◌≤◌, List,
 use Rattle.c_values.specs.Name.{Name, same_name}
 use Rattle.simpl_lang.specs.Command.{Simpl, Skip, Throw, Set, SetGlobal, Store, Pick, Seq, Cond, Guard, Catch, While, Call, SimplFn, simpl_fn}
 use Rattle.command_runs.specs.Cost.{turning, calling, cost, cost_of_all}
-use Rattle.command_runs.proofs.LocalsLaws.{by_test, where_true, where_false}
+use Rattle.global_changes.proofs.Changed.{by_test, where_true, where_false}
 
 turning_some : (body : List ℕ → ℕ) (gs : List ℕ) → 0 < turning body gs
 turning_some body [] = omega arith

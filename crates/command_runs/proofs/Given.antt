@@ -17,7 +17,8 @@ use Rattle.command_runs.specs.declared.frame.Frame as R
 use Rattle.command_runs.specs.declared.outcome.CState as C
 use Rattle.command_runs.specs.Locals.{names_in, env_from, put_in, AreLocals}
 use Rattle.command_runs.specs.CodeRun.{table_of, locals_of, scope_for, picked_value, IsFrame, Fits}
-use Rattle.command_runs.proofs.LocalsLaws.{put_env, put_locals, locals_names, scalar_kind, by_test, where_true, where_false}
+use Rattle.command_runs.proofs.LocalsLaws.{put_env, put_locals, locals_names, scalar_kind}
+use Rattle.global_changes.proofs.Changed.{by_test, where_true, where_false}
 use Rattle.command_runs.proofs.Evaluated.{table_env}
 
 pub record IsPut (f : R.Frame) (bs bs' : Bindings) (s : C.CState) (x : Name) (v : Value) : Type 0 where

@@ -20,7 +20,7 @@ use Rattle.simpl_lang.specs.Command.{SimplFn, simpl_fn}
 use Rattle.simpl_lang.specs.Sorted.{same_level, come_first, holds_result, are_signed}
 use Rattle.simpl_lang.specs.CodeCommand.{simpl_fn_of}
 use Rattle.command_runs.specs.CodeRun.{HasReturned, IsStateOf, outcome_of, IsEnd, OnLasting}
-use Rattle.command_runs.proofs.LocalsLaws.{by_test, where_true, where_false}
+use Rattle.global_changes.proofs.Changed.{by_test, where_true, where_false}
 
 -- a name that stands at a place is among the names
 

@@ -9,7 +9,7 @@ pub mod Parts
 pub mod Places
 pub mod Placed
 pub mod Given
-pub mod Changed
+pub mod BytesWritten
 pub mod Formed
 pub mod Bodies
 pub mod StepLaws

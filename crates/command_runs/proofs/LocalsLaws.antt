@@ -15,6 +15,7 @@ use Rattle.expression_lang.specs.Sorted.{names_with}
 use Rattle.simpl_lang.specs.Command.{kind_of}
 use Rattle.simpl_lang.specs.Exec.{zero_locals}
 use Rattle.simpl_lang.specs.Sorted.{same_kind, come_first}
+use Rattle.global_changes.proofs.Changed.{by_test, where_true, where_false}
 use Rattle.command_runs.specs.Locals.{Table, names_in, env_from, put_in, started, AreOfSorts, AreLocals}
 
 cond_swap : (a b : Bool) (v w : Value) (r : Value) → ((a ≡ true) → b ≡ false) → cond a v (cond b w r) ≡ cond b w (cond a v r)
@@ -41,18 +42,6 @@ through x v (p ∷ ps) env h =
     through x v ps (with_name p.0 p.1 env) q.1 ∙ ap (env_from ps) (swapped x p.0 v p.1 env q.0)
 
 -- a local takes a value
-
-pub where_true : {A : Type 0} (b : Bool) (x y : A) → b ≡ true → cond b x y ≡ x
-where_true true x y h = refl
-where_true false x y h = absurd (false≢true h)
-
-pub where_false : {A : Type 0} (b : Bool) (x y : A) → b ≡ false → cond b x y ≡ y
-where_false true x y h = absurd (false≢true (sym h))
-where_false false x y h = refl
-
-pub by_test : {A : Type 0} (b : Bool) → (b ≡ true → A) → (b ≡ false → A) → A
-by_test true f g = f refl
-by_test false f g = g refl
 
 other_among : (x y : Name) (xs : List Name) → same_name x y ≡ false → is_among x (y ∷ xs) ≡ true → is_among x xs ≡ true
 other_among x y xs h k = or_left (same_name x y) (is_among x xs) h k

@@ -1,13 +1,12 @@
 -- What the code that runs commands works on, and what its answers stand for.
-use Rattle.std.specs.Prelude.{◌≡◌, ℕ, zero, suc, Bool, true, false, ◌⊎◌, List, [], ◌∷◌, map, Option, Some, None, Result, Ok, Err, pos, string_bytes, if◌then◌else◌, slice_get}
+use Rattle.std.specs.Prelude.{◌≡◌, ℕ, Bool, true, false, ◌⊎◌, List, map, Option, Some, None, Result, Ok, Err, pos, string_bytes, slice_get}
 use Rattle.std.specs.Option.{option_map, IsSomeAnd}
 use Rattle.std.proofs.Common.{inl, inr}
 use Rattle.correspondence.specs.Outcome.{Turns, Depth, Done, Failed, Stopped, Ends}
-use Rattle.c_values.specs.Name.{Name, same_name, are_distinct}
+use Rattle.c_values.specs.Name.{are_distinct}
 use Rattle.c_values.specs.Word.{word}
 use Rattle.c_values.specs.Layout.{GlobalVar, Shape}
 use Rattle.c_values.specs.Value.{Value, Bits, Truth}
-use Rattle.c_values.specs.Path.{Step, upd}
 use Rattle.c_values.specs.Choice.{Fill}
 use Rattle.c_values.specs.declared.values.Value as V
 use Rattle.c_values.specs.CodeValue.{value_of, global_of}
@@ -165,21 +164,6 @@ picked_value k (WordKind n) = Bits (word n (pos k))
 picked_value k (NatKind n) = Bits (word n (pos k))
 picked_value k (IntKind n) = Bits (word n (pos k))
 picked_value k BoolKind = Truth false
-
--- where the first global of the name stands
-abbrev pub position_of : Name → List GlobalVar → Option ℕ
-position_of x [] = None
-position_of x (g ∷ gs) = if same_name g.name x then Some 0 else option_map suc (position_of x gs)
-
--- the part of a global takes a value
-abbrev pub change_at : List Step → Value → ℕ → List Value → List Value
-change_at ps w k [] = []
-change_at ps w zero (v ∷ vs) = upd v ps w ∷ vs
-change_at ps w (suc k) (v ∷ vs) = v ∷ change_at ps w k vs
-
-abbrev pub change_in : Option ℕ → List Step → Value → List Value → List Value
-change_in None ps w vs = vs
-change_in (Some k) ps w vs = change_at ps w k vs
 
 -- a result is of the kind's words
 abbrev pub IsResult : Option Kind → Option Value → Type 0

@@ -7,15 +7,16 @@ ghost use Rattle.c_values.specs.CodeValue.{value_of, global_of};
 ghost use Rattle.c_memory.specs.CodeStep.{step_of};
 ghost use Rattle.expression_lang.specs.CodeExpression.{exp_of, path_of};
 ghost use Rattle.simpl_lang.specs.Command.{Set, SetGlobal, Store, Pick};
-ghost use Rattle.command_runs.specs.CodeRun.{machine_in, position_of, change_in, Fits, IsFrame, CanRunIn, Reaches};
+ghost use Rattle.command_runs.specs.CodeRun.{machine_in, Fits, IsFrame, CanRunIn, Reaches};
 
 use crate::frame::Frame;
 use crate::kinds::picked;
 use crate::locals::put;
 use crate::outcome::CState;
-use c_memory::{Heap, Step, replace};
-use c_values::{CType, GlobalVar, Value};
+use c_memory::Heap;
+use c_values::{CType, Value};
 use expression_lang::{Env, Exp, Path};
+use global_changes::change;
 use simpl_lang::kind_in;
 use std::alloc::AllocError;
 
@@ -107,38 +108,6 @@ impl Frame<'_> {
             .heap
             .write_value(self.alloc, &self.unit.layout, t, address, &steps, &value)
     }
-}
-
-// The part of the first global of the name takes the value.
-fn change(vars: &[GlobalVar], globals: &mut Vec<Value>, name: &str, path: &[Step], value: Value)
-    ensures { map value_of globals.new.items
-        ≡ change_in (position_of name.now (map global_of vars.now)) (map step_of path.now)
-        (value_of value) (map value_of globals.old.items) }
-{
-    match position_of(vars, name) {
-        Some(k) => {
-            if k < globals.len() {
-                replace(&mut globals[k], path, value);
-            }
-        }
-        None => {}
-    }
-}
-
-// Where the first global of the name stands.
-fn position_of(vars: &[GlobalVar], name: &str) -> Option<usize>
-    ensures { result ≡ position_of name.now (map global_of vars.now) }
-{
-    let mut k = 0;
-    let mut rest = vars;
-    'globals: while let Some((first, others)) = rest.split_first() {
-        if first.name.as_str() == name {
-            return Some(k);
-        }
-        k += 1;
-        rest = others;
-    }
-    None
 }
 
 // The bits of a pointer.

@@ -2,7 +2,6 @@ pub mod Narrows
 pub mod WideOneEnd
 pub mod Bindings
 pub mod Costs
-pub mod Changed
 pub mod Lists
 pub mod AlongPaths
 pub mod MachineSteps

@@ -6,7 +6,7 @@ use Rattle.std.specs.Option.{IsSomeAnd}
 use Rattle.c_values.specs.Name.{Name, same_name, is_among, are_distinct}
 use Rattle.c_values.specs.Program.{function_named}
 use Rattle.c_values.proofs.Laid.{name_is, same_name-refl}
-use Rattle.program_runs.proofs.Changed.{by_test, where_true, where_false}
+use Rattle.global_changes.proofs.Changed.{by_test, where_true, where_false}
 
 or_left : (a b : Bool) → a ≡ false → (a || b) ≡ true → b ≡ true
 or_left true b h k = absurd (false≢true (sym h))

@@ -6,7 +6,6 @@ mod ends;
 mod evaluation;
 mod finals;
 mod functions;
-mod globals;
 pub mod laws;
 mod leaves;
 mod machine;

@@ -15,7 +15,6 @@ ghost use Rattle.program_runs.specs.Machine.{Leads, Writes, CanRun, runs_at};
 ghost use Rattle.program_runs.specs.CodeRun.{state_in, bound_of, now_of, IsStateOf, IsMet, HasStopped};
 
 use crate::ends::Stop;
-use crate::globals::change;
 use crate::machine::{AState, Bound, Next, Setting};
 use c_memory::Heap;
 use c_values::{CType, Value};

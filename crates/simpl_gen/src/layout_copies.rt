@@ -8,7 +8,7 @@ use c_values::{CType, GlobalVar, Layout, LayoutFault, StructDef, copy_of, copy_v
 use std::alloc::{AllocError, Global};
 
 /// A copy of a layout.
-pub(crate) fn copy_of_layout(alloc: Global, l: &Layout) -> Result<Layout, AllocError>
+pub fn copy_of_layout(alloc: Global, l: &Layout) -> Result<Layout, AllocError>
     ensures { IfOk result (λ copy. copy ≡ l.now) }
 {
     let target = l.target();
@@ -52,7 +52,7 @@ fn copy_of_members(
 }
 
 /// A copy of globals.
-pub(crate) fn copy_of_globals(
+pub fn copy_of_globals(
     alloc: Global,
     globals: &[GlobalVar],
 ) -> Result<Vec<GlobalVar>, AllocError>

@@ -16,3 +16,4 @@ mod switches;
 
 pub use c_levels::{Modes, Reason, default_modes, reasons};
 pub use functions::generate;
+pub use layout_copies::{copy_of_globals, copy_of_layout};

@@ -28,11 +28,11 @@ pub(crate) fn translated(
         (last_program (simpl_unit_of u.now) (simpl_fn_of f.now) (signature_of s.now))) }
 {
     let steps = steps(alloc, u, f, s)?;
-    with_program(alloc, s, &steps.equal.program)
+    last_function(alloc, s, &steps.equal.program)
 }
 
-// A function of a signature with a copy of a program.
-fn with_program(alloc: Global, s: &Signature, program: &Mon) -> Result<FinalFn, AllocError>
+/// A function with a copy of its last program, which takes and gives what its signature says.
+pub fn last_function(alloc: Global, s: &Signature, program: &Mon) -> Result<FinalFn, AllocError>
     ensures { IfOk result (λ g. final_fn_of g
         ≡ on_numbers (signature_of s.now) (mon_of program.now)) }
 {

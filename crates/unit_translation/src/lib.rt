@@ -5,4 +5,5 @@ mod functions;
 mod steps;
 mod units;
 
+pub use functions::last_function;
 pub use units::{translate_functions, translate_generated, translate_unit};

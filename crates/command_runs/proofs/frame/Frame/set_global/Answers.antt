@@ -11,10 +11,11 @@ use Rattle.expression_lang.specs.Evaluation.{value, steps}
 use Rattle.expression_lang.specs.CodeExpression.{exp_of, path_of}
 use Rattle.expression_lang.specs.CodeState.{env_of}
 use Rattle.simpl_lang.specs.Exec.{Normal}
-use Rattle.command_runs.specs.CodeRun.{state_in, position_of, change_in}
+use Rattle.global_changes.specs.GlobalChange.{position_of, change_in}
+use Rattle.command_runs.specs.CodeRun.{state_in}
 use Rattle.command_runs.proofs.Places.{global_parts}
 use Rattle.command_runs.proofs.Placed.{part_put}
-use Rattle.command_runs.proofs.Changed.{globals_changed, types_changed}
+use Rattle.global_changes.proofs.Changed.{globals_changed, types_changed}
 use Rattle.command_runs.proofs.frame.Frame.set_global.Goals as goal
 
 pub value-requires-clause-sorted : goal.value-requires-clause-sorted

@@ -14,7 +14,7 @@ use Rattle.expression_lang.specs.CodeExpression.{exp_of, path_of}
 use Rattle.command_runs.proofs.Evaluated.{value_fits}
 use Rattle.command_runs.proofs.Places.{store_parts}
 use Rattle.command_runs.proofs.Placed.{bits_below, on_ok, placed}
-use Rattle.command_runs.proofs.Changed.{bytes_written}
+use Rattle.command_runs.proofs.BytesWritten.{bytes_written}
 use Rattle.command_runs.proofs.frame.Frame.store.Goals as goal
 
 pub value-requires-clause-sorted : goal.value-requires-clause-sorted

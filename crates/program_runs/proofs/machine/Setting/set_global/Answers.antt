@@ -10,12 +10,12 @@ use Rattle.expression_lang.specs.Wide.{wide, wide_in}
 use Rattle.expression_lang.specs.CodeExpression.{exp_of, path_of}
 use Rattle.expression_lang.specs.CodeState.{env_of}
 use Rattle.monad_lang.specs.CodeProgram.{final_unit_of}
-use Rattle.program_runs.specs.GlobalChange.{position_of, change_in}
+use Rattle.global_changes.specs.GlobalChange.{position_of, change_in}
 use Rattle.program_runs.specs.CodeRun.{state_in}
 use Rattle.program_runs.proofs.Lists.{passed}
 use Rattle.program_runs.proofs.States.{state_here}
 use Rattle.program_runs.proofs.Places.{global_part, part_put}
-use Rattle.program_runs.proofs.Changed.{globals_changed, types_changed}
+use Rattle.global_changes.proofs.Changed.{globals_changed, types_changed}
 use Rattle.program_runs.proofs.machine.Setting.set_global.Given as given
 use Rattle.program_runs.proofs.machine.Setting.set_global.Goals as goal
 

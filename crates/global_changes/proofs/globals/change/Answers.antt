@@ -2,9 +2,9 @@ use Rattle.std.proofs.Common.{rules, arith, ◌≡◌, Some, map, sym, ap, ◌�
 use Rattle.std.proofs.lemmas.List.{length-map}
 use Rattle.c_values.specs.CodeValue.{value_of, global_of}
 use Rattle.c_memory.specs.CodeStep.{step_of}
-use Rattle.program_runs.specs.GlobalChange.{position_of, change_in}
-use Rattle.program_runs.proofs.Changed.{changed_there, change_past}
-use Rattle.program_runs.proofs.globals.change.Goals as goal
+use Rattle.global_changes.specs.GlobalChange.{position_of, change_in}
+use Rattle.global_changes.proofs.Changed.{changed_there, change_past}
+use Rattle.global_changes.proofs.globals.change.Goals as goal
 
 pub returns-then-k-len : goal.returns-then-k-len
 returns-then-k-len c =

@@ -2,8 +2,8 @@
 use Rattle.std.proofs.Common.{◌≡◌, ◌+◌, length, map}
 use Rattle.std.specs.Option.{option_map}
 use Rattle.c_values.specs.CodeValue.{global_of}
-use Rattle.command_runs.specs.CodeRun.{position_of}
-use Rattle.command_runs.proofs.assignments.position_of.Given as goal
+use Rattle.global_changes.specs.GlobalChange.{position_of}
+use Rattle.global_changes.proofs.globals.position_of.Given as goal
 
 abbrev pub invariant-globals : goal.invariant-globals
 invariant-globals l = record {

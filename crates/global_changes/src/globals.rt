@@ -3,13 +3,13 @@
 ghost use Rattle.std.specs.Prelude.{◌≡◌, map};
 ghost use Rattle.c_values.specs.CodeValue.{value_of, global_of};
 ghost use Rattle.c_memory.specs.CodeStep.{step_of};
-ghost use Rattle.program_runs.specs.GlobalChange.{position_of, change_in};
+ghost use Rattle.global_changes.specs.GlobalChange.{position_of, change_in};
 
 use c_memory::{Step, replace};
 use c_values::{GlobalVar, Value};
 
 /// The part of the first global of the name takes the value.
-pub(crate) fn change(
+pub fn change(
     vars: &[GlobalVar],
     globals: &mut Vec<Value>,
     name: &str,

@@ -14,7 +14,7 @@ use Rattle.c_values.specs.Path.{Step, upd, HasShape}
 use Rattle.c_values.specs.CodeValue.{value_of, global_of}
 use Rattle.c_values.proofs.Laid.{name_is, other_name}
 use Rattle.expression_lang.specs.CodeState.{globals_of, AreOfTypes}
-use Rattle.program_runs.specs.GlobalChange.{position_of, change_at, change_in}
+use Rattle.global_changes.specs.GlobalChange.{position_of, change_at, change_in}
 
 pub where_true : {A : Type 0} (b : Bool) (x y : A) → b ≡ true → cond b x y ≡ x
 where_true true x y h = refl
