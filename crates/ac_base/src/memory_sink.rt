@@ -5,7 +5,7 @@ ghost use Rattle.ac_base.specs.Count.{Rose};
 ghost use Rattle.ac_base.specs.Sink.{grown};
 ghost use Rattle.ac_base.specs.MemorySink.{RoomInMemory, HasRoomFor, TakesUnfailing, fresh_sink, write_count, after_write};
 
-use crate::{Failed, Sink};
+use crate::{Failed, Progress, Sink};
 use std::alloc::{AllocError, Global};
 use std::marker::Model;
 
@@ -83,6 +83,9 @@ impl MemorySink {
         self.failures
     }
 }
+
+// It isn't told how far work is.
+impl Progress for MemorySink {}
 
 impl Sink for MemorySink {
     ghost taken = { λ sink. Some sink.taken };

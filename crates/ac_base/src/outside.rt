@@ -4,6 +4,8 @@ ghost use Rattle.ac_base.specs.Count.{Rose};
 ghost use Rattle.ac_base.specs.Shelf.{AreBytesAt, EndsBy};
 ghost use Rattle.ac_base.specs.Sink.{grown};
 
+use crate::Progress;
+
 /// A call on a shelf or a sink that failed.
 #[derive(Debug, Clone, Copy, PartialEq, Eq)]
 pub struct Failed;
@@ -29,8 +31,9 @@ pub trait Shelf {
         ensures cause { OnErr result (Rose (faults self.old name.now) (faults self.new name.now)) };
 }
 
-/// What is written to, from front to back.
-pub trait Sink {
+/// What is written to, from front to back. While what is to be written is made, it is told how far
+/// that is.
+pub trait Sink: Progress {
     /// The bytes taken so far, where they are told. What is told stays told.
     ghost taken: { Self → Option (List ℕ) };
 

@@ -31,6 +31,7 @@ ghost use Rattle.checking.specs.Programs.{AreExactPrograms};
 use crate::last_programs::with_functions;
 use crate::names::apart;
 use crate::refused::Refused;
+use ac_base::{Nobody, Progress, Work};
 use ac_sx::Terms;
 use acceptance::{Place, check_function};
 use certificate_text::{CertIndex, read_function};
@@ -38,6 +39,7 @@ use expression_lang::Signature;
 use monad_lang::{FinalFn, FinalUnit};
 use simpl_lang::{SimplFn, SimplUnit};
 use std::alloc::{AllocError, Global};
+use unit_translation::last_function;
 
 /// Whether the certificate whose text this is, is accepted for a unit that was generated at its
 /// levels, and else the first place where it isn't: the answer of `check_certificate`. The index is
@@ -60,18 +62,40 @@ pub fn check_text(
     ensures decided { (c : texts.Certificate) → IsCertificateText bytes.now c →
         IfOk result (λ r. Decides (simpl_unit_of u.now) c.functions (answer_of r)) }
 {
-    match apart(&u.functions, &index.functions) {
-        Some((at, _name)) => Ok(Err(Refused::at_names(at))),
-        None => check_each(alloc, u, bytes, index),
-    }
+    check_telling(alloc, u, bytes, index, &Nobody)
 }
 
-// The same where the functions are the unit's, one after the other.
-fn check_each(
+/// The same, and it is told how far the check is.
+pub(crate) fn check_telling<P: Progress>(
     alloc: Global,
     u: &SimplUnit,
     bytes: &[u8],
     index: &CertIndex,
+    progress: &P,
+) -> Result<Result<(), Refused>, AllocError>
+    requires formed { IsWellFormed (simpl_unit_of u.now) }
+    requires scanned { IsIndexOf bytes.now (index_in index.now) }
+    requires short { length bytes.now < 2 ^ 32 }
+    requires at_levels { (c : texts.Certificate) → IsCertificateText bytes.now c →
+        AreAtLevels (simpl_unit_of u.now) c.functions }
+    ensures answer { (c : texts.Certificate) → IsCertificateText bytes.now c →
+        IfOk result (λ r. IsAnswer (simpl_unit_of u.now) c.functions (answer_of r)) }
+    ensures decided { (c : texts.Certificate) → IsCertificateText bytes.now c →
+        IfOk result (λ r. Decides (simpl_unit_of u.now) c.functions (answer_of r)) }
+{
+    match apart(&u.functions, &index.functions) {
+        Some((at, _name)) => Ok(Err(Refused::at_names(at))),
+        None => check_each(alloc, u, bytes, index, progress),
+    }
+}
+
+// The same where the functions are the unit's, one after the other.
+fn check_each<P: Progress>(
+    alloc: Global,
+    u: &SimplUnit,
+    bytes: &[u8],
+    index: &CertIndex,
+    progress: &P,
 ) -> Result<Result<(), Refused>, AllocError>
     requires formed { IsWellFormed (simpl_unit_of u.now) }
     requires scanned { IsIndexOf bytes.now (index_in index.now) }
@@ -95,6 +119,7 @@ fn check_each(
             return Ok(Err(Refused::at_place(at as usize, place)));
         }
         at += 1;
+        progress.done(Work::Check, at as usize, u.functions.len());
         left = functions;
         signed = signatures;
     }

@@ -20,7 +20,8 @@ use crate::levels::levels;
 use crate::lines::{accepted, name_at, phase_word, refusal};
 use crate::names::apart;
 use crate::refused::Refused;
-use crate::texts::check_text;
+use crate::texts::check_telling;
+use ac_base::Progress;
 use answers::{Answer, Status, line, push};
 use c_lang::tree::TypedUnit;
 use c_levels::Modes;
@@ -42,21 +43,23 @@ pub struct Accepted {
 }
 
 /// The answer to a typed text and the text of a certificate: whether it is accepted for it, and
-/// else why not. A text that is accepted has exact programs, the last ones of the certificate.
+/// else why not. A text that is accepted has exact programs, the last ones of the certificate. It is
+/// told how far the check is.
 ///
 /// No more is held of the certificate than its index and one function. A text of 2^32 bytes or more
 /// is answered as where memory runs out: no call reads so long a one.
-pub fn checked(
+pub fn checked<P: Progress>(
     alloc: Global,
     unit: &TypedUnit,
     target: Target,
     text: &[u8],
+    progress: &P,
 ) -> Result<Answer, AllocError>
     requires typed { IsWellTyped (unit_of unit.now) }
     ensures { IfOk result (λ a.
         IsChecked (types.target_of target) text.now (unit_of unit.now) a.status a.lines.items) }
 {
-    match judged(alloc, unit, target, text)? {
+    match judged(alloc, unit, target, text, progress)? {
         Ok(found) => accepted(alloc, unit, &found.modes),
         Err(answer) => Ok(answer),
     }
@@ -64,11 +67,12 @@ pub fn checked(
 
 /// What an accepted certificate comes to, by its text; or the answer that says why the text isn't
 /// that of one. It takes as much memory as `checked`, and the same texts are too long.
-pub fn judged(
+pub fn judged<P: Progress>(
     alloc: Global,
     unit: &TypedUnit,
     target: Target,
     text: &[u8],
+    progress: &P,
 ) -> Result<Result<Accepted, Answer>, AllocError>
     requires typed { IsWellTyped (unit_of unit.now) }
     ensures judged { IfOk result (IsJudged (types.target_of target) text.now (unit_of unit.now)) }
@@ -78,7 +82,7 @@ pub fn judged(
         return Err(AllocError);
     }
     match scan(alloc, text) {
-        Ok(index) => of_index(alloc, unit, target, text, index),
+        Ok(index) => of_index(alloc, unit, target, text, index, progress),
         Err(fault) => Ok(Err(no_certificate(alloc, fault)?)),
     }
 }
@@ -110,12 +114,13 @@ fn bad_node(alloc: Global, at: u32) -> Result<Answer, AllocError>
 }
 
 // What the text of a certificate comes to, by its index.
-fn of_index(
+fn of_index<P: Progress>(
     alloc: Global,
     unit: &TypedUnit,
     target: Target,
     text: &[u8],
     index: CertIndex,
+    progress: &P,
 ) -> Result<Result<Accepted, Answer>, AllocError>
     requires typed { IsWellTyped (unit_of unit.now) }
     requires scanned { IsIndexOf text.now (index_in index) }
@@ -123,7 +128,7 @@ fn of_index(
     ensures { IfOk result (IsJudged (types.target_of target) text.now (unit_of unit.now)) }
 {
     if is_for(index.version, target) {
-        verdict(alloc, unit, text, index)
+        verdict(alloc, unit, text, index, progress)
     } else {
         Ok(Err(line(alloc, Status::Text, "text: certificate other target\n")?))
     }
@@ -142,11 +147,12 @@ fn is_for(version: Version, target: Target) -> bool
 
 // Whether a certificate's functions are the unit's and accepted, and else the first place where
 // they aren't.
-fn verdict(
+fn verdict<P: Progress>(
     alloc: Global,
     unit: &TypedUnit,
     text: &[u8],
     index: CertIndex,
+    progress: &P,
 ) -> Result<Result<Accepted, Answer>, AllocError>
     requires typed { IsWellTyped (unit_of unit.now) }
     requires scanned { IsIndexOf text.now (index_in index) }
@@ -156,16 +162,17 @@ fn verdict(
 {
     match apart(&unit.functions, &index.functions) {
         Some((at, name)) => Ok(Err(refusal(alloc, name, "list", at)?)),
-        None => verdict_on_listed(alloc, unit, text, index),
+        None => verdict_on_listed(alloc, unit, text, index, progress),
     }
 }
 
 // The same of a certificate whose functions are the unit's in its order.
-fn verdict_on_listed(
+fn verdict_on_listed<P: Progress>(
     alloc: Global,
     unit: &TypedUnit,
     text: &[u8],
     index: CertIndex,
+    progress: &P,
 ) -> Result<Result<Accepted, Answer>, AllocError>
     requires typed { IsWellTyped (unit_of unit.now) }
     requires scanned { IsIndexOf text.now (index_in index) }
@@ -177,7 +184,7 @@ fn verdict_on_listed(
 {
     let modes = levels(alloc, &index.functions)?;
     let generated = generate(alloc, unit, &modes)?;
-    match check_text(alloc, &generated, text, &index)? {
+    match check_telling(alloc, &generated, text, &index, progress)? {
         Ok(()) => Ok(Ok(Accepted {
             index,
             modes,

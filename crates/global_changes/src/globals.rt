@@ -9,13 +9,7 @@ use c_memory::{Step, replace};
 use c_values::{GlobalVar, Value};
 
 /// The part of the first global of the name takes the value.
-pub fn change(
-    vars: &[GlobalVar],
-    globals: &mut Vec<Value>,
-    name: &str,
-    path: &[Step],
-    value: Value,
-)
+pub fn change(vars: &[GlobalVar], globals: &mut Vec<Value>, name: &str, path: &[Step], value: Value)
     ensures { map value_of globals.new.items
         ≡ change_in (position_of name.now (map global_of vars.now)) (map step_of path.now)
         (value_of value) (map value_of globals.old.items) }

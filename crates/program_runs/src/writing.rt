@@ -19,6 +19,7 @@ use crate::machine::{AState, Bound, Next, Setting};
 use c_memory::Heap;
 use c_values::{CType, Value};
 use expression_lang::{Env, Exp, Path};
+use global_changes::change;
 use monad_lang::Place;
 
 impl<'a> Setting<'a> {

@@ -14,6 +14,7 @@ ghost use Rattle.running.specs.CodeRuns.{IsRunFrom, IsRunOf};
 use crate::faults::{badly_tagged, no_memory};
 use crate::sides::run_lines;
 use crate::start::Start;
+use ac_base::Progress;
 use answers::{Answer, Status, line};
 use c_lang::tree::TypedUnit;
 use c_values::Target;
@@ -23,22 +24,23 @@ use run_start::{heap_of, position_of};
 use std::alloc::{AllocError, Global};
 
 /// How a function of the C and its program run from a memory, side by side, where the certificate is
-/// accepted; or why they don't run.
+/// accepted; or why they don't run. It is told how far the check is.
 ///
 /// A text of a certificate of 2^32 bytes or more is answered as where memory runs out, and so are so
 /// many functions that a `u32` doesn't count them.
-pub fn ran(
+pub fn ran<P: Progress>(
     alloc: Global,
     unit: &TypedUnit,
     target: Target,
     certificate: &[u8],
     memory: &[u8],
+    progress: &P,
 ) -> Result<Answer, AllocError>
     requires typed { IsWellTyped (unit_of unit.now) }
     ensures { IfOk result (λ a. IsRan (types.target_of target) certificate.now memory.now
         (unit_of unit.now) a.status a.lines.items) }
 {
-    match judged(alloc, unit, target, certificate)? {
+    match judged(alloc, unit, target, certificate, progress)? {
         Ok(accepted) => with_memory(alloc, unit, certificate, &accepted, memory),
         Err(answer) => Ok(answer),
     }

@@ -52,10 +52,7 @@ fn copy_of_members(
 }
 
 /// A copy of globals.
-pub fn copy_of_globals(
-    alloc: Global,
-    globals: &[GlobalVar],
-) -> Result<Vec<GlobalVar>, AllocError>
+pub fn copy_of_globals(alloc: Global, globals: &[GlobalVar]) -> Result<Vec<GlobalVar>, AllocError>
     ensures { IfOk result (λ copy. map global_of copy.items ≡ map global_of globals.now) }
 {
     let mut copy = Vec::new(alloc);

@@ -6,4 +6,4 @@ mod steps;
 mod units;
 
 pub use functions::last_function;
-pub use units::{translate_functions, translate_generated, translate_unit};
+pub use units::{last_programs, translate_functions, translate_generated};

@@ -23,6 +23,7 @@ ghost use Rattle.unit_translation.specs.Forms.{AreOfTheirForms};
 
 use crate::functions::translated;
 use crate::steps::steps;
+use ac_base::{Nobody, Progress, Work};
 use acceptance::Steps;
 use c_lang::tree::TypedUnit;
 use c_levels::Modes;
@@ -35,7 +36,7 @@ use std::alloc::{AllocError, Global};
 /// lifted, loads made reads where a function is lifted, words made numbers where its level says so,
 /// and all of it made tidy. They are those of an accepted certificate; so where a lifted function
 /// calls lifted ones alone, they are exact. There is no answer only where memory is wanting.
-pub fn translate_unit(alloc: Global, u: &TypedUnit, modes: &Modes) -> Result<FinalUnit, AllocError>
+pub fn last_programs(alloc: Global, u: &TypedUnit, modes: &Modes) -> Result<FinalUnit, AllocError>
     requires typed { IsWellTyped (unit_of u.now) }
     requires one_each { length modes.now.levels.items ≡ length u.now.functions.items }
     ensures translated { IfOk result
@@ -62,18 +63,22 @@ pub fn translate_unit(alloc: Global, u: &TypedUnit, modes: &Modes) -> Result<Fin
         IsExact (unit_of u.now) levels (final_unit_of v)) }
 {
     let generated = generate(alloc, u, modes)?;
-    translate_generated(alloc, generated)
+    translate_generated(alloc, generated, &Nobody)
 }
 
 /// The same of the Simpl that was generated, where the locals of its functions can be lifted, as
 /// they can be where it was generated for a well-typed unit.
-pub fn translate_generated(alloc: Global, u: SimplUnit) -> Result<FinalUnit, AllocError>
+pub fn translate_generated<P: Progress>(
+    alloc: Global,
+    u: SimplUnit,
+    progress: &P,
+) -> Result<FinalUnit, AllocError>
     requires ready { AllReadyToLift (simpl_unit_of u).functions (simpl_unit_of u).signatures }
     ensures last { IfOk result (λ v. final_unit_of v
         ≡ last_unit (simpl_unit_of u) (tidy_certificate same_exp (simpl_unit_of u))) }
     ensures tidy { IfOk result (λ v. AreTidy (final_unit_of v).functions) }
 {
-    let functions = functions(alloc, &u)?;
+    let functions = functions(alloc, &u, progress)?;
     let SimplUnit {
         layout,
         globals,
@@ -89,7 +94,11 @@ pub fn translate_generated(alloc: Global, u: SimplUnit) -> Result<FinalUnit, All
 
 /// The steps of each function, where the locals of these can be lifted: what a certificate has for
 /// them.
-pub fn translate_functions(alloc: Global, u: &SimplUnit) -> Result<Vec<Steps>, AllocError>
+pub fn translate_functions<P: Progress>(
+    alloc: Global,
+    u: &SimplUnit,
+    progress: &P,
+) -> Result<Vec<Steps>, AllocError>
     requires ready { AllReadyToLift (simpl_unit_of u.now).functions (simpl_unit_of u.now).signatures }
     ensures { IfOk result (λ steps. map steps_of steps.items
         ≡ tidy_certificate same_exp (simpl_unit_of u.now)) }
@@ -102,6 +111,7 @@ pub fn translate_functions(alloc: Global, u: &SimplUnit) -> Result<Vec<Steps>, A
             break;
         };
         made.push(steps(alloc, u, f, s)?)?;
+        progress.done(Work::Translation, made.len(), u.functions.len());
         functions = others;
         signatures = behind;
     }
@@ -109,7 +119,11 @@ pub fn translate_functions(alloc: Global, u: &SimplUnit) -> Result<Vec<Steps>, A
 }
 
 // Each function with its last program.
-fn functions(alloc: Global, u: &SimplUnit) -> Result<Vec<FinalFn>, AllocError>
+fn functions<P: Progress>(
+    alloc: Global,
+    u: &SimplUnit,
+    progress: &P,
+) -> Result<Vec<FinalFn>, AllocError>
     requires ready { AllReadyToLift (map simpl_fn_of u.now.functions.items)
         (map signature_of u.now.signatures.items) }
     ensures { IfOk result (λ fs. map final_fn_of fs.items ≡ last_functions (simpl_unit_of u.now)
@@ -123,6 +137,7 @@ fn functions(alloc: Global, u: &SimplUnit) -> Result<Vec<FinalFn>, AllocError>
             break;
         };
         made.push(translated(alloc, u, f, s)?)?;
+        progress.done(Work::Translation, made.len(), u.functions.len());
         functions = others;
         signatures = behind;
     }

@@ -16,7 +16,7 @@ use Rattle.checking.proofs.OneText.{one_index, fewer_than_bytes}
 use Rattle.checking.proofs.texts.check_each.Goals as goal
 
 pub functions-init : goal.functions-init
-functions-init c =
+functions-init g c =
     let u = simpl_unit_of c.args.u.now in
     let left = ap (map simpl_fn_of) c.as_slice-left.ensures.value in
     let signed = ap (map signature_of) c.as_slice-signed.ensures.value in
@@ -33,10 +33,10 @@ functions-init c =
     }
 
 pub check_at-requires-clause-results : goal.check_at-requires-clause-results
-check_at-requires-clause-results c = results_there (simpl_unit_of c.args.u.now) c.requires.formed
+check_at-requires-clause-results g c = results_there (simpl_unit_of c.args.u.now) c.requires.formed
 
 pub returns-in-Err : goal.returns-in-Err
-returns-in-Err c = λ d is.
+returns-in-Err g c = λ d is.
     let u = simpl_unit_of c.args.u.now in
     let l = ap length c.in-Some.ensures.cases.0 in (
       c.functions.at,
@@ -56,7 +56,7 @@ returns-in-Err c = λ d is.
     )
 
 pub overflow_add-at : goal.overflow_add-at
-overflow_add-at c =
+overflow_add-at g c =
     let (d, is, same) = c.requires.scanned in
     let n = code_length c.args.index.now d same in
     let few = fewer_than_bytes c.args.bytes.now d is in
@@ -64,7 +64,7 @@ overflow_add-at c =
     omega (arith, n, few, l, c.functions.invariant.counted, c.requires.short)
 
 pub functions-preserved : goal.functions-preserved
-functions-preserved c =
+functions-preserved g c =
     let u = simpl_unit_of c.args.u.now in
     let l = ap length c.in-Some.ensures.cases.0 in
     let p = ap (map simpl_fn_of) c.in-Some.ensures.cases.0 in
@@ -84,7 +84,7 @@ functions-preserved c =
     }
 
 pub returns : goal.returns
-returns c = λ d is.
+returns g c = λ d is.
     let u = simpl_unit_of c.args.u.now in
     let none : c.functions.left.now ≡ [] = nil_from_length c.functions.left.now c.in_default.ensures.cases in
     let l = ap length none in

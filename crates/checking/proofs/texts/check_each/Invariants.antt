@@ -7,11 +7,11 @@ use Rattle.checking.proofs.Along.{IsLeft}
 use Rattle.checking.proofs.texts.check_each.Given as goal
 
 abbrev pub invariant-functions : goal.invariant-functions
-invariant-functions l = record {
+invariant-functions g l = record {
   ready : are_ready (map simpl_fn_of l.left) (map signature_of l.signed) ≡ true;
   whole : IsLeft (simpl_unit_of l.u) l.bytes l.at (map simpl_fn_of l.left) (map signature_of l.signed);
   counted : l.at + length l.left ≡ length l.index.functions.items;
 }
 
 abbrev pub decreases-functions : goal.decreases-functions
-decreases-functions l = length l.left
+decreases-functions g l = length l.left

@@ -9,7 +9,7 @@ use Rattle.checking.proofs.Certified.{for_target, for_another}
 use Rattle.checking.proofs.verdicts.of_index.Goals as goal
 
 pub returns-then-is_for : goal.returns-then-is_for
-returns-then-is_for c =
+returns-then-is_for g c =
     let (d, is, same) = c.requires.scanned in
     let version = ap (λ (i : Index). target_for i.version) same in
     of_result c.verdict.result _ _
@@ -17,7 +17,7 @@ returns-then-is_for c =
     (c.verdict.ensures d is)
 
 pub returns-in_ok-line : goal.returns-in_ok-line
-returns-in_ok-line c =
+returns-in_ok-line g c =
     let (d, is, same) = c.requires.scanned in
     let version = ap (λ (i : Index). target_for i.version) same in
     for_another (types.target_of c.args.target) (unit_of c.args.unit.now) c.args.text.now d is c.in_ok-line.field-0.status c.in_ok-line.field-0.lines.items

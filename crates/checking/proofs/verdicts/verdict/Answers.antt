@@ -9,7 +9,7 @@ use Rattle.checking.proofs.OneText.{one_index}
 use Rattle.checking.proofs.verdicts.verdict.Goals as goal
 
 pub returns-in_ok-refusal-in-Some : goal.returns-in_ok-refusal-in-Some
-returns-in_ok-refusal-in-Some c = λ d is. (
+returns-in_ok-refusal-in-Some g c = λ d is. (
   c.in_ok-refusal-in-Some.ensures.0,
   differs (unit_of c.args.unit.now) d.functions c.in-Some.at c.in-Some.name.now No c.in_ok-refusal-in-Some.field-0.lines.items
       (sym (typed_apart_there c.args.index d (one_index c.args.text.now (index_in c.args.index) d c.requires.scanned is) c.args.unit.now.functions.items)
@@ -18,6 +18,6 @@ returns-in_ok-refusal-in-Some c = λ d is. (
 )
 
 pub verdict_on_listed-requires-clause-listed : goal.verdict_on_listed-requires-clause-listed
-verdict_on_listed-requires-clause-listed c = λ d is.
+verdict_on_listed-requires-clause-listed g c = λ d is.
     sym (typed_apart_there c.args.index d (one_index c.args.text.now (index_in c.args.index) d c.requires.scanned is) c.args.unit.now.functions.items)
     ∙ sym (ap₂ typed_apart c.deref.ensures.value c.deref-2.ensures.value) ∙ sym c.in-None.ensures

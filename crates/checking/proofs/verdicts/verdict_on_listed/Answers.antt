@@ -27,15 +27,15 @@ told : (i : I.CertIndex) (d : Certificate) (m : Modes) (es : List E.FunEntry) �
 told i d m es is same h = h ∙ ap (map (λ (e : E.FunEntry). level_of e.level)) same ∙ code_levels i d is
 
 pub generate-requires : goal.generate-requires
-generate-requires c =
+generate-requires g c =
     let (d, is, same) = c.requires.scanned in
     let k = length-map c.args.unit.now.functions.items function_of in
     let l = long_enough (unit_of c.args.unit.now) d.functions (c.requires.listed d is) c.in_ok-modes.modes
     (told c.args.index d c.in_ok-modes.modes c.deref.result.now same c.deref.ensures.value c.in_ok-modes.ensures) in
     omega (arith, k, l)
 
-pub check_text-requires-clause-formed : goal.check_text-requires-clause-formed
-check_text-requires-clause-formed c =
+pub check_telling-requires-clause-formed : goal.check_telling-requires-clause-formed
+check_telling-requires-clause-formed g c =
     let (d, is, same) = c.requires.scanned in
     let none = c.requires.listed d is in
     well_formed (unit_of c.args.unit.now) d.functions none c.requires.typed (simpl_unit_of c.in_ok-generated.generated)
@@ -43,8 +43,8 @@ check_text-requires-clause-formed c =
     (levels_are (unit_of c.args.unit.now) d.functions none c.requires.typed c.in_ok-modes.modes
     (told c.args.index d c.in_ok-modes.modes c.deref.result.now same c.deref.ensures.value c.in_ok-modes.ensures)))
 
-pub check_text-requires-clause-at_levels : goal.check_text-requires-clause-at_levels
-check_text-requires-clause-at_levels c = λ d is.
+pub check_telling-requires-clause-at_levels : goal.check_telling-requires-clause-at_levels
+check_telling-requires-clause-at_levels g c = λ d is.
     let none = c.requires.listed d is in
     let same = one_index c.args.text.now (index_in c.args.index) d c.requires.scanned is in
     at_levels (unit_of c.args.unit.now) d.functions none c.requires.typed (simpl_unit_of c.in_ok-generated.generated)
@@ -53,7 +53,7 @@ check_text-requires-clause-at_levels c = λ d is.
     (told c.args.index d c.in_ok-modes.modes c.deref.result.now same c.deref.ensures.value c.in_ok-modes.ensures)))
 
 pub returns-in-Ok : goal.returns-in-Ok
-returns-in-Ok c = λ d is.
+returns-in-Ok g c = λ d is.
     let none = c.requires.listed d is in
     let same = one_index c.args.text.now (index_in c.args.index) d c.requires.scanned is in
     let are = levels_are (unit_of c.args.unit.now) d.functions none c.requires.typed c.in_ok-modes.modes
@@ -63,14 +63,14 @@ returns-in-Ok c = λ d is.
       is_text = is;
       listed = none;
       accepted = is_accepted (unit_of c.args.unit.now) d.functions none c.requires.typed (simpl_unit_of c.in_ok-generated.generated) made
-          (subst (λ r. IsAnswer (simpl_unit_of c.in_ok-generated.generated) d.functions (answer_of r)) c.in-Ok.is (c.in_ok-check_text.ensures.answer d is));
+          (subst (λ r. IsAnswer (simpl_unit_of c.in_ok-generated.generated) d.functions (answer_of r)) c.in-Ok.is (c.in_ok-check_telling.ensures.answer d is));
       index = same;
       levels = are;
       generated = made;
     }
 
 pub returns-in_ok-refused_line-in-Err : goal.returns-in_ok-refused_line-in-Err
-returns-in_ok-refused_line-in-Err c = λ d is.
+returns-in_ok-refused_line-in-Err g c = λ d is.
     let none = c.requires.listed d is in
     let same = one_index c.args.text.now (index_in c.args.index) d c.requires.scanned is in
     let few = fewer_than_bytes c.args.text.now d is in (
@@ -80,6 +80,6 @@ returns-in_ok-refused_line-in-Err c = λ d is.
           (levels_are (unit_of c.args.unit.now) d.functions none c.requires.typed c.in_ok-modes.modes
           (told c.args.index d c.in_ok-modes.modes c.deref.result.now same c.deref.ensures.value c.in_ok-modes.ensures)))
           (omega (arith, few, c.requires.short)) (refused_of c.in-Err.refused) No c.in_ok-refused_line-in-Err.field-0.lines.items
-          (subst (λ r. IsAnswer (simpl_unit_of c.in_ok-generated.generated) d.functions (answer_of r)) c.in-Err.is (c.in_ok-check_text.ensures.answer d is))
+          (subst (λ r. IsAnswer (simpl_unit_of c.in_ok-generated.generated) d.functions (answer_of r)) c.in-Err.is (c.in_ok-check_telling.ensures.answer d is))
           (refl, c.in_ok-refused_line-in-Err.ensures.1),
     )

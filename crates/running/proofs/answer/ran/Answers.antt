@@ -8,7 +8,7 @@ use Rattle.running.proofs.Answered.{after_certificate}
 use Rattle.running.proofs.answer.ran.Goals as goal
 
 pub returns-in-Ok : goal.returns-in-Ok
-returns-in-Ok c =
+returns-in-Ok g c =
     let target = types.target_of c.args.target in
     let unit = unit_of c.args.unit.now in
     let (d, for_target, a) = subst (IsJudged target c.args.certificate.now unit) c.in-Ok.is c.in_ok-accepted.ensures.judged in

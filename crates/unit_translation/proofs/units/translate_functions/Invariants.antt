@@ -9,11 +9,11 @@ use Rattle.unit_translation.specs.CodeTranslated.{AllReadyToLift}
 use Rattle.unit_translation.proofs.units.translate_functions.Given as goal
 
 abbrev pub invariant-functions : goal.invariant-functions
-invariant-functions l = record {
+invariant-functions g l = record {
   made : map steps_of l.made.items ++ all_steps_with tidy_last same_exp (simpl_unit_of l.u) (map simpl_fn_of l.functions) (map signature_of l.signatures)
       ≡ tidy_certificate same_exp (simpl_unit_of l.u);
   ready : AllReadyToLift (map simpl_fn_of l.functions) (map signature_of l.signatures);
 }
 
 abbrev pub decreases-functions : goal.decreases-functions
-decreases-functions l = length l.functions
+decreases-functions g l = length l.functions

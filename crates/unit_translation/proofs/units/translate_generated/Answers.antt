@@ -9,12 +9,12 @@ use Rattle.unit_translation.proofs.LastUnit.{made_is_last}
 use Rattle.unit_translation.proofs.units.translate_generated.Goals as goal
 
 pub returns-clause-last : goal.returns-clause-last
-returns-clause-last c =
-    let g = simpl_unit_of c.args.u in
-    ap (λ fs. let v : FinalUnit = record { layout = g.layout; globals = g.globals; functions = fs } in v) c.in_ok-functions.ensures
-    ∙ made_is_last g
+returns-clause-last g c =
+    let u = simpl_unit_of c.args.u in
+    ap (λ fs. let v : FinalUnit = record { layout = u.layout; globals = u.globals; functions = fs } in v) c.in_ok-functions.ensures
+    ∙ made_is_last u
 
 pub returns-clause-tidy : goal.returns-clause-tidy
-returns-clause-tidy c =
-    let g = simpl_unit_of c.args.u in
-    subst (λ (v : FinalUnit). AreTidy v.functions) (sym (returns-clause-last c)) (last_are_tidy same_exp g g.functions g.signatures)
+returns-clause-tidy g c =
+    let u = simpl_unit_of c.args.u in
+    subst (λ (v : FinalUnit). AreTidy v.functions) (sym (returns-clause-last g c)) (last_are_tidy same_exp u u.functions u.signatures)

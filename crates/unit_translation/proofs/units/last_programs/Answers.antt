@@ -18,7 +18,7 @@ use Rattle.unit_translation.proofs.ReadyToLift.{generated_are_ready}
 use Rattle.unit_translation.proofs.LastUnit.{certificate_is_accepted, made_is_exact}
 use Rattle.unit_translation.proofs.LevelsThere.{levels_of, are_levels}
 use Rattle.unit_translation.proofs.Formed.{last_formed, last_programs, last_forms}
-use Rattle.unit_translation.proofs.units.translate_unit.Goals as goal
+use Rattle.unit_translation.proofs.units.last_programs.Goals as goal
 
 on_ok : {T E : Type 0} (r : Result T E) (P Q : T → Type 0) → ((x : T) → P x → Q x) → IfOk r P → IfOk r Q
 on_ok (Ok x) P Q f h = f x h
