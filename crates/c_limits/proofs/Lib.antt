@@ -5,3 +5,5 @@ pub mod LimitsFound
 pub mod LimitsSteps
 pub mod LimitsLevels
 pub mod LimitsStatements
+pub mod CountSteps
+pub mod Counted
