@@ -56,7 +56,8 @@ pub(crate) fn push_kind(out: &mut Vec<u8>, kind: Kind) -> Result<(), AllocError>
 
 /// The names of a step's values, and the arrow behind them.
 pub(crate) fn push_names(out: &mut Vec<u8>, names: &[String]) -> Result<(), AllocError>
-    ensures { OnOk result (out.new.items ≡ out.old.items ++ names_text (map string_bytes names.now)) }
+    ensures { OnOk result (out.new.items ≡ out.old.items ++ names_text
+        (map string_bytes names.now)) }
 {
     if names.is_empty() {
         return Ok(());
@@ -112,7 +113,8 @@ pub(crate) fn push_loop(
     test: &Exp,
 ) -> Result<(), AllocError>
     ensures { OnOk result (out.new.items
-        ≡ out.old.items ++ loop_text (map start_of starts.now) (exp_of guard.now) (exp_of test.now)) }
+        ≡ out.old.items ++ loop_text (map start_of starts.now) (exp_of guard.now)
+        (exp_of test.now)) }
 {
     push(out, "loop")?;
     push_behind_space(out, starts)?;

@@ -86,7 +86,8 @@ impl<P: Progress> Task for Runs<'_, P> {
 
     ghost target_for = { λ task. types.target_of task.target };
 
-    ghost answers = { λ task. IsRan (types.target_of task.target) task.certificate.now task.memory.now };
+    ghost answers = { λ task. IsRan (types.target_of task.target) task.certificate.now
+        task.memory.now };
 
     fn target(&self) -> Target {
         self.target

@@ -50,7 +50,8 @@ fn calls_only_lifted(signatures: &[Signature], body: &Simpl) -> bool
 
 // Whether there is a function of the name, and it is on typed heaps.
 fn is_lifted(signatures: &[Signature], name: &str) -> bool
-    ensures { result ≡ is_lifted_there (plain.signature (map signature_of signatures.now) name.now) }
+    ensures { result ≡ is_lifted_there
+        (plain.signature (map signature_of signatures.now) name.now) }
 {
     match signature(signatures, name) {
         Some(s) => matches!(s.level, Level::Words | Level::Numbers),

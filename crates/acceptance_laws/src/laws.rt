@@ -48,5 +48,6 @@ pub fn translations_are_accepted()
         ((e : Exp) → same e e ≡ true) → (u : TypedUnit) → IsWellTyped u → (levels : Name → Level) →
         CallsLifted levels u.functions →
         IsAccepted (generated u levels) (tidy_certificate same (generated u levels))
-        × AreTidy (last_unit (generated u levels) (tidy_certificate same (generated u levels))).functions }
+        × AreTidy (last_unit (generated u levels)
+        (tidy_certificate same (generated u levels))).functions }
 {}

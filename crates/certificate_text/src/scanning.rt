@@ -46,7 +46,8 @@ pub fn scan(alloc: Global, bytes: &[u8]) -> Result<CertIndex, TextFault>
     // .. and where there is a cause, there is its error, unless memory runs out.
     ensures no_text { (at : ℕ) → IsNoText bytes.now at → IsRefusedAs result TextFault.NotText }
     ensures deep { (at : ℕ) → OpensTooDeep bytes.now at → IsRefusedAs result TextFault.Deep }
-    ensures shape { (t : Tree) (at : ℕ) → IsTextOf bytes.now t → reading.certificate_at 0 t ≡ Err at →
+    ensures shape { (t : Tree) (at : ℕ) → IsTextOf bytes.now t → reading.certificate_at 0 t
+        ≡ Err at →
         IsRefused result at }
 {
     match parts(alloc, bytes) {
@@ -123,7 +124,8 @@ fn index_from(
     parts: &[SxPart],
     at: u32,
 ) -> Result<(CertIndex, u32), TextFault>
-    requires there { (ts : Trees) × AreAt text.now (length (front (version_of version))) parts.now ts }
+    requires there { (ts : Trees) × AreAt text.now
+        (length (front (version_of version))) parts.now ts }
     requires room { length text.now < 2 ^ 32 }
     ensures { (ts : Trees) → AreAt text.now (length (front (version_of version))) parts.now ts →
         Gives index_in result (made index_of (reading.functions_at (version_of version) at ts)) }

@@ -10,7 +10,8 @@ use std::alloc::{AllocError, Global};
 
 /// The tree that bytes spell, by way of this table.
 pub(crate) fn spelt_tree(alloc: Global, bytes: &[u8], terms: &mut Terms) -> Result<Sx, AllocError>
-    requires spelt { (tree : Tree) × IsTree tree × (depth tree ≤ deepest) × (bytes.now ≡ spelling tree) }
+    requires spelt { (tree : Tree) × IsTree tree × (depth tree ≤ deepest) ×
+        (bytes.now ≡ spelling tree) }
     requires room { length terms.old + length bytes.now < 2 ^ 32 }
     ensures tree { (tree : Tree) → IsTree tree → depth tree ≤ deepest → bytes.now ≡ spelling tree →
         IfOk result (λ found. tree_of found ≡ tree) }

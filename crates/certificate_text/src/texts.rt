@@ -33,7 +33,8 @@ pub fn read(alloc: Global, text: &[u8]) -> Result<Certificate, TextFault>
     // .. and where there is a cause, there is its error, unless memory runs out.
     ensures no_text { (at : ℕ) → IsNoText text.now at → IsRefusedAs result TextFault.NotText }
     ensures deep { (at : ℕ) → OpensTooDeep text.now at → IsRefusedAs result TextFault.Deep }
-    ensures shape { (t : Tree) (at : ℕ) → IsTextOf text.now t → reading.certificate_at 0 t ≡ Err at →
+    ensures shape { (t : Tree) (at : ℕ) → IsTextOf text.now t → reading.certificate_at 0 t
+        ≡ Err at →
         IsRefused result at }
 {
     match ac_sx::read(alloc, text) {

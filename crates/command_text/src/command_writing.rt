@@ -172,7 +172,8 @@ fn store_into<W: TreeWriter>(
     value: &Exp,
 ) -> Result<(), AllocError>
     ensures { OnOk result (W.state out.new ≡ written W.writing (W.state out.old)
-        (command_tree (plain.Store (type_of ty.now) (exp_of pointer.now) (path_of path.now) (exp_of value.now)))) }
+        (command_tree (plain.Store (type_of ty.now) (exp_of pointer.now) (path_of path.now)
+        (exp_of value.now)))) }
 {
     begin_list(out, CommandHead::Store.word())?;
     type_into(alloc, out, ty)?;
@@ -199,7 +200,8 @@ fn call_into<W: TreeWriter>(
     arguments: &[Exp],
 ) -> Result<(), AllocError>
     ensures { OnOk result (W.state out.new ≡ written W.writing (W.state out.old) (command_tree
-        (plain.Call (option_map string_bytes target.now) function.now (map exp_of arguments.now)))) }
+        (plain.Call (option_map string_bytes target.now) function.now
+        (map exp_of arguments.now)))) }
 {
     begin_list(out, CommandHead::Call.word())?;
     target_into(out, target)?;

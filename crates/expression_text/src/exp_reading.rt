@@ -208,7 +208,8 @@ fn first_two(parts: &[Sx]) -> Option<(&Sx, &Sx, &[Sx])>
 #[cycle(exps)]
 fn place_row(alloc: Global, at: u32, inner: u32, head: PlaceHead, parts: &[Sx]) -> Read
     ensures { Gives exp_of result
-        (rows.place_row at inner (place_in head) (rows.with_second (first_of (trees_in parts.now)))) }
+        (rows.place_row at inner (place_in head)
+        (rows.with_second (first_of (trees_in parts.now)))) }
 {
     let Some((ty, p, steps)) = first_two(parts) else {
         return Err(TextFault::Shape(at));

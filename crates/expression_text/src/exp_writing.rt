@@ -137,7 +137,8 @@ fn end_into<W: TreeWriter>(alloc: Global, out: &mut W, e: &Exp) -> Result<(), Al
 
 fn one_front<W: TreeWriter>(out: &mut W, one: One) -> Result<(), AllocError>
     ensures { OnOk result (W.state out.new ≡ all_written W.writing
-        (W.writing.put (W.writing.entered (W.state out.old)) (head_word (rows.one_head (one_in one))))
+        (W.writing.put (W.writing.entered (W.state out.old))
+        (head_word (rows.one_head (one_in one))))
         (widths (one_in one) no_trees)) }
 {
     begin_list(out, one_head(one).word())?;

@@ -154,7 +154,8 @@ pub(crate) fn global_set(
 ) -> Result<Lifted, AllocError>
     ensures { IfOk result (λ l. lifted_of l
         ≡ spec.leaf rules.Global
-        (M.Bind (M.Write (M.Global (string_bytes name.now) (path_of path.now)) (exp_of value.now)) []
+        (M.Bind (M.Write (M.Global (string_bytes name.now) (path_of path.now))
+        (exp_of value.now)) []
         (M.Ret (vars (map string_bytes outputs.now))))) }
 {
     let value = value.boxed_copy(alloc)?;

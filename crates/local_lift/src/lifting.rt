@@ -182,7 +182,8 @@ fn row_before_loop(
     ensures { IfOk result (λ before. (gs : List plain.Condition) (e : expressions.Exp)
         (a : plain.Simpl) →
         IsTurns locals.now gs e a turns.now → before.flags.items
-        ≡ marks (live (names locals.now) (plain.While gs e a) (among (map string_bytes outputs.now)))
+        ≡ marks (live (names locals.now) (plain.While gs e a)
+        (among (map string_bytes outputs.now)))
         locals.now) }
 {
     let after = row_of(alloc, locals, &IsOutput { outputs })?;

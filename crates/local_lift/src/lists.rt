@@ -35,7 +35,8 @@ pub(crate) fn vars(alloc: Global, names: &[String]) -> Result<Vec<Exp>, AllocErr
 // A name, or the value where the name is the one that takes it.
 fn var_with(alloc: Global, taking: &str, value: &Exp, name: &String) -> Result<Exp, AllocError>
     ensures { IfOk result (λ e. exp_of e
-        ≡ (if same_name taking.now (string_bytes name.now) then exp_of value.now else Var (string_bytes name.now))) }
+        ≡ (if same_name taking.now (string_bytes name.now) then exp_of value.now else Var
+        (string_bytes name.now))) }
 {
     if taking == name.as_str() {
         value.copy(alloc)

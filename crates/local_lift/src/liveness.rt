@@ -48,7 +48,8 @@ fn before_write(
     rows: Vec<Row>,
 ) -> Result<Vec<Row>, AllocError>
     ensures { IfOk result (λ before. (x : Name) → Moves locals.now
-        (live (names locals.now) (plain.SetGlobal x (path_of path.now) (exp_of value.now))) rows.items
+        (live (names locals.now) (plain.SetGlobal x (path_of path.now)
+        (exp_of value.now))) rows.items
         before.items) }
 {
     let named = row_of(alloc, locals, &IsNamedByWrite { path, value })?;
@@ -130,7 +131,8 @@ fn before_test(
     ensures { IfOk result (λ before. (rows : List Row) (a b : plain.Simpl) →
         Moves locals.now (live (names locals.now) a) rows lefts.items →
         Moves locals.now (live (names locals.now) b) rows rights.items →
-        Moves locals.now (live (names locals.now) (plain.Cond (exp_of test.now) a b)) rows before.items) }
+        Moves locals.now (live (names locals.now)
+        (plain.Cond (exp_of test.now) a b)) rows before.items) }
 {
     let named = row_of(alloc, locals, &IsNamed { exp: test })?;
     let tested = all_added(alloc, &named, lefts)?;
@@ -147,7 +149,8 @@ fn before_guard(
 ) -> Result<Vec<Row>, AllocError>
     ensures { IfOk result (λ before. (others : List Row) (a : plain.Simpl) →
         Moves locals.now (live (names locals.now) a) others rows.items →
-        Moves locals.now (live (names locals.now) (plain.Guard (condition_of condition.now) a)) others
+        Moves locals.now (live (names locals.now)
+        (plain.Guard (condition_of condition.now) a)) others
         before.items) }
 {
     let named = row_of(
@@ -246,7 +249,8 @@ fn lived_behind(
     requires fronts { AreRight locals.now fronts.now }
     requires last { IsRight locals.now last.now }
     ensures { IfOk result (λ before. Moves locals.now
-        (live (names locals.now) (around fronts.now (command_of last.now))) rows.items before.items) }
+        (live (names locals.now) (around fronts.now
+        (command_of last.now))) rows.items before.items) }
 {
     let mut before = lived(alloc, locals, last, rows)?;
     let mut rest = fronts;

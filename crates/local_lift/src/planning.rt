@@ -250,7 +250,8 @@ fn in_turns<'a>(
 ) -> Result<Planned<'a>, AllocError>
     requires { IsRight locals.now body.plan.value }
     ensures { IfOk result (λ p. (a : plain.Simpl) → IsPlanned locals.now body.entry a →
-        IsPlanned locals.now p (plain.While (map condition_of conditions.now) (exp_of test.now) a)) }
+        IsPlanned locals.now p (plain.While (map condition_of conditions.now)
+        (exp_of test.now) a)) }
 {
     let turns = turns_of(alloc, locals, conditions, test, &body.plan)?;
     let assigned = copy_of_row(alloc, &body.assigned)?;

@@ -50,11 +50,13 @@ pub fn translate(
     ensures lifted { IfOk result (λ (right, tree).
         IsReady (context_of context.entry) (simpl_of left.now) (map string_bytes outputs.now) →
         SameLifted (mon_of right.value) (tree_of tree)
-        (locals_lifted (context_of context.entry) (simpl_of left.now) (map string_bytes outputs.now))) }
+        (locals_lifted (context_of context.entry) (simpl_of left.now)
+        (map string_bytes outputs.now))) }
     ensures taken { IfOk result (λ (right, tree).
         IsReady (context_of context.entry) (simpl_of left.now) (map string_bytes outputs.now) →
         is_flat (simpl_of left.now) ≡ true →
-        TakesWhole (context_of context.entry) (tree_of tree) (simpl_of left.now) (mon_of right.value)
+        TakesWhole (context_of context.entry) (tree_of tree) (simpl_of left.now)
+        (mon_of right.value)
         (map string_bytes outputs.now)) }
     ensures bytes { IfOk result (λ (right, tree).
         IsReady (context_of context.entry) (simpl_of left.now) (map string_bytes outputs.now) →
@@ -73,7 +75,8 @@ fn lifted_body(
     ensures { IfOk result (λ l. are_kinds (kinds_of (map binder_of context.entry.locals.now))
         ≡ true →
         lifted_of l
-        ≡ whole_by_live (context_of context.entry) (simpl_of left.now) (map string_bytes outputs.now)) }
+        ≡ whole_by_live (context_of context.entry) (simpl_of left.now)
+        (map string_bytes outputs.now)) }
 {
     let command = plan_of(alloc, context.locals, left)?;
     let inner = lift(alloc, context.locals, &command.plan, outputs)?;
@@ -131,7 +134,8 @@ fn zeros(alloc: Global, locals: &[Binder], names: &[String]) -> Result<Vec<Exp>,
 #[tactic(auto, using(crate::proofs::ListLaws::mapped_push, crate::proofs::ListLaws::begun_here, crate::proofs::ListLaws::begun_later))]
 fn begun_names(alloc: Global, context: Context<'_>, row: &Row) -> Result<Vec<String>, AllocError>
     ensures { IfOk result (λ names. map string_bytes names.items
-        ≡ begun_in (context_of context.entry).parameters context.entry.locals.now row.now.flags.items) }
+        ≡ begun_in (context_of context.entry).parameters context.entry.locals.now
+        row.now.flags.items) }
 {
     let mut names = Vec::new(alloc);
     let mut left = context.locals;

@@ -50,7 +50,8 @@ pub(crate) fn values_at(
     inner: u32,
 ) -> Result<(Vec<Value>, u32), TextFault>
     ensures { Gives (λ values. values_in values.items) result
-        (reading.counted at (trees_in parts.now) (Some (map (shape_of layout.now) (types_in types.entry)))
+        (reading.counted at (trees_in parts.now)
+        (Some (map (shape_of layout.now) (types_in types.entry)))
         (λ shapes. reading.values_at layout.now.target shapes inner (trees_in parts.now))) }
 {
     if parts.len() != types.len() {

@@ -121,7 +121,8 @@ pub(crate) fn started(
     starts: &[Start],
 ) -> Result<Vec<Binding>, AllocError>
     ensures { IfOk result (λ bound. let ss = map start_of starts.now in
-        (names : Name → Option Plain) → names_with (names_of bound.items) (scalars_of bound.items) names
+        (names : Name → Option Plain) → names_with (names_of bound.items)
+        (scalars_of bound.items) names
         ≡ names_with (start_names ss)
         (unwrap_or (start_scalars (setting_in scope.now unit.entry).scope ss) []) names) }
 {

@@ -66,7 +66,8 @@ fn turned_once<'a, 'x>(
         ≡ Bind (mon_of inner.first.now) (map string_bytes inner.names.now) (mon_of inner.last.now) }
     requires turns { turns (mon_of here.first.now) (map string_bytes it.names.now)
         (mon_of it.last.now) ≡ true }
-    ensures leads { IfOk result (λ new. LeadsOn unit.entry scope.now (map string_bytes it.entry.names.now)
+    ensures leads { IfOk result (λ new. LeadsOn unit.entry scope.now
+        (map string_bytes it.entry.names.now)
         (mon_of it.entry.last.now) here.entry new) }
     ensures first { IfOk result (λ new. new.first.now ≡ inner.entry.last.now) }
 {

@@ -35,7 +35,8 @@ impl Setting<'_> {
     ) -> Result<Value, Stop>
         requires env { AreScalars env.now.items }
         requires state { IsStateOf H.content self.now.unit.now state.now }
-        requires sorted { IsSome (sort_of (scope_of self.now.unit.now env.now.items) (exp_of e.now)) }
+        requires sorted { IsSome (sort_of (scope_of self.now.unit.now env.now.items)
+            (exp_of e.now)) }
         ensures value { IfOk result (λ v. value_of v
             ≡ value self.now.unit.now.layout (env_of env.now.items)
             (state_in H.content self.now.unit.now state.now) (exp_of e.now)) }
@@ -64,7 +65,8 @@ impl Setting<'_> {
     pub(crate) fn test<H: Heap>(&self, e: &Exp, env: &Env, state: &AState<H>) -> Result<bool, Stop>
         requires env { AreScalars env.now.items }
         requires state { IsStateOf H.content self.now.unit.now state.now }
-        requires sorted { IsSome (sort_of (scope_of self.now.unit.now env.now.items) (exp_of e.now)) }
+        requires sorted { IsSome (sort_of (scope_of self.now.unit.now env.now.items)
+            (exp_of e.now)) }
         ensures value { IfOk result (λ b. b
             ≡ holds self.now.unit.now.layout (env_of env.now.items)
             (state_in H.content self.now.unit.now state.now) (exp_of e.now)) }

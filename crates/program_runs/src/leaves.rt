@@ -113,7 +113,8 @@ impl<'a> Setting<'a> {
         requires unit { IsWellFormed (final_unit_of self.now.unit.now) }
         requires state { IsStateOf H.content self.now.unit.now state.now }
         requires sorted { CanRun (final_unit_of self.now.unit.now) env.now.items
-            (Loop (map start_of starts.now) (exp_of guard.now) (exp_of test.now) (mon_of body.now)) }
+            (Loop (map start_of starts.now) (exp_of guard.now) (exp_of test.now)
+            (mon_of body.now)) }
         ensures leads { IfOk result (λ next. Leads (final_unit_of self.now.unit.now) self.now.fill
             env.now.items
             (Loop (map start_of starts.now) (exp_of guard.now) (exp_of test.now) (mon_of body.now))

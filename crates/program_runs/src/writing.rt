@@ -94,7 +94,8 @@ impl<'a> Setting<'a> {
         requires unit { IsWellFormed (final_unit_of self.now.unit.now) }
         requires state { IsStateOf H.content self.now.unit.now state.old }
         requires sorted { CanRun (final_unit_of self.now.unit.now) env.now.items
-            (Write (Stored (type_of t.now) (exp_of pointer.now) (path_of path.now)) (exp_of e.now)) }
+            (Write (Stored (type_of t.now) (exp_of pointer.now) (path_of path.now))
+            (exp_of e.now)) }
         ensures state { OnOk result (IsStateOf H.content self.now.unit.now state.new) }
         ensures writes { OnOk result (Writes (final_unit_of self.now.unit.now) env.now.items
             (Stored (type_of t.now) (exp_of pointer.now) (path_of path.now)) (exp_of e.now)

@@ -82,7 +82,8 @@ fn start_row(
     parts: &[Sx],
 ) -> Result<(Start, u32), TextFault>
     ensures { Gives start_of result
-        (rows.start_row at (map (λ s. (start_of s).name) before.now) (two_of (trees_in parts.now))) }
+        (rows.start_row at (map (λ s. (start_of s).name) before.now)
+        (two_of (trees_in parts.now))) }
 {
     let Some((name, exp)) = two(parts) else {
         return Err(TextFault::Shape(at));

@@ -101,7 +101,8 @@ fn binds_into<'a, W: TreeWriter>(
     out: &mut W,
     m: &'a Mon,
 ) -> Result<&'a Mon, AllocError>
-    ensures same { IfOk result (λ last. written W.writing (W.state out.new) (mon_tree (mon_of last.now))
+    ensures same { IfOk result (λ last. written W.writing (W.state out.new)
+        (mon_tree (mon_of last.now))
         ≡ all_written W.writing (W.state out.old) (sequence_parts (mon_of m.now))) }
     ensures smaller { IfOk result (λ last. size-Mon last.now < size-Mon m.now + 1) }
 {

@@ -190,7 +190,8 @@ fn is_write(left: &Mon, right: &Mon, context: Context<'_>) -> bool
 // The guard of a pointer that a program begins with, and what is behind it.
 pub(crate) fn ptr_ok_first(m: &Mon) -> Option<(&CType, &Exp, &Box<Mon>)>
     ensures some { IfSome result (λ (t, p, n). mon_of m.now
-        ≡ programs.Bind (programs.Guard (plain.PtrOk (type_of t.now) (exp_of p.now))) [] (mon_of n.now.value)) }
+        ≡ programs.Bind (programs.Guard (plain.PtrOk (type_of t.now) (exp_of p.now))) []
+        (mon_of n.now.value)) }
     ensures none { (t : types.CType) (p : plain.Exp) (n : programs.Mon) → IfNone result
         (mon_of m.now ≡ programs.Bind (programs.Guard (plain.PtrOk t p)) [] n → ⊥) }
 {
@@ -211,7 +212,8 @@ pub(crate) fn ptr_ok_first(m: &Mon) -> Option<(&CType, &Exp, &Box<Mon>)>
 // The same of the guard that a root is covered.
 pub(crate) fn tagged_first(m: &Mon) -> Option<(&CType, &Exp, &Box<Mon>)>
     ensures some { IfSome result (λ (t, p, n). mon_of m.now
-        ≡ programs.Bind (programs.Guard (plain.Tagged (type_of t.now) (exp_of p.now))) [] (mon_of n.now.value)) }
+        ≡ programs.Bind (programs.Guard (plain.Tagged (type_of t.now) (exp_of p.now))) []
+        (mon_of n.now.value)) }
     ensures none { (t : types.CType) (p : plain.Exp) (n : programs.Mon) → IfNone result
         (mon_of m.now ≡ programs.Bind (programs.Guard (plain.Tagged t p)) [] n → ⊥) }
 {

@@ -398,7 +398,8 @@ fn checked_step(
     requires asked { (row context.layout.now (facts_at context)
         (rule_of rule.now) (mon_of left.now) (mon_of right.now)).holds }
     ensures { Checked (table_at context.entry) (tree_of tree.now)
-        (step_claim (facts_at context.entry) (rule_of rule.now) (mon_of left.now) (mon_of right.now)) at result }
+        (step_claim (facts_at context.entry) (rule_of rule.now) (mon_of left.now)
+        (mon_of right.now)) at result }
 {
     match rule {
         Rule::Pointer => {

@@ -20,7 +20,8 @@ use expression_lang::{Exp, Path};
 /// Whether a place is known to be covered and its path to be in range.
 pub(crate) fn is_place(t: &CType, p: &Exp, path: &Path, context: Context<'_>) -> bool
     ensures { IsTrue result
-        ↔ IsPlace context.entry.layout.now (facts_at context.entry) (type_of t.now) (exp_of p.now) (path_of path.now) }
+        ↔ IsPlace context.entry.layout.now (facts_at context.entry) (type_of t.now) (exp_of p.now)
+        (path_of path.now) }
 {
     is_covered(t, p, context) && are_in_range(path, t, context)
 }

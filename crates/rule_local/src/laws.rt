@@ -23,9 +23,11 @@ ghost use Rattle.rule_local.specs.Units.{IsUnitLiftedTo, UnitsKeepLocals};
 /// What the rules take a command to stands for the command: a part from wherever both sides agree
 /// on what the right side looks at, and the body of a function from its start.
 pub fn taken_is_exact()
-    ensures part { (ctx : Context) (t : Tree Rule) (left : Simpl) (right : Mon) (outputs : List Name) →
+    ensures part { (ctx : Context) (t : Tree Rule) (left : Simpl) (right : Mon)
+        (outputs : List Name) →
         Takes ctx t left right outputs → StandsFor ctx left right outputs }
-    ensures body { (ctx : Context) (t : Tree Rule) (left : Simpl) (right : Mon) (outputs : List Name) →
+    ensures body { (ctx : Context) (t : Tree Rule) (left : Simpl) (right : Mon)
+        (outputs : List Name) →
         TakesWhole ctx t left right outputs → StandsForWhole ctx left right outputs }
 {}
 
@@ -45,7 +47,8 @@ pub fn locals_are_lifted()
     ensures taken { (ctx : Context) (a : Simpl) (outputs : List Name) → is_flat a ≡ true →
         ((x : Name) → command_names x a ≡ true → is_among x (names_of ctx.locals) ≡ true) →
         ((x : Name) → is_among x outputs ≡ true → is_among x (names_of ctx.locals) ≡ true) →
-        TakesWhole ctx (locals_lifted ctx a outputs).tree a (locals_lifted ctx a outputs).right outputs }
+        TakesWhole ctx (locals_lifted ctx a outputs).tree a
+        (locals_lifted ctx a outputs).right outputs }
     ensures bytes { (ctx : Context) (a : Simpl) (outputs : List Name) → is_bytes_command a ≡ true →
         is_bytes (locals_lifted ctx a outputs).right ≡ true }
     ensures unit { (u : SimplUnit) → IsWellFormed u → AllFlat u.functions →
@@ -57,11 +60,13 @@ pub fn locals_are_lifted()
 
 /// A loop hands on the least names that meet its condition: whatever meets it has them all.
 pub fn loops_hand_on_the_least()
-    ensures { (locals : List Binder) (guards : List Condition) (test : Exp) (body : Simpl) (outputs names : List Name) →
+    ensures { (locals : List Binder) (guards : List Condition) (test : Exp) (body : Simpl)
+        (outputs names : List Name) →
         Carries names body (is_needed (conj guards) test (lifted locals body names).right outputs) →
         (x : Name) →
         is_among x
-        (handed_on (names_of locals) guards test body (λ given. (lifted locals body given).right) outputs)
+        (handed_on (names_of locals) guards test body
+        (λ given. (lifted locals body given).right) outputs)
         ≡ true →
         is_among x names ≡ true }
 {}

@@ -276,7 +276,8 @@ pub(crate) fn program_then<'a>(
     kinds: &'a [Kind],
 ) -> Then<'a>
     ensures { (ctx : names.Context) (at : names.Point) → thens_at ctx at result
-        ≡ program_thens at (rule_of rule.now) (mon_of left.now) (mon_of right.now) (map kind_of kinds.now) }
+        ≡ program_thens at (rule_of rule.now) (mon_of left.now) (mon_of right.now)
+        (map kind_of kinds.now) }
 {
     match rule {
         Rule::If => branches(left, right, kinds),
@@ -301,7 +302,8 @@ fn branches<'a>(left: &'a Mon, right: &'a Mon, kinds: &'a [Kind]) -> Then<'a>
 fn turn<'a>(left: &'a Mon, right: &'a Mon, js: &'a [Kind]) -> Then<'a>
     ensures { (ctx : names.Context) (at : names.Point) (ks : List sorts.Kind) →
         thens_at ctx at result
-        ≡ program_thens at (names.Loop (map kind_of js.now)) (mon_of left.now) (mon_of right.now) ks }
+        ≡ program_thens at (names.Loop (map kind_of js.now)) (mon_of left.now)
+        (mon_of right.now) ks }
 {
     match left {
         Mon::Loop(_, guard, test, m) => match right {

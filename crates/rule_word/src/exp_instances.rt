@@ -32,7 +32,8 @@ pub(crate) fn is_exp_asked(
     requires fits { FitsAt context point (exp_of left.now) view }
     requires kinds { HasKinds point.names.now }
     ensures { IsTrue result
-        ↔ (row_at context.entry point.entry (rule_of rule.now) (exp_of left.now) view (exp_of right.now)).holds }
+        ↔ (row_at context.entry point.entry (rule_of rule.now) (exp_of left.now) view
+        (exp_of right.now)).holds }
 {
     match rule {
         Rule::Var => is_var(left, view, right, context, point),
@@ -85,7 +86,8 @@ fn is_view_for(kind: Kind, view: View) -> bool
 // Whether a name is in scope, and seen so.
 fn is_name_seen(name: &str, view: View, names: &Kinds<'_>) -> bool
     ensures { IsTrue result ↔ (names_in view_for (binders_in names.now) name.now
-        ≡ Some (view_of (scalar_sort (names_in word_sort_of (binders_in names.now) name.now)) view)) }
+        ≡ Some (view_of (scalar_sort (names_in word_sort_of
+        (binders_in names.now) name.now)) view)) }
 {
     match names.get(name) {
         Some(kind) => is_view_for(kind, view),
@@ -95,7 +97,8 @@ fn is_name_seen(name: &str, view: View, names: &Kinds<'_>) -> bool
 
 fn is_var(left: &Exp, view: View, right: &Exp, context: Context<'_>, point: Point<'_>) -> bool
     ensures { IsTrue result
-        ↔ (row_at context.entry point.entry names.Var (exp_of left.now) view (exp_of right.now)).holds }
+        ↔ (row_at context.entry point.entry names.Var (exp_of left.now) view
+        (exp_of right.now)).holds }
 {
     match left {
         Exp::Var(x) => match right {
@@ -121,7 +124,8 @@ fn is_same_constant(left: &Exp, right: &Exp) -> bool
 
 fn is_const(left: &Exp, view: View, right: &Exp, context: Context<'_>, point: Point<'_>) -> bool
     ensures { IsTrue result
-        ↔ (row_at context.entry point.entry names.Const (exp_of left.now) view (exp_of right.now)).holds }
+        ↔ (row_at context.entry point.entry names.Const (exp_of left.now) view
+        (exp_of right.now)).holds }
 {
     match view {
         View::AsIs => is_same_constant(left, right),
@@ -146,7 +150,8 @@ fn is_const(left: &Exp, view: View, right: &Exp, context: Context<'_>, point: Po
 fn is_nat(left: &Exp, view: View, right: &Exp, context: Context<'_>, point: Point<'_>) -> bool
     requires { FitsAt context point (exp_of left.now) view }
     ensures { IsTrue result
-        ↔ (row_at context.entry point.entry names.Nat (exp_of left.now) view (exp_of right.now)).holds }
+        ↔ (row_at context.entry point.entry names.Nat (exp_of left.now) view
+        (exp_of right.now)).holds }
 {
     match left {
         Exp::ToNat(_) => matches!(view, View::AsIs),
@@ -158,7 +163,8 @@ fn is_nat(left: &Exp, view: View, right: &Exp, context: Context<'_>, point: Poin
 fn is_int(left: &Exp, view: View, right: &Exp, context: Context<'_>, point: Point<'_>) -> bool
     requires { FitsAt context point (exp_of left.now) view }
     ensures { IsTrue result
-        ↔ (row_at context.entry point.entry names.Int (exp_of left.now) view (exp_of right.now)).holds }
+        ↔ (row_at context.entry point.entry names.Int (exp_of left.now) view
+        (exp_of right.now)).holds }
 {
     match left {
         Exp::ToInt(_) => matches!(view, View::AsIs),
@@ -176,7 +182,8 @@ fn is_word(
 ) -> bool
     requires { FitsAt context point (exp_of left.now) view }
     ensures { IsTrue result
-        ↔ (row_at context.entry point.entry (names.Word (kind_of kind)) (exp_of left.now) view (exp_of right.now)).holds }
+        ↔ (row_at context.entry point.entry (names.Word (kind_of kind)) (exp_of left.now) view
+        (exp_of right.now)).holds }
 {
     match view {
         View::AsIs => match right {
@@ -194,7 +201,8 @@ fn is_word(
 
 fn is_unat(left: &Exp, view: View, right: &Exp, context: Context<'_>, point: Point<'_>) -> bool
     ensures { IsTrue result
-        ↔ (row_at context.entry point.entry names.Unat (exp_of left.now) view (exp_of right.now)).holds }
+        ↔ (row_at context.entry point.entry names.Unat (exp_of left.now) view
+        (exp_of right.now)).holds }
 {
     match view {
         View::Unsigned(_) => matches!(right, Exp::ToNat(_)),
@@ -204,7 +212,8 @@ fn is_unat(left: &Exp, view: View, right: &Exp, context: Context<'_>, point: Poi
 
 fn is_sint(left: &Exp, view: View, right: &Exp, context: Context<'_>, point: Point<'_>) -> bool
     ensures { IsTrue result
-        ↔ (row_at context.entry point.entry names.Sint (exp_of left.now) view (exp_of right.now)).holds }
+        ↔ (row_at context.entry point.entry names.Sint (exp_of left.now) view
+        (exp_of right.now)).holds }
 {
     match view {
         View::Signed(_) => matches!(right, Exp::ToInt(_)),
@@ -216,7 +225,8 @@ fn is_add(left: &Exp, view: View, right: &Exp, context: Context<'_>, point: Poin
     requires fits { FitsAt context point (exp_of left.now) view }
     requires kinds { HasKinds point.names.now }
     ensures { IsTrue result
-        ↔ (row_at context.entry point.entry names.Add (exp_of left.now) view (exp_of right.now)).holds }
+        ↔ (row_at context.entry point.entry names.Add (exp_of left.now) view
+        (exp_of right.now)).holds }
 {
     match left {
         Exp::WordBinary(WordOp::Wadd, _, _) => match right {
@@ -231,7 +241,8 @@ fn is_sub(left: &Exp, view: View, right: &Exp, context: Context<'_>, point: Poin
     requires fits { FitsAt context point (exp_of left.now) view }
     requires kinds { HasKinds point.names.now }
     ensures { IsTrue result
-        ↔ (row_at context.entry point.entry names.Sub (exp_of left.now) view (exp_of right.now)).holds }
+        ↔ (row_at context.entry point.entry names.Sub (exp_of left.now) view
+        (exp_of right.now)).holds }
 {
     match left {
         Exp::WordBinary(WordOp::Wsub, _, _) => match right {
@@ -246,7 +257,8 @@ fn is_mul(left: &Exp, view: View, right: &Exp, context: Context<'_>, point: Poin
     requires fits { FitsAt context point (exp_of left.now) view }
     requires kinds { HasKinds point.names.now }
     ensures { IsTrue result
-        ↔ (row_at context.entry point.entry names.Mul (exp_of left.now) view (exp_of right.now)).holds }
+        ↔ (row_at context.entry point.entry names.Mul (exp_of left.now) view
+        (exp_of right.now)).holds }
 {
     match left {
         Exp::WordBinary(WordOp::Wmul, _, _) => match right {
@@ -261,7 +273,8 @@ fn is_neg(left: &Exp, view: View, right: &Exp, context: Context<'_>, point: Poin
     requires fits { FitsAt context point (exp_of left.now) view }
     requires kinds { HasKinds point.names.now }
     ensures { IsTrue result
-        ↔ (row_at context.entry point.entry names.Neg (exp_of left.now) view (exp_of right.now)).holds }
+        ↔ (row_at context.entry point.entry names.Neg (exp_of left.now) view
+        (exp_of right.now)).holds }
 {
     match left {
         Exp::WordUnary(UnaryOp::Wneg, _) => match right {
@@ -274,7 +287,8 @@ fn is_neg(left: &Exp, view: View, right: &Exp, context: Context<'_>, point: Poin
 
 fn is_udiv(left: &Exp, view: View, right: &Exp, context: Context<'_>, point: Point<'_>) -> bool
     ensures { IsTrue result
-        ↔ (row_at context.entry point.entry names.Udiv (exp_of left.now) view (exp_of right.now)).holds }
+        ↔ (row_at context.entry point.entry names.Udiv (exp_of left.now) view
+        (exp_of right.now)).holds }
 {
     match left {
         Exp::WordBinary(WordOp::Wudiv, _, _) => match right {
@@ -287,7 +301,8 @@ fn is_udiv(left: &Exp, view: View, right: &Exp, context: Context<'_>, point: Poi
 
 fn is_umod(left: &Exp, view: View, right: &Exp, context: Context<'_>, point: Point<'_>) -> bool
     ensures { IsTrue result
-        ↔ (row_at context.entry point.entry names.Umod (exp_of left.now) view (exp_of right.now)).holds }
+        ↔ (row_at context.entry point.entry names.Umod (exp_of left.now) view
+        (exp_of right.now)).holds }
 {
     match left {
         Exp::WordBinary(WordOp::Wumod, _, _) => match right {
@@ -302,7 +317,8 @@ fn is_sdiv(left: &Exp, view: View, right: &Exp, context: Context<'_>, point: Poi
     requires fits { FitsAt context point (exp_of left.now) view }
     requires kinds { HasKinds point.names.now }
     ensures { IsTrue result
-        ↔ (row_at context.entry point.entry names.Sdiv (exp_of left.now) view (exp_of right.now)).holds }
+        ↔ (row_at context.entry point.entry names.Sdiv (exp_of left.now) view
+        (exp_of right.now)).holds }
 {
     match left {
         Exp::WordBinary(WordOp::Wsdiv, _, _) => match right {
@@ -318,7 +334,8 @@ fn is_sdiv(left: &Exp, view: View, right: &Exp, context: Context<'_>, point: Poi
 
 fn is_smod(left: &Exp, view: View, right: &Exp, context: Context<'_>, point: Point<'_>) -> bool
     ensures { IsTrue result
-        ↔ (row_at context.entry point.entry names.Smod (exp_of left.now) view (exp_of right.now)).holds }
+        ↔ (row_at context.entry point.entry names.Smod (exp_of left.now) view
+        (exp_of right.now)).holds }
 {
     match left {
         Exp::WordBinary(WordOp::Wsmod, _, _) => match right {
@@ -333,7 +350,8 @@ fn is_smod(left: &Exp, view: View, right: &Exp, context: Context<'_>, point: Poi
 fn is_order(left: &Exp, view: View, right: &Exp, context: Context<'_>, point: Point<'_>) -> bool
     requires { FitsAt context point (exp_of left.now) view }
     ensures { IsTrue result
-        ↔ (row_at context.entry point.entry names.Order (exp_of left.now) view (exp_of right.now)).holds }
+        ↔ (row_at context.entry point.entry names.Order (exp_of left.now) view
+        (exp_of right.now)).holds }
 {
     match left {
         Exp::WordCompare(WordTest::Wult | WordTest::Wslt, _, _) => match right {
@@ -357,7 +375,8 @@ fn is_eq(
     point: Point<'_>,
 ) -> bool
     ensures { IsTrue result
-        ↔ (row_at context.entry point.entry (names.Eq (kind_of kind)) (exp_of left.now) view (exp_of right.now)).holds }
+        ↔ (row_at context.entry point.entry (names.Eq (kind_of kind)) (exp_of left.now) view
+        (exp_of right.now)).holds }
 {
     match left {
         Exp::Eq(_, _) => match right {
@@ -372,7 +391,8 @@ fn is_eq(
 fn is_zext(left: &Exp, view: View, right: &Exp, context: Context<'_>, point: Point<'_>) -> bool
     requires { FitsAt context point (exp_of left.now) view }
     ensures { IsTrue result
-        ↔ (row_at context.entry point.entry names.Zext (exp_of left.now) view (exp_of right.now)).holds }
+        ↔ (row_at context.entry point.entry names.Zext (exp_of left.now) view
+        (exp_of right.now)).holds }
 {
     match left {
         Exp::Cast(CastOp::Zext, _, _) => match view {
@@ -387,7 +407,8 @@ fn is_zext(left: &Exp, view: View, right: &Exp, context: Context<'_>, point: Poi
 fn is_sext(left: &Exp, view: View, right: &Exp, context: Context<'_>, point: Point<'_>) -> bool
     requires { FitsAt context point (exp_of left.now) view }
     ensures { IsTrue result
-        ↔ (row_at context.entry point.entry names.Sext (exp_of left.now) view (exp_of right.now)).holds }
+        ↔ (row_at context.entry point.entry names.Sext (exp_of left.now) view
+        (exp_of right.now)).holds }
 {
     match left {
         Exp::Cast(CastOp::Sext, _, _) => matches!(view, View::Signed(_)),
@@ -397,7 +418,8 @@ fn is_sext(left: &Exp, view: View, right: &Exp, context: Context<'_>, point: Poi
 
 fn is_logic(left: &Exp, view: View, right: &Exp, context: Context<'_>, point: Point<'_>) -> bool
     ensures { IsTrue result
-        ↔ (row_at context.entry point.entry names.Logic (exp_of left.now) view (exp_of right.now)).holds }
+        ↔ (row_at context.entry point.entry names.Logic (exp_of left.now) view
+        (exp_of right.now)).holds }
 {
     if !matches!(view, View::AsIs) {
         return false;
@@ -413,7 +435,8 @@ fn is_logic(left: &Exp, view: View, right: &Exp, context: Context<'_>, point: Po
 
 fn is_cond(left: &Exp, view: View, right: &Exp, context: Context<'_>, point: Point<'_>) -> bool
     ensures { IsTrue result
-        ↔ (row_at context.entry point.entry names.Cond (exp_of left.now) view (exp_of right.now)).holds }
+        ↔ (row_at context.entry point.entry names.Cond (exp_of left.now) view
+        (exp_of right.now)).holds }
 {
     match left {
         Exp::If(_, _, _) => matches!(right, Exp::If(_, _, _)),
@@ -435,7 +458,8 @@ fn is_operator(e: &Exp) -> bool
 
 fn is_op(left: &Exp, view: View, right: &Exp, context: Context<'_>, point: Point<'_>) -> bool
     ensures { IsTrue result
-        ↔ (row_at context.entry point.entry names.Op (exp_of left.now) view (exp_of right.now)).holds }
+        ↔ (row_at context.entry point.entry names.Op (exp_of left.now) view
+        (exp_of right.now)).holds }
 {
     matches!(view, View::AsIs) && is_operator(left) && same_head(left, right)
 }

@@ -69,7 +69,8 @@ fn are_matched(exps: &[Exp], kinds: &[Kind], others: &[Exp]) -> bool
 #[tactic(auto, using(crate::proofs::AskedPrograms::matched_lengths))]
 fn are_arguments(exps: &[Exp], params: &[Binder], others: &[Exp]) -> bool
     ensures { IsTrue result
-        ↔ AreMatched (map exp_of exps.now) (kinds_of (map binder_of params.now)) (map exp_of others.now) }
+        ↔ AreMatched (map exp_of exps.now) (kinds_of (map binder_of params.now))
+        (map exp_of others.now) }
 {
     exps.len() == params.len() && others.len() == params.len()
 }
@@ -251,7 +252,8 @@ fn is_bind(
     point: Point<'_>,
 ) -> bool
     ensures { IsTrue result ↔ (program_row_at context.entry point.entry
-        (names.Bind (map kind_of js.now)) (mon_of left.now) (mon_of right.now) (map kind_of kinds.now)).holds }
+        (names.Bind (map kind_of js.now)) (mon_of left.now) (mon_of right.now)
+        (map kind_of kinds.now)).holds }
 {
     match left {
         Mon::Bind(_, names, _) => match right {
@@ -312,7 +314,8 @@ fn is_loop(
     point: Point<'_>,
 ) -> bool
     ensures { IsTrue result ↔ (program_row_at context.entry point.entry
-        (names.Loop (map kind_of js.now)) (mon_of left.now) (mon_of right.now) (map kind_of kinds.now)).holds }
+        (names.Loop (map kind_of js.now)) (mon_of left.now) (mon_of right.now)
+        (map kind_of kinds.now)).holds }
 {
     match left {
         Mon::Loop(starts, _, _, _) => match right {
@@ -347,7 +350,8 @@ fn is_called(
     point: Point<'_>,
 ) -> bool
     ensures { IsTrue result ↔ (call_row (signature (context_in context.entry).functions name.now)
-        (point_in point.entry) (map exp_of exps.now) (map exp_of others.now) (map kind_of kinds.now)).holds }
+        (point_in point.entry) (map exp_of exps.now) (map exp_of others.now)
+        (map kind_of kinds.now)).holds }
 {
     match signature(context.functions, name) {
         Some(function) => {
@@ -492,7 +496,8 @@ fn is_recast(
     point: Point<'_>,
 ) -> bool
     ensures { IsTrue result ↔ (program_row_at context.entry point.entry
-        (names.Recast (map kind_of js.now)) (mon_of left.now) (mon_of right.now) (map kind_of kinds.now)).holds }
+        (names.Recast (map kind_of js.now)) (mon_of left.now) (mon_of right.now)
+        (map kind_of kinds.now)).holds }
 {
     match right {
         Mon::Bind(_, names, last) => match &**last {

@@ -264,7 +264,8 @@ fn checked_pairs<'a>(
     requires enough { length (pairs_at (context_in context.now) (point_in point) left views right)
         ≤ length parts.now }
     ensures { Leaves context.now point.entry parts.now
-        (pairs_at (context_in context.now) (point_in point.entry) left.entry views.entry right.entry) at result }
+        (pairs_at (context_in context.now)
+        (point_in point.entry) left.entry views.entry right.entry) at result }
 {
     let mut rest = parts;
     let mut left = left;
@@ -314,7 +315,8 @@ fn checked_ands(
     requires kinds { HasKinds point.names.now }
     requires results { are_results (context_in context.now).functions ≡ true }
     ensures { Checked (table_at context.now) (tree_of tree.now)
-        (claim_at context.now point.entry (exp_of left.now) View.AsIs (exp_of right.now)) at result }
+        (claim_at context.now point.entry (exp_of left.now) View.AsIs
+        (exp_of right.now)) at result }
 {
     let head = Passed::sides(right);
     let mut tree = tree;
@@ -365,7 +367,8 @@ fn checked_then(
 ) -> Result<u32, u32>
     requires count { length parts.now
         ≡ length (thens_at (context_in context.now) (point_in point) then) }
-    requires fit { FitInTurn (context_in context.now) (thens_at (context_in context.now) (point_in point) then) }
+    requires fit { FitInTurn (context_in context.now)
+        (thens_at (context_in context.now) (point_in point) then) }
     requires kinds { HasKinds point.names.now }
     requires results { are_results (context_in context.now).functions ≡ true }
     ensures { AllChecked (table_at context.now) (trees_in rule_of parts.now)
@@ -393,7 +396,8 @@ fn checked_under(
     point: Point<'_>,
     at: u32,
 ) -> Result<u32, u32>
-    requires fits { ClaimFits (context_in context.now) (claim_in (context_in context.now) (point_in point) claim) }
+    requires fits { ClaimFits (context_in context.now)
+        (claim_in (context_in context.now) (point_in point) claim) }
     requires kinds { HasKinds point.names.now }
     requires results { are_results (context_in context.now).functions ≡ true }
     ensures { Checked (table_at context.now) (tree_of tree.now)
@@ -431,7 +435,8 @@ fn checked_where(
     requires kinds { HasKinds point.names.now }
     requires results { are_results (context_in context.now).functions ≡ true }
     ensures { Checked (table_at context.now) (tree_of tree.now)
-        (claim_here (context_in context.now) (knowing (fact_of fact.now) (point_in point.entry)) claim.entry)
+        (claim_here (context_in context.now)
+        (knowing (fact_of fact.now) (point_in point.entry)) claim.entry)
         at result }
 {
     let facts = point.facts.with(&*fact);
@@ -451,7 +456,8 @@ fn checked_here(
     point: Point<'_>,
     at: u32,
 ) -> Result<u32, u32>
-    requires fits { ClaimFits (context_in context.now) (claim_here (context_in context.now) (point_in point) claim) }
+    requires fits { ClaimFits (context_in context.now)
+        (claim_here (context_in context.now) (point_in point) claim) }
     requires kinds { HasKinds point.names.now }
     requires results { are_results (context_in context.now).functions ≡ true }
     ensures { Checked (table_at context.now) (tree_of tree.now)
@@ -525,7 +531,8 @@ fn checked_flat(
     requires kinds { HasKinds point.names.now }
     requires results { are_results (context_in context.now).functions ≡ true }
     ensures { Checked (table_at context.now) (tree_of tree.now)
-        (program (point_in point.entry) (mon_of left.now) (mon_of right.now) (map kind_of kinds.now)) at result }
+        (program (point_in point.entry) (mon_of left.now) (mon_of right.now)
+        (map kind_of kinds.now)) at result }
 {
     match checked_front(tree, left, right, kinds, &*context, point, at)? {
         Front::Behind(rest, number) => {
@@ -551,10 +558,13 @@ fn checked_inside(
     at: u32,
 ) -> Result<u32, u32>
     requires count { length parts.now
-        ≡ length (thens_at (context_in context.now) (inside (rule_of rule.now) (mon_of left.now) (point_in point)) then) }
+        ≡ length (thens_at (context_in context.now)
+        (inside (rule_of rule.now) (mon_of left.now) (point_in point)) then) }
     requires fit { FitInTurn (context_in context.now)
-        (thens_at (context_in context.now) (inside (rule_of rule.now) (mon_of left.now) (point_in point)) then) }
-    requires kinds { are_binders (inside (rule_of rule.now) (mon_of left.now) (point_in point)).names ≡ true }
+        (thens_at (context_in context.now)
+        (inside (rule_of rule.now) (mon_of left.now) (point_in point)) then) }
+    requires kinds { are_binders (inside (rule_of rule.now) (mon_of left.now)
+        (point_in point)).names ≡ true }
     requires results { are_results (context_in context.now).functions ≡ true }
     ensures { AllChecked (table_at context.now) (trees_in rule_of parts.now)
         (thens_at (context_in context.now)
@@ -594,7 +604,8 @@ fn checked_recast(
     requires kinds { HasKinds point.names.now }
     requires results { are_results (context_in context.now).functions ≡ true }
     ensures { Checked (table_at context.now) (tree_of tree.now)
-        (program (point_in point.entry) (mon_of left.now) (mon_of right.now) (map kind_of kinds.now)) at result }
+        (program (point_in point.entry) (mon_of left.now) (mon_of right.now)
+        (map kind_of kinds.now)) at result }
 {
     if !is_asked(&tree.rule, left, right, kinds, *context, point) {
         return Err(at);
@@ -622,7 +633,8 @@ fn checked_last(
     requires kinds { HasKinds point.names.now }
     requires results { are_results (context_in context.now).functions ≡ true }
     ensures { Checked (table_at context.now) (tree_of tree.now)
-        (program (point_in point.entry) (mon_of left.now) (mon_of right.now) (map kind_of kinds.now)) at result }
+        (program (point_in point.entry) (mon_of left.now) (mon_of right.now)
+        (map kind_of kinds.now)) at result }
 {
     match &tree.rule {
         Rule::Recast(js) => checked_recast(js, tree, left, right, kinds, &*context, point, at),
@@ -647,7 +659,8 @@ fn checked(
     requires kinds { HasKinds point.names.now }
     requires results { are_results (context_in context.now).functions ≡ true }
     ensures { Checked (table_at context.now) (tree_of tree.now)
-        (program (point_in point.entry) (mon_of left.now) (mon_of right.now) (map kind_of kinds.now)) at result }
+        (program (point_in point.entry) (mon_of left.now) (mon_of right.now)
+        (map kind_of kinds.now)) at result }
 {
     laid_out(context.layout);
     let head = Passed::Program(Parts::of(right));
@@ -726,7 +739,8 @@ pub fn check(
     requires kinds { are_binders (binders_in point.names.now) ≡ true }
     requires results { are_results (map signature_of context.functions.now) ≡ true }
     ensures { IsVerdict (table_at context.entry) (tree_of tree.now)
-        (program (point_in point.entry) (mon_of left.now) (mon_of right.now) (map kind_of kinds.now))
+        (program (point_in point.entry) (mon_of left.now) (mon_of right.now)
+        (map kind_of kinds.now))
         (verdict_of result) }
 {
     match checked(tree, left, right, kinds, &context, point, 0) {

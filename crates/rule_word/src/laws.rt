@@ -22,7 +22,8 @@ ghost use Rattle.rule_word.specs.Units.{IsUnitAbstractedTo, UnitsKeepWords};
 /// What the rules take an expression to is its value, seen so, wherever the facts of the point
 /// hold.
 pub fn words_are_seen()
-    ensures { (ctx : Context) (at : Point) (t : Tree Rule) (left : Exp) (view : View) (right : Exp) →
+    ensures { (ctx : Context) (at : Point) (t : Tree Rule) (left : Exp) (view : View)
+        (right : Exp) →
         IsLayout ctx.layout → Accepts (table ctx) t (expression at left view right) →
         IsSeenAs ctx at left view right }
 {}
@@ -31,7 +32,8 @@ pub fn words_are_seen()
 /// what stands for the words that the left side gives, with equal states, and stops alike; each
 /// call is in range; and it is steady where the left side is.
 pub fn taken_is_exact()
-    ensures { (unit : FinalUnit) (at : Point) (t : Tree Rule) (left right : Mon) (kinds : List Kind) →
+    ensures { (unit : FinalUnit) (at : Point) (t : Tree Rule) (left right : Mon)
+        (kinds : List Kind) →
         Accepts (table (context_of unit)) t (program at left right kinds) →
         StandsFor unit at left right kinds }
 {}
@@ -39,7 +41,8 @@ pub fn taken_is_exact()
 /// A well-sorted program that the rules take to one at kinds gives words of these kinds: the parts
 /// say their sorts.
 pub fn kinds_fit()
-    ensures { (ctx : Context) (at : Point) (t : Tree Rule) (left right : Mon) (kinds : List Kind) (given : List Scalar) →
+    ensures { (ctx : Context) (at : Point) (t : Tree Rule) (left right : Mon) (kinds : List Kind)
+        (given : List Scalar) →
         Accepts (table ctx) t (program at left right kinds) →
         scalars_given (words ctx at.names) left ≡ Some given →
         given ≡ map word_sort_of kinds }
@@ -90,6 +93,7 @@ pub fn words_are_abstracted()
         Option Kind) (names : List Binder) (m : Mon) (kinds : List Kind) →
         program_ready same (is_numbers_level level) ctx table [] names m kinds ≡ true →
         is_heap_form_of level m ≡ true →
-        is_form_of level (program_abstracted same (is_numbers_level level) ctx table [] names m kinds).right
+        is_form_of level (program_abstracted same
+        (is_numbers_level level) ctx table [] names m kinds).right
         ≡ true }
 {}

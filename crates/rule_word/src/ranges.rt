@@ -51,7 +51,8 @@ pub(crate) fn is_in_range(
 fn is_natural(number: &Exp, width: u8, facts: &Facts<'_, Passed<'_>>) -> bool
     requires { is_width width ≡ true }
     ensures { IsTrue result
-        ↔ IsKnown (known_in facts.now) (Between (least false width) (exp_of number.now) (greatest false width)) }
+        ↔ IsKnown (known_in facts.now) (Between (least false width) (exp_of number.now)
+        (greatest false width)) }
 {
     let low = Number::new(false, 0);
     let high = Number::new(false, greatest_natural(width));
@@ -63,7 +64,8 @@ fn is_natural(number: &Exp, width: u8, facts: &Facts<'_, Passed<'_>>) -> bool
 fn is_integer(number: &Exp, width: u8, facts: &Facts<'_, Passed<'_>>) -> bool
     requires { is_width width ≡ true }
     ensures { IsTrue result
-        ↔ IsKnown (known_in facts.now) (Between (least true width) (exp_of number.now) (greatest true width)) }
+        ↔ IsKnown (known_in facts.now) (Between (least true width) (exp_of number.now)
+        (greatest true width)) }
 {
     let size = half(width);
     let low = Number::new(true, size);

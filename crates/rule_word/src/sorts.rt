@@ -159,7 +159,8 @@ fn width_of(sort: Option<Sort<'_>>) -> Option<u8>
 fn global_width(name: &str, path: &Path, context: Context<'_>) -> Option<u8>
     ensures { result
         ≡ word_width (of_type (global_type (map global_of context.entry.globals.now) name.now)
-        (λ t. of_shape (shape_there (path_of path.now) (shape_of context.entry.layout.now t)) sort_at)) }
+        (λ t. of_shape (shape_there (path_of path.now)
+        (shape_of context.entry.layout.now t)) sort_at)) }
 {
     match global(context.globals, name) {
         Some(t) => width_there(path, t, context.layout),
@@ -170,7 +171,8 @@ fn global_width(name: &str, path: &Path, context: Context<'_>) -> Option<u8>
 // The width of the word at the end of a path.
 fn width_there(path: &Path, t: &CType, l: &Layout) -> Option<u8>
     ensures { result
-        ≡ word_width (of_shape (shape_there (path_of path.now) (shape_of l.now (type_of t.now))) sort_at) }
+        ≡ word_width (of_shape (shape_there (path_of path.now)
+        (shape_of l.now (type_of t.now))) sort_at) }
 {
     match type_there(path, t, l) {
         Some(part) => width_at(l, part),

@@ -34,7 +34,8 @@ pub(crate) fn exp_views<'a>(
     names: &Kinds<'_>,
 ) -> Views<'a>
     ensures views { (es : List plain.Exp) → views_in (scope_in context.entry names.now) es result
-        ≡ map (λ d. part_seen (scope_in context.entry names.now) (rule_of rule.now) (exp_of left.now)
+        ≡ map (λ d. part_seen (scope_in context.entry names.now) (rule_of rule.now)
+        (exp_of left.now)
         (view_at (scope_in context.entry names.now) (exp_of left.now) view) d) es }
     ensures looks { looks_in result ≡ looks (rule_of rule.now) }
 {
@@ -162,7 +163,8 @@ pub(crate) fn program_views<'a>(
     context: Context<'a>,
 ) -> Views<'a>
     ensures views { (g : Scope) → views_in g (program_exps (mon_of left.now)) result
-        ≡ program_views (context_in context.entry) g (rule_of rule.now) (mon_of left.now) (map kind_of kinds.now) }
+        ≡ program_views (context_in context.entry) g (rule_of rule.now) (mon_of left.now)
+        (map kind_of kinds.now) }
     ensures looks { looks_in result ≡ program_looks (rule_of rule.now) }
 {
     match rule {

@@ -105,7 +105,8 @@ fn parameter_into<W: TreeWriter>(out: &mut W, parameter: &Binder) -> Result<(), 
 
 fn kinds_into<W: TreeWriter>(out: &mut W, kinds: &[Kind]) -> Result<(), AllocError>
     ensures { OnOk result (W.state out.new
-        ≡ written W.writing (W.state out.old) (Node (trees_for kind_tree (map kind_of kinds.now)))) }
+        ≡ written W.writing (W.state out.old)
+        (Node (trees_for kind_tree (map kind_of kinds.now)))) }
 {
     out.enter()?;
     let mut rest = kinds;

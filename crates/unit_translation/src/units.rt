@@ -99,7 +99,8 @@ pub fn translate_functions<P: Progress>(
     u: &SimplUnit,
     progress: &P,
 ) -> Result<Vec<Steps>, AllocError>
-    requires ready { AllReadyToLift (simpl_unit_of u.now).functions (simpl_unit_of u.now).signatures }
+    requires ready { AllReadyToLift (simpl_unit_of u.now).functions
+        (simpl_unit_of u.now).signatures }
     ensures { IfOk result (λ steps. map steps_of steps.items
         ≡ tidy_certificate same_exp (simpl_unit_of u.now)) }
 {

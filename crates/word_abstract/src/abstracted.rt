@@ -86,7 +86,8 @@ pub(crate) fn over_two(
 // The number as the word that it stands for.
 fn as_word(alloc: Global, kind: Kind, width: u8, x: Abstracted) -> Result<Abstracted, AllocError>
     ensures { IfOk result (λ word. abstracted_in word
-        ≡ made (rules.Word (kind_of kind)) (plain.ToWord width (abstracted_in x).right) (one (abstracted_in x))) }
+        ≡ made (rules.Word (kind_of kind)) (plain.ToWord width (abstracted_in x).right)
+        (one (abstracted_in x))) }
 {
     let Abstracted { right, tree } = x;
     over_one(alloc, Rule::Word(kind), Exp::ToWord(width, right), tree)

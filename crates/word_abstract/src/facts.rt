@@ -73,7 +73,8 @@ pub(crate) fn lasting<'a>(
     changes: bool,
 ) -> Result<Vec<Fact<'a>>, AllocError>
     ensures { IfOk result (λ new. (older : List Plain) →
-        newest_first (map fact_in new.items) (without_names (map string_bytes names.now) (where_unchanged changes older))
+        newest_first (map fact_in new.items)
+        (without_names (map string_bytes names.now) (where_unchanged changes older))
         ≡ without_names (map string_bytes names.now)
         (where_unchanged changes (newest_first (map fact_in facts.entry.items) older))) }
 {
@@ -95,7 +96,8 @@ pub(crate) fn lasting_guards(
     changes: bool,
 ) -> Result<Vec<Exp>, AllocError>
     ensures { IfOk result (λ new. (older : List Plain) →
-        newest_first (map whole new.items) (without_names (map string_bytes names.now) (where_unchanged changes older))
+        newest_first (map whole new.items)
+        (without_names (map string_bytes names.now) (where_unchanged changes older))
         ≡ without_names (map string_bytes names.now)
         (where_unchanged changes (newest_first (map whole guards.items) older))) }
 {

@@ -54,7 +54,8 @@ pub(crate) fn kinds_for(
     scalars: &[Scalar],
 ) -> Result<Vec<Kind>, AllocError>
     ensures { IfOk result (λ kinds. map kind_of kinds.items
-        ≡ kinds_for (λ x. names_in (λ k. k) (map binder_of locals.now) x) (map string_bytes names.now)
+        ≡ kinds_for (λ x. names_in (λ k. k) (map binder_of locals.now) x)
+        (map string_bytes names.now)
         (map scalar_of scalars.now)) }
 {
     let mut kinds = Vec::new(alloc);

@@ -67,7 +67,8 @@ pub(crate) fn test_at(alloc: Global, at: &Scene<'_>, e: &Exp) -> Result<Abstract
 /// An expression as it is.
 pub(crate) fn own_at(alloc: Global, at: &Scene<'_>, e: &Exp) -> Result<Abstracted, AllocError>
     ensures { IfOk result (λ x. abstracted_in x
-        ≡ exp_there at.now (exp_of e.now) (own (words (context_at at.now) (binders_at at.now)).scope (exp_of e.now))) }
+        ≡ exp_there at.now (exp_of e.now)
+        (own (words (context_at at.now) (binders_at at.now)).scope (exp_of e.now))) }
 {
     exp_at(alloc, at, e, Seen::AsWord)
 }
@@ -167,7 +168,8 @@ pub(crate) fn all_at(
     ensures exps { IfOk result (λ new. map exp_of new.exps.items
         ≡ rights (all_there at.now (map exp_of exps.now) (views_for (map kind_of kinds.now)))) }
     ensures trees { IfOk result (λ new. (more : Trees Named) → with_trees new.trees.items more
-        ≡ trees_before (all_there at.now (map exp_of exps.now) (views_for (map kind_of kinds.now))) more) }
+        ≡ trees_before (all_there at.now (map exp_of exps.now)
+        (views_for (map kind_of kinds.now))) more) }
 {
     let mut made = Vec::new(alloc);
     let mut trees = Vec::new(alloc);
@@ -201,10 +203,12 @@ pub(crate) fn starts_at(
     starts: &[Start],
     kinds: &[Kind],
 ) -> Result<AbstractedStarts, AllocError>
-    ensures starts { IfOk result (λ new. let xs = map start_of starts.now in map start_of new.starts.items
-        ≡ restarted xs (rights (all_there at.now (start_exps xs) (views_for (map kind_of kinds.now))))) }
+    ensures starts { IfOk result (λ new. let xs = map start_of starts.now in
+        map start_of new.starts.items ≡ restarted xs (rights (all_there at.now (start_exps xs)
+        (views_for (map kind_of kinds.now))))) }
     ensures trees { IfOk result (λ new. (more : Trees Named) → with_trees new.trees.items more
-        ≡ trees_before (all_there at.now (start_exps (map start_of starts.now)) (views_for (map kind_of kinds.now))) more) }
+        ≡ trees_before (all_there at.now (start_exps (map start_of starts.now))
+        (views_for (map kind_of kinds.now))) more) }
 {
     let mut made = Vec::new(alloc);
     let mut trees = Vec::new(alloc);

@@ -144,8 +144,10 @@ fn number_or_word(at: &Point<'_>, base: Base) -> Base
 // The base of a sum, a difference or a product.
 fn sum_at(at: &Point<'_>, op: NumberOp, width: u8, a: &Standing, b: &Standing) -> Base
     ensures { base_of result ≡ base_in same_exp (numbers_at at.now) (known_at at.now) width
-        (plain.Arith (number_op_of op) (meaning (standing_in a.now) spec.AsNatural).right (meaning (standing_in b.now) spec.AsNatural).right)
-        (plain.Arith (number_op_of op) (meaning (standing_in a.now) spec.AsInteger).right (meaning (standing_in b.now) spec.AsInteger).right) }
+        (plain.Arith (number_op_of op) (meaning (standing_in a.now) spec.AsNatural).right
+        (meaning (standing_in b.now) spec.AsNatural).right)
+        (plain.Arith (number_op_of op) (meaning (standing_in a.now) spec.AsInteger).right
+        (meaning (standing_in b.now) spec.AsInteger).right) }
 {
     if !at.setting.numbers {
         return Base::Words;
@@ -161,7 +163,8 @@ fn sum_at(at: &Point<'_>, op: NumberOp, width: u8, a: &Standing, b: &Standing) -
 // The base of a signed quotient.
 fn quotient_at(at: &Point<'_>, width: u8, a: &Standing, b: &Standing) -> Base
     ensures { base_of result ≡ signed_base_in same_exp (numbers_at at.now) (known_at at.now) width
-        (plain.Arith Div (meaning (standing_in a.now) spec.AsInteger).right (meaning (standing_in b.now) spec.AsInteger).right) }
+        (plain.Arith Div (meaning (standing_in a.now) spec.AsInteger).right
+        (meaning (standing_in b.now) spec.AsInteger).right) }
 {
     if !at.setting.numbers {
         return Base::Words;
@@ -205,7 +208,8 @@ struct Arithmetic {
 fn on_numbers(op: WordOp, base: Base) -> Option<Arithmetic>
     ensures some { IfSome result (λ it. (a b : spec.Standing) →
         binary_at (word_op_of op) (base_of base) (both a b)
-        ≡ by_rule (rule_of it.rule) (number_op_of it.op) (meaning a (seen_of it.view), meaning b (seen_of it.view))) }
+        ≡ by_rule (rule_of it.rule) (number_op_of it.op)
+        (meaning a (seen_of it.view), meaning b (seen_of it.view))) }
     ensures none { IfNone result ((a b : spec.Standing) →
         binary_at (word_op_of op) (base_of base) (both a b) ≡ words_of (word_op_of op) (both a b)) }
 {
@@ -252,7 +256,8 @@ fn binary_at(
     b: Box<Standing>,
 ) -> Result<Abstracted, AllocError>
     ensures { IfOk result (λ x. abstracted_in x
-        ≡ binary_at (word_op_of op) (base_of base) (both (standing_in a.value) (standing_in b.value))) }
+        ≡ binary_at (word_op_of op) (base_of base)
+        (both (standing_in a.value) (standing_in b.value))) }
 {
     match on_numbers(op, base) {
         Some(Arithmetic { rule, op, view }) => {
@@ -288,7 +293,8 @@ fn operation(
     b: Box<Standing>,
 ) -> Result<Box<Standing>, AllocError>
     ensures { IfOk result (λ s. standing_in s.value
-        ≡ operation same_exp (numbers_at at.now) (scope_at at.now) (names_at at.now) (known_at at.now)
+        ≡ operation same_exp (numbers_at at.now) (scope_at at.now) (names_at at.now)
+        (known_at at.now)
         (word_op_of op) width (standing_in a.value) (standing_in b.value)) }
 {
     let base = operation_at(at, op, width, &a, &b);
@@ -305,7 +311,8 @@ fn unary_at(
 ) -> Result<Abstracted, AllocError>
     ensures { IfOk result (λ x. abstracted_in x
         ≡ unary_at (unary_op_of op) (base_of base) (meaning (standing_in a.value) spec.AsWord)
-        (meaning (standing_in a.value) spec.AsNatural) (meaning (standing_in a.value) spec.AsInteger)) }
+        (meaning (standing_in a.value) spec.AsNatural)
+        (meaning (standing_in a.value) spec.AsInteger)) }
 {
     let view = match base {
         Base::Naturals if op == UnaryOp::Wneg => Seen::AsNatural,
@@ -328,7 +335,8 @@ fn negated(
     a: Box<Standing>,
 ) -> Result<Box<Standing>, AllocError>
     ensures { IfOk result (λ s. standing_in s.value
-        ≡ one_standing same_exp (numbers_at at.now) (scope_at at.now) (names_at at.now) (known_at at.now)
+        ≡ one_standing same_exp (numbers_at at.now) (scope_at at.now) (names_at at.now)
+        (known_at at.now)
         (UnaryOne (unary_op_of op)) width (standing_in a.value)) }
 {
     let base = negation_at(at, op, width, &a);
@@ -409,8 +417,10 @@ pub(crate) fn one(
     a: Box<Standing>,
 ) -> Result<Box<Standing>, AllocError>
     ensures { IfOk result (λ s. standing_in s.value
-        ≡ one_standing same_exp (numbers_at at.now) (scope_at at.now) (names_at at.now) (known_at at.now)
-        (one_in head) (or_zero (width_in (scope_at at.now) (exp_of operand.now))) (standing_in a.value)) }
+        ≡ one_standing same_exp (numbers_at at.now) (scope_at at.now) (names_at at.now)
+        (known_at at.now)
+        (one_in head) (or_zero (width_in (scope_at at.now) (exp_of operand.now)))
+        (standing_in a.value)) }
 {
     match head {
         One::WordUnary(op) => negated(alloc, at, op, at.width(operand), a),
@@ -518,7 +528,8 @@ pub(crate) fn two(
     b: Box<Standing>,
 ) -> Result<Box<Standing>, AllocError>
     ensures { IfOk result (λ s. standing_in s.value
-        ≡ two_standing same_exp (numbers_at at.now) (scope_at at.now) (names_at at.now) (known_at at.now)
+        ≡ two_standing same_exp (numbers_at at.now) (scope_at at.now) (names_at at.now)
+        (known_at at.now)
         (two_in head) (exp_of operand.now) (standing_in a.value) (standing_in b.value)) }
 {
     match head {
@@ -628,7 +639,8 @@ pub(crate) fn global(
     indices: Indices,
 ) -> Result<Box<Standing>, AllocError>
     ensures { IfOk result (λ s. standing_in s.value
-        ≡ operator (plain.Global name.now (path_of indices.path)) (with_trees indices.trees.items no_trees)) }
+        ≡ operator (plain.Global name.now (path_of indices.path))
+        (with_trees indices.trees.items no_trees)) }
 {
     let Indices { path, trees } = indices;
     operator(

@@ -62,9 +62,11 @@ pub(crate) fn pass<'a>(
     front: &Front,
 ) -> Result<Passed<'a>, AllocError>
     ensures facts { IfOk result (λ passed. facts_passed passed
-        ≡ facts_after (mon_of front.now.right.value) (map string_bytes front.now.names.items) (facts_passed before.entry)) }
+        ≡ facts_after (mon_of front.now.right.value) (map string_bytes front.now.names.items)
+        (facts_passed before.entry)) }
     ensures names { IfOk result (λ passed. (bs : List Plain) → names_passed passed bs
-        ≡ with_kinds (map string_bytes front.now.names.items) (map kind_of front.now.kinds.items) (names_passed before.entry bs)) }
+        ≡ with_kinds (map string_bytes front.now.names.items) (map kind_of front.now.kinds.items)
+        (names_passed before.entry bs)) }
 {
     pass_by(alloc, before, &front.right, &front.names, &front.kinds)
 }
@@ -79,7 +81,8 @@ fn pass_by<'a>(
     ensures facts { IfOk result (λ passed. facts_passed passed
         ≡ facts_after (mon_of m.now) (map string_bytes names.now) (facts_passed before.entry)) }
     ensures names { IfOk result (λ passed. (bs : List Plain) → names_passed passed bs
-        ≡ with_kinds (map string_bytes names.now) (map kind_of kinds.now) (names_passed before.entry bs)) }
+        ≡ with_kinds (map string_bytes names.now) (map kind_of kinds.now)
+        (names_passed before.entry bs)) }
 {
     let Passed { outer, own, bound } = before;
     let changes = changes_state(m);
@@ -101,7 +104,8 @@ fn guarded(
     ensures { IfOk result (λ new. (older : List PlainFact) →
         let xs = map string_bytes names.now in
         newest_first (map whole new.items) (without_names xs older)
-        ≡ with_lasting_guard xs (guard_in (mon_of m.now)) (newest_first (map whole guards.items) (without_names xs older))) }
+        ≡ with_lasting_guard xs (guard_in (mon_of m.now))
+        (newest_first (map whole guards.items) (without_names xs older))) }
 {
     let mut guards = guards;
     if let Mon::Guard(condition) = m {
@@ -122,7 +126,8 @@ fn bound_also(
     ensures { IfOk result (λ new. (bs : List Plain) →
         with_kinds (names_of (map binder_of new.items)) (kinds_of (map binder_of new.items)) bs
         ≡ with_kinds (map string_bytes more.now) (map kind_of kinds.now)
-        (with_kinds (names_of (map binder_of names.items)) (kinds_of (map binder_of names.items)) bs)) }
+        (with_kinds (names_of (map binder_of names.items))
+        (kinds_of (map binder_of names.items)) bs)) }
 {
     let mut all = names;
     let mut rest = more;

@@ -41,7 +41,8 @@ fn kinds_there(
 ) -> Result<Vec<Kind>, AllocError>
     ensures { IfOk result (λ kinds. map kind_of kinds.items
         ≡ kinds_for (λ x. local_kinds at.now.setting.now x) (map string_bytes names.now)
-        (scalars_there (scalars_given (words (context_at at.now) (binders_at at.now)) (mon_of m.now)))) }
+        (scalars_there (scalars_given (words (context_at at.now) (binders_at at.now))
+        (mon_of m.now)))) }
 {
     let words = Scalars::Words(at.names);
     let setting = at.setting;
@@ -160,7 +161,8 @@ fn under<'x>(
     kinds: &[Kind],
 ) -> Result<Box<Translated>, AllocError>
     ensures { IfOk result (λ new. translated_in new.value
-        ≡ program_under at.now holds (exp_of condition.now) (mon_of m.now) (map kind_of kinds.now)) }
+        ≡ program_under at.now holds (exp_of condition.now) (mon_of m.now)
+        (map kind_of kinds.now)) }
 {
     let mut facts = at.known.all(alloc)?;
     facts.push(Fact {
@@ -252,7 +254,8 @@ fn looped(
     kinds: &[Kind],
 ) -> Result<Box<Translated>, AllocError>
     ensures { IfOk result (λ new. translated_in new.value
-        ≡ looped (map kind_of kinds.now) (map start_of begun.starts.items) (λ more. with_trees begun.trees.items more)
+        ≡ looped (map kind_of kinds.now) (map start_of begun.starts.items)
+        (λ more. with_trees begun.trees.items more)
         (abstracted_in guard) (abstracted_in test) (translated_in body.value)) }
 {
     let AbstractedStarts { starts, trees } = begun;

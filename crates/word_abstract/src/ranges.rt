@@ -343,7 +343,8 @@ fn some_before(before: &Before<'_>, e: &Exp) -> bool
 #[tactic(auto, using(crate::proofs::RangeLaws::range_first, crate::proofs::RangeLaws::range_second, crate::proofs::RangeLaws::range_under, crate::proofs::RangeLaws::range_not_under, crate::proofs::RangeLaws::range_none_under, crate::proofs::RangeLaws::range_other))]
 fn range_given(ranges: &Ranges<'_>, before: &Before<'_>, fact: &Exp) -> Option<Base>
     ensures { option_map base_of result
-        ≡ range_given same_exp (before_in before.now) (natural_in ranges.now) (integer_in ranges.now) (exp_of fact.now) }
+        ≡ range_given same_exp (before_in before.now) (natural_in ranges.now)
+        (integer_in ranges.now) (exp_of fact.now) }
 {
     match claim_in(fact) {
         Claim::Both(a, b) => match range_given(ranges, before, a) {
@@ -363,7 +364,8 @@ fn range_given(ranges: &Ranges<'_>, before: &Before<'_>, fact: &Exp) -> Option<B
 #[tactic(auto, using(crate::proofs::RangeLaws::first_first, crate::proofs::RangeLaws::first_second, crate::proofs::RangeLaws::first_alone))]
 fn first_range(ranges: &Ranges<'_>, before: &Before<'_>, fact: &Exp) -> Option<Base>
     ensures { option_map base_of result
-        ≡ first_range same_exp (before_in before.now) (natural_in ranges.now) (integer_in ranges.now) (exp_of fact.now) }
+        ≡ first_range same_exp (before_in before.now) (natural_in ranges.now)
+        (integer_in ranges.now) (exp_of fact.now) }
 {
     match claim_in(fact) {
         Claim::Both(a, b) => match first_range(ranges, before, a) {
@@ -382,7 +384,8 @@ fn oldest_outer<'x>(
     facts: &'x [Fact<'x>],
 ) -> Option<Base>
     ensures { option_map base_of result
-        ≡ oldest_range same_exp (conditions_in conditions.now) (natural_in ranges.now) (integer_in ranges.now)
+        ≡ oldest_range same_exp (conditions_in conditions.now) (natural_in ranges.now)
+        (integer_in ranges.now)
         (newest_first (map fact_in facts.now) []) }
 {
     let mut count = 0;
@@ -403,7 +406,8 @@ fn oldest_outer<'x>(
 // The first range of a fact.
 fn fact_range(ranges: &Ranges<'_>, before: &Before<'_>, fact: Fact<'_>) -> Option<Base>
     ensures { option_map base_of result
-        ≡ first_range same_exp (before_in before.now) (natural_in ranges.now) (integer_in ranges.now)
+        ≡ first_range same_exp (before_in before.now) (natural_in ranges.now)
+        (integer_in ranges.now)
         (stands_for (fact_in fact.entry)) }
 {
     if fact.holds {
@@ -421,7 +425,8 @@ pub(crate) fn oldest_range<'x>(
     known: Known<'x>,
 ) -> Option<Base>
     ensures { option_map base_of result
-        ≡ oldest_range same_exp (conditions_in conditions.now) (natural_in ranges.now) (integer_in ranges.now)
+        ≡ oldest_range same_exp (conditions_in conditions.now) (natural_in ranges.now)
+        (integer_in ranges.now)
         (known_in known.entry) }
 {
     let outer = oldest_outer(ranges, conditions, known.outer);

@@ -189,7 +189,8 @@ fn same_scalars(a: &[Scalar], b: &[Scalar]) -> bool
 // The scalars, where a test holds and others are the same.
 fn where_same(holds: bool, scalars: Vec<Scalar>, others: Option<Vec<Scalar>>) -> Option<Vec<Scalar>>
     ensures { option_map scalars_in result
-        ≡ where_fits (holds && are_scalars (scalars_in scalars) (option_map scalars_in others)) (Some (scalars_in scalars)) }
+        ≡ where_fits (holds && are_scalars (scalars_in scalars) (option_map scalars_in others))
+        (Some (scalars_in scalars)) }
 {
     match others {
         Some(others) if holds && same_scalars(&scalars, &others) => Some(scalars),
@@ -232,7 +233,8 @@ fn called(
 ) -> Result<Option<Vec<Scalar>>, AllocError>
     ensures { IfOk result (λ found. let t = setting_in names.now unit.entry in
         option_map scalars_in found
-        ≡ call_scalars word_sort_of (signature t.functions function.now) (scalars_of t.scope (map exp_of arguments.now))) }
+        ≡ call_scalars word_sort_of (signature t.functions function.now)
+        (scalars_of t.scope (map exp_of arguments.now))) }
 {
     let Some(callee) = signature(unit.functions, function) else {
         return Ok(None);

@@ -104,7 +104,8 @@ fn written(
     kinds: &[Kind],
 ) -> Result<Box<Translated>, AllocError>
     ensures { IfOk result (λ m. translated_in m.value
-        ≡ program_there at.now (M.Write (place_of place.now) (exp_of value.now)) (map kind_of kinds.now)) }
+        ≡ program_there at.now (M.Write (place_of place.now) (exp_of value.now))
+        (map kind_of kinds.now)) }
 {
     let rule = rule_for(place);
     let Abstracted { right, tree } = own_at(alloc, at, value)?;
@@ -126,7 +127,8 @@ fn called(
     kinds: &[Kind],
 ) -> Result<Box<Translated>, AllocError>
     ensures { IfOk result (λ m. translated_in m.value
-        ≡ program_there at.now (M.Call (string_bytes function.now) (map exp_of arguments.now)) (map kind_of kinds.now)) }
+        ≡ program_there at.now (M.Call (string_bytes function.now) (map exp_of arguments.now))
+        (map kind_of kinds.now)) }
 {
     let setting = at.setting;
     let context = setting.context;

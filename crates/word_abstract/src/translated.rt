@@ -37,7 +37,11 @@ pub(crate) fn made(
     parts: Vec<Tree<Rule>>,
 ) -> Result<Box<Translated>, AllocError>
     ensures { IfOk result (λ m. translated_in m.value
-        ≡ record { right = mon_of right; tree = trees.node (rule_of rule) (with_trees parts.items no_trees) }) }
+        ≡ record {
+          right = mon_of right;
+          tree = trees.node (rule_of rule)
+              (with_trees parts.items no_trees);
+        }) }
 {
     let right = boxed(alloc, right)?;
     let tree = over(rule, parts);
@@ -170,7 +174,8 @@ pub(crate) fn recast_to(
     m: Box<Translated>,
 ) -> Result<Box<Translated>, AllocError>
     ensures { IfOk result (λ new. translated_in new.value
-        ≡ recast_to (Rattle.rule_word.specs.ProgramsAbstracted.same_kinds (map kind_of from.now) (map kind_of to.now))
+        ≡ recast_to (Rattle.rule_word.specs.ProgramsAbstracted.same_kinds (map kind_of from.now)
+        (map kind_of to.now))
         (map kind_of from.now) (map kind_of to.now) (translated_in m.value)) }
 {
     if same_kinds(from, to) {

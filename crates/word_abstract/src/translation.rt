@@ -62,10 +62,12 @@ pub fn translate<'x>(
         scalars_given (words ctx (scope_for k)) (mon_of left.now)
         ≡ Some (map word_sort_of (result_as_list k.result)) →
         binds_words (words ctx (scope_for k)) (mon_of left.now) ≡ true →
-        Takes ctx (scope_for k) (tree_of tree) (mon_of left.now) (mon_of right.value) (result_as_list k.result)) }
+        Takes ctx (scope_for k) (tree_of tree) (mon_of left.now) (mon_of right.value)
+        (result_as_list k.result)) }
     ensures formed { IfOk result (λ (right, tree).
         let k = function_kinds kinds.entry in
-        program_ready same_exp (is_numbers_level (level_of level)) (context_in context.entry) (kinds_there k) [] (scope_for k)
+        program_ready same_exp (is_numbers_level (level_of level)) (context_in context.entry)
+        (kinds_there k) [] (scope_for k)
         (mon_of left.now) (result_as_list k.result) ≡ true →
         is_heap_form_of (level_of level) (mon_of left.now) ≡ true →
         is_form_of (level_of level) (mon_of right.value) ≡ true) }
@@ -92,8 +94,10 @@ fn at_kinds<'x>(
     results: &[Kind],
 ) -> Result<Box<Translated>, AllocError>
     ensures { IfOk result (λ new. translated_in new.value
-        ≡ program_abstracted same_exp setting.now.numbers (context_in setting.now.context) (λ x. local_kinds setting.now x) []
-        (with_kinds (names_of (map binder_of params.now)) (kinds_of (map binder_of params.now)) (binders_in none.now))
+        ≡ program_abstracted same_exp setting.now.numbers (context_in setting.now.context)
+        (λ x. local_kinds setting.now x) []
+        (with_kinds (names_of (map binder_of params.now)) (kinds_of (map binder_of params.now))
+        (binders_in none.now))
         (mon_of left.now) (map kind_of results.now)) }
 {
     let names = none.push_all(params);
