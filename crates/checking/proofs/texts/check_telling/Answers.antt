@@ -24,7 +24,7 @@ returns-in-Some-clause-answer g c = λ d is.
 
 pub returns-in-Some-clause-decided : goal.returns-in-Some-clause-decided
 returns-in-Some-clause-decided g c = λ d is.
-    answers_decide (simpl_unit_of c.args.u.now) d.functions (Err (refused_of c.at_names.result)) (returns-in-Some-clause-answer c d is)
+    answers_decide (simpl_unit_of c.args.u.now) d.functions (Err (refused_of c.at_names.result)) (returns-in-Some-clause-answer g c d is)
 
 pub returns-in-None-clause-answer : goal.returns-in-None-clause-answer
 returns-in-None-clause-answer g c = λ d is.
@@ -35,4 +35,4 @@ returns-in-None-clause-answer g c = λ d is.
 
 pub returns-in-None-clause-decided : goal.returns-in-None-clause-decided
 returns-in-None-clause-decided g c = λ d is.
-    of_result c.check_each.result _ _ (λ r. answers_decide (simpl_unit_of c.args.u.now) d.functions (answer_of r)) (returns-in-None-clause-answer c d is)
+    of_result c.check_each.result _ _ (λ r. answers_decide (simpl_unit_of c.args.u.now) d.functions (answer_of r)) (returns-in-None-clause-answer g c d is)
