@@ -7,4 +7,3 @@ pub mod Translated
 pub mod Shown
 pub mod Tried
 pub mod NamedLevels
-pub mod MadeLevels

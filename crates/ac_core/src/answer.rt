@@ -12,8 +12,8 @@ ghost use Rattle.ac_core.specs.Answer.{certificate, memory, source, AsksForNone,
 ghost use Rattle.ac_core.specs.CodeTrouble.{IsTrouble};
 ghost use Rattle.answers.specs.declared.status.Status.{Status};
 
-use crate::tasks::{Asked, Checks, Runs, Tries, Writes};
-use ac_base::{Progress, ReadTrouble, Shelf, read_whole};
+use crate::tasks::{Checks, Runs, Tries, Writes};
+use ac_base::{ReadTrouble, Shelf, read_whole};
 use answers::{Answer, Status, line, push, read_fault};
 use c_values::Target;
 use command_line::{Command, asked_for};
@@ -33,13 +33,11 @@ const MEMORY_LIMIT: u64 = 1_048_576;
 /// The most functions of a sample.
 const COUNT_LIMIT: u8 = 200;
 
-/// The answer to words. The shelf is asked for the files that they name alone. It is told how far
-/// work is.
-pub(crate) fn answer_to<H: Shelf, P: Progress>(
+/// The answer to words. The shelf is asked for the files that they name alone.
+pub(crate) fn answer_to<H: Shelf>(
     alloc: Global,
     words: &[String],
     shelf: &mut H,
-    progress: &P,
 ) -> Result<Answer, AllocError>
     ensures answer { IfOk result (λ a. IsAnswerTo (H.contents shelf.old) (H.faults shelf.old)
         (H.faults shelf.new) (command_of (map string_bytes words.now)) a.status a.lines.items) }
@@ -49,17 +47,16 @@ pub(crate) fn answer_to<H: Shelf, P: Progress>(
         shelf.new ≡ shelf.old }
 {
     match asked_for(words) {
-        Some(command) => answer_by(alloc, command, shelf, progress),
+        Some(command) => answer_by(alloc, command, shelf),
         None => line(alloc, Status::Words, "words: no command of this form\n"),
     }
 }
 
 // The answer to what is asked for.
-fn answer_by<H: Shelf, P: Progress>(
+fn answer_by<H: Shelf>(
     alloc: Global,
     command: Command<'_>,
     shelf: &mut H,
-    progress: &P,
 ) -> Result<Answer, AllocError>
     ensures answer { IfOk result (λ a. IsCommandAnswer (H.contents shelf.old) (H.faults shelf.old)
         (H.faults shelf.new) (command_in command.entry) a.status a.lines.items) }
@@ -69,22 +66,21 @@ fn answer_by<H: Shelf, P: Progress>(
 {
     match command {
         Command::Write(writing, file, options) => {
-            let asked = Asked { writing, options };
-            let task = Writes { asked, progress };
+            let task = Writes { writing, options };
             of_source(alloc, file, &task, shelf)
         }
         Command::Check(file, certificate, target) => {
-            check(alloc, file, certificate, target, shelf, progress)
+            check(alloc, file, certificate, target, shelf)
         }
         Command::Sample(count) => sampled(alloc, count),
-        Command::Trial(count, target) => trial(alloc, count, target, progress),
+        Command::Trial(count, target) => trial(alloc, count, target),
         Command::Run(file, certificate, memory, target) => {
             let files = RunFiles {
                 file,
                 certificate,
                 memory,
             };
-            run(alloc, files, target, shelf, progress)
+            run(alloc, files, target, shelf)
         }
         Command::Prove(_, _, _, _) => line(alloc, Status::NotYet, "not yet\n"),
     }
@@ -111,13 +107,12 @@ fn of_source<H: Shelf, T: Task>(
 
 // The answer to a file of C text and a certificate, both of which are read before the text is
 // looked at.
-fn check<H: Shelf, P: Progress>(
+fn check<H: Shelf>(
     alloc: Global,
     file: &str,
     certificate: &str,
     target: Target,
     shelf: &mut H,
-    progress: &P,
 ) -> Result<Answer, AllocError>
     ensures answer { IfOk result (λ a. IsCheckAnswer (H.contents shelf.old) (H.faults shelf.old)
         (H.faults shelf.new) file.now certificate.now (types.target_of target)
@@ -126,19 +121,18 @@ fn check<H: Shelf, P: Progress>(
     ensures counts { (name : List ℕ) → H.faults shelf.old name ≤ H.faults shelf.new name }
 {
     match read_whole(alloc, shelf, file, SOURCE_LIMIT) {
-        Ok(text) => with_certificate(alloc, &text, certificate, target, shelf, progress),
+        Ok(text) => with_certificate(alloc, &text, certificate, target, shelf),
         Err(trouble) => unread(alloc, file, "source", trouble),
     }
 }
 
 // The answer to a C text and a file of a certificate.
-fn with_certificate<H: Shelf, P: Progress>(
+fn with_certificate<H: Shelf>(
     alloc: Global,
     text: &[u8],
     file: &str,
     target: Target,
     shelf: &mut H,
-    progress: &P,
 ) -> Result<Answer, AllocError>
     ensures answer { IfOk result (λ a. IsFileAnswer (H.contents shelf.old) (H.faults shelf.old)
         (H.faults shelf.new) (certificate file.now)
@@ -152,7 +146,6 @@ fn with_certificate<H: Shelf, P: Progress>(
             let task = Checks {
                 target,
                 certificate: &certificate,
-                progress,
             };
             answer_text(alloc, text, &task)
         }
@@ -170,12 +163,11 @@ struct RunFiles<'a> {
 
 // The answer to a file of C text, a certificate and a memory, all of which are read before the text
 // is looked at.
-fn run<H: Shelf, P: Progress>(
+fn run<H: Shelf>(
     alloc: Global,
     files: RunFiles<'_>,
     target: Target,
     shelf: &mut H,
-    progress: &P,
 ) -> Result<Answer, AllocError>
     ensures answer { IfOk result (λ a. IsRunAnswer (H.contents shelf.old) (H.faults shelf.old)
         (H.faults shelf.new) files.entry.file.now files.entry.certificate.now files.entry.memory.now
@@ -184,28 +176,19 @@ fn run<H: Shelf, P: Progress>(
     ensures counts { (name : List ℕ) → H.faults shelf.old name ≤ H.faults shelf.new name }
 {
     match read_whole(alloc, shelf, files.file, SOURCE_LIMIT) {
-        Ok(text) => run_certified(
-            alloc,
-            &text,
-            files.certificate,
-            files.memory,
-            target,
-            shelf,
-            progress,
-        ),
+        Ok(text) => run_certified(alloc, &text, files.certificate, files.memory, target, shelf),
         Err(trouble) => unread(alloc, files.file, "source", trouble),
     }
 }
 
 // The answer to a C text and the files of a certificate and of a memory.
-fn run_certified<H: Shelf, P: Progress>(
+fn run_certified<H: Shelf>(
     alloc: Global,
     text: &[u8],
     file: &str,
     start: &str,
     target: Target,
     shelf: &mut H,
-    progress: &P,
 ) -> Result<Answer, AllocError>
     ensures answer { IfOk result (λ a. IsFileAnswer (H.contents shelf.old) (H.faults shelf.old)
         (H.faults shelf.new) (certificate file.now)
@@ -217,20 +200,19 @@ fn run_certified<H: Shelf, P: Progress>(
     ensures counts { (name : List ℕ) → H.faults shelf.old name ≤ H.faults shelf.new name }
 {
     match read_whole(alloc, shelf, file, CERTIFICATE_LIMIT) {
-        Ok(certificate) => run_from(alloc, text, &certificate, start, target, shelf, progress),
+        Ok(certificate) => run_from(alloc, text, &certificate, start, target, shelf),
         Err(trouble) => unread(alloc, file, "certificate", trouble),
     }
 }
 
 // The answer to a C text, the text of a certificate and the file of a memory.
-fn run_from<H: Shelf, P: Progress>(
+fn run_from<H: Shelf>(
     alloc: Global,
     text: &[u8],
     certificate: &[u8],
     file: &str,
     target: Target,
     shelf: &mut H,
-    progress: &P,
 ) -> Result<Answer, AllocError>
     ensures answer { IfOk result (λ a. IsFileAnswer (H.contents shelf.old) (H.faults shelf.old)
         (H.faults shelf.new) (memory file.now)
@@ -245,7 +227,6 @@ fn run_from<H: Shelf, P: Progress>(
                 target,
                 certificate,
                 memory: &memory,
-                progress,
             };
             answer_text(alloc, text, &task)
         }
@@ -297,19 +278,14 @@ fn sampled(alloc: Global, count: u32) -> Result<Answer, AllocError>
 }
 
 // A sample of so many functions, translated and checked.
-fn trial<P: Progress>(
-    alloc: Global,
-    count: u32,
-    target: Target,
-    progress: &P,
-) -> Result<Answer, AllocError>
+fn trial(alloc: Global, count: u32, target: Target) -> Result<Answer, AllocError>
     ensures { IfOk result (λ a.
         IsTrialAnswer count (types.target_of target) a.status a.lines.items) }
 {
     match u8::try_from(count) {
         Ok(few) if few <= COUNT_LIMIT => {
             let text = sample_text(alloc, few)?;
-            answer_text(alloc, &text, &Tries { target, progress })
+            answer_text(alloc, &text, &Tries { target })
         }
         _ => line(alloc, Status::Limit, "limit: count\n"),
     }

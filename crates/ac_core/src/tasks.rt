@@ -1,4 +1,4 @@
-//! What is to be done with a typed text. While it is done, it is told how far it is.
+//! What is to be done with a typed text.
 
 ghost use Rattle.std.specs.Prelude.{map, string_bytes};
 ghost use Rattle.c_values.specs.CodeTypes as types;
@@ -7,7 +7,7 @@ ghost use Rattle.command_line.specs.CodeCommand.{form_in};
 
 use crate::programs::write_unit;
 use crate::trial::tried;
-use ac_base::Progress;
+use ac_base::Nobody;
 use answers::Answer;
 use c_lang::tree::TypedUnit;
 use c_values::Target;
@@ -17,46 +17,37 @@ use running::ran;
 use std::alloc::{AllocError, Global};
 use text_answers::Task;
 
-/// How programs are to be written, and by which options.
+/// Its programs are written, by options.
 #[derive(Clone, Copy)]
-pub(crate) struct Asked<'a> {
+pub(crate) struct Writes<'a> {
     pub(crate) writing: Writing,
     pub(crate) options: &'a [String],
 }
 
-/// Its programs are written.
-#[derive(Drop)]
-pub(crate) struct Writes<'a, P> {
-    pub(crate) asked: Asked<'a>,
-    pub(crate) progress: &'a P,
-}
-
-impl<P: Progress> Task for Writes<'_, P> {
+impl Task for Writes<'_> {
     ghost use Rattle.ac_core.specs.Written.{IsWritten};
 
-    ghost target_for = { λ task. target_of (map string_bytes task.asked.options.now) };
+    ghost target_for = { λ task. target_of (map string_bytes task.options.now) };
 
-    ghost answers = { λ task. IsWritten (form_in task.asked.writing)
-        (map string_bytes task.asked.options.now) };
+    ghost answers = { λ task. IsWritten (form_in task.writing) (map string_bytes task.options.now) };
 
     fn target(&self) -> Target {
-        target_of(self.asked.options)
+        target_of(self.options)
     }
 
     fn answer(&self, alloc: Global, unit: TypedUnit) -> Result<Answer, AllocError> {
-        write_unit(alloc, &unit, self.asked, self.progress)
+        write_unit(alloc, &unit, *self)
     }
 }
 
 /// A certificate is checked for it.
-#[derive(Drop)]
-pub(crate) struct Checks<'a, P> {
+#[derive(Clone, Copy)]
+pub(crate) struct Checks<'a> {
     pub(crate) target: Target,
     pub(crate) certificate: &'a [u8],
-    pub(crate) progress: &'a P,
 }
 
-impl<P: Progress> Task for Checks<'_, P> {
+impl Task for Checks<'_> {
     ghost use Rattle.checking.specs.Checked.{IsChecked};
 
     ghost target_for = { λ task. types.target_of task.target };
@@ -68,26 +59,24 @@ impl<P: Progress> Task for Checks<'_, P> {
     }
 
     fn answer(&self, alloc: Global, unit: TypedUnit) -> Result<Answer, AllocError> {
-        checked(alloc, &unit, self.target, self.certificate, self.progress)
+        checked(alloc, &unit, self.target, self.certificate, &Nobody)
     }
 }
 
 /// A function of it is run from a memory, beside its program in a certificate.
-#[derive(Drop)]
-pub(crate) struct Runs<'a, P> {
+#[derive(Clone, Copy)]
+pub(crate) struct Runs<'a> {
     pub(crate) target: Target,
     pub(crate) certificate: &'a [u8],
     pub(crate) memory: &'a [u8],
-    pub(crate) progress: &'a P,
 }
 
-impl<P: Progress> Task for Runs<'_, P> {
+impl Task for Runs<'_> {
     ghost use Rattle.running.specs.Ran.{IsRan};
 
     ghost target_for = { λ task. types.target_of task.target };
 
-    ghost answers = { λ task. IsRan (types.target_of task.target) task.certificate.now
-        task.memory.now };
+    ghost answers = { λ task. IsRan (types.target_of task.target) task.certificate.now task.memory.now };
 
     fn target(&self) -> Target {
         self.target
@@ -100,19 +89,18 @@ impl<P: Progress> Task for Runs<'_, P> {
             self.target,
             self.certificate,
             self.memory,
-            self.progress,
+            &Nobody,
         )
     }
 }
 
 /// It is translated, and its certificate checked.
-#[derive(Drop)]
-pub(crate) struct Tries<'a, P> {
+#[derive(Clone, Copy)]
+pub(crate) struct Tries {
     pub(crate) target: Target,
-    pub(crate) progress: &'a P,
 }
 
-impl<P: Progress> Task for Tries<'_, P> {
+impl Task for Tries {
     ghost use Rattle.ac_core.specs.Trial.{IsTried};
 
     ghost target_for = { λ task. types.target_of task.target };
@@ -124,6 +112,6 @@ impl<P: Progress> Task for Tries<'_, P> {
     }
 
     fn answer(&self, alloc: Global, unit: TypedUnit) -> Result<Answer, AllocError> {
-        tried(alloc, &unit, self.target, self.progress)
+        tried(alloc, &unit, self.target)
     }
 }
