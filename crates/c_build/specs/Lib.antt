@@ -1,3 +1,2 @@
-pub mod CodeStacks
-pub mod CodeReduce
-pub mod CodeStacksOf
+pub mod CodeValues
+pub mod Void

@@ -1,2 +1,0 @@
-pub mod BuildReduces
-pub mod BuildReplays
