@@ -8,7 +8,7 @@ ghost use Rattle.c_grammar.specs.CodeTree.{bracket_of, call_of, decl_of, declara
 ghost use Rattle.c_grammar.specs.CodeBuild.{OfBracket, OfCall, OfDeclarator, OfDeclarators, OfDimensions, OfEnumerator, OfEnumerators, OfExp, OfExps, OfExternal, OfGroups, OfInit, OfInits, OfItems, OfLabel, OfLabels, OfLocal, OfMembers, OfParam, OfParamName, OfParameters, OfParams, OfRhs, OfSimple, OfStars, OfStart, OfStep, OfStmt, OfTest, OfTop, OfTops, OfType, OfUnit, OfWord, OfWords, Tok};
 ghost use Rattle.c_build.specs.CodeValues.{Takes, values_of};
 
-use crate::build::stack::{BuildFault, Stack};
+use crate::build::stack::{BuildFault, Stack, misplaced};
 use crate::build::value::Value;
 use c_grammar::tree::{
     Bracket, CExp, Call, Decl, Declarator, Declarators, Dimensions, Enumerator, Enumerators,
@@ -23,9 +23,10 @@ impl<'a> Stack<Value<'a>> {
         ensures { Takes Tok (λ t. lexeme_of t.now)
             (values_of self.old) result (values_of self.new) }
     {
-        match self.pop()? {
-            Value::Token(token) => Ok(token),
-            other => other.misplaced(),
+        match self.pop() {
+            Some(Value::Token(token)) => Ok(token),
+            Some(other) => misplaced(other),
+            None => Err(BuildFault::Missing),
         }
     }
 
@@ -34,9 +35,10 @@ impl<'a> Stack<Value<'a>> {
         ensures { Takes OfExp (λ e. exp_of e.value)
             (values_of self.old) result (values_of self.new) }
     {
-        match self.pop()? {
-            Value::Expression(expression) => Ok(expression),
-            other => other.misplaced(),
+        match self.pop() {
+            Some(Value::Expression(expression)) => Ok(expression),
+            Some(other) => misplaced(other),
+            None => Err(BuildFault::Missing),
         }
     }
 
@@ -45,9 +47,10 @@ impl<'a> Stack<Value<'a>> {
         ensures { Takes OfType (λ t. Typed (words_of t.0.value) t.1.items)
             (values_of self.old) result (values_of self.new) }
     {
-        match self.pop()? {
-            Value::TypeName(words, stars) => Ok((words, stars)),
-            other => other.misplaced(),
+        match self.pop() {
+            Some(Value::TypeName(words, stars)) => Ok((words, stars)),
+            Some(other) => misplaced(other),
+            None => Err(BuildFault::Missing),
         }
     }
 
@@ -56,9 +59,10 @@ impl<'a> Stack<Value<'a>> {
         ensures { Takes OfWord (λ w. word_of w.value)
             (values_of self.old) result (values_of self.new) }
     {
-        match self.pop()? {
-            Value::Word(word) => Ok(word),
-            other => other.misplaced(),
+        match self.pop() {
+            Some(Value::Word(word)) => Ok(word),
+            Some(other) => misplaced(other),
+            None => Err(BuildFault::Missing),
         }
     }
 
@@ -67,9 +71,10 @@ impl<'a> Stack<Value<'a>> {
         ensures { Takes OfWords (λ ws. words_of ws.value)
             (values_of self.old) result (values_of self.new) }
     {
-        match self.pop()? {
-            Value::Words(words) => Ok(words),
-            other => other.misplaced(),
+        match self.pop() {
+            Some(Value::Words(words)) => Ok(words),
+            Some(other) => misplaced(other),
+            None => Err(BuildFault::Missing),
         }
     }
 
@@ -78,9 +83,10 @@ impl<'a> Stack<Value<'a>> {
         ensures { Takes OfMembers (λ ms. members_of ms.value)
             (values_of self.old) result (values_of self.new) }
     {
-        match self.pop()? {
-            Value::Members(members) => Ok(members),
-            other => other.misplaced(),
+        match self.pop() {
+            Some(Value::Members(members)) => Ok(members),
+            Some(other) => misplaced(other),
+            None => Err(BuildFault::Missing),
         }
     }
 
@@ -89,9 +95,10 @@ impl<'a> Stack<Value<'a>> {
         ensures { Takes OfDeclarators (λ ds. declarators_of ds.value)
             (values_of self.old) result (values_of self.new) }
     {
-        match self.pop()? {
-            Value::Declarators(declarators) => Ok(declarators),
-            other => other.misplaced(),
+        match self.pop() {
+            Some(Value::Declarators(declarators)) => Ok(declarators),
+            Some(other) => misplaced(other),
+            None => Err(BuildFault::Missing),
         }
     }
 
@@ -100,9 +107,10 @@ impl<'a> Stack<Value<'a>> {
         ensures { Takes OfDeclarator (λ d. declarator_of d.value)
             (values_of self.old) result (values_of self.new) }
     {
-        match self.pop()? {
-            Value::Declarator(declarator) => Ok(declarator),
-            other => other.misplaced(),
+        match self.pop() {
+            Some(Value::Declarator(declarator)) => Ok(declarator),
+            Some(other) => misplaced(other),
+            None => Err(BuildFault::Missing),
         }
     }
 
@@ -111,9 +119,10 @@ impl<'a> Stack<Value<'a>> {
         ensures { Takes OfDimensions (λ ds. dimensions_of ds.value)
             (values_of self.old) result (values_of self.new) }
     {
-        match self.pop()? {
-            Value::Dimensions(dimensions) => Ok(dimensions),
-            other => other.misplaced(),
+        match self.pop() {
+            Some(Value::Dimensions(dimensions)) => Ok(dimensions),
+            Some(other) => misplaced(other),
+            None => Err(BuildFault::Missing),
         }
     }
 
@@ -121,9 +130,10 @@ impl<'a> Stack<Value<'a>> {
     pub(crate) fn stars(&mut self) -> Result<Stack<usize>, BuildFault>
         ensures { Takes OfStars (λ stars. stars) (values_of self.old) result (values_of self.new) }
     {
-        match self.pop()? {
-            Value::Stars(stars) => Ok(stars),
-            other => other.misplaced(),
+        match self.pop() {
+            Some(Value::Stars(stars)) => Ok(stars),
+            Some(other) => misplaced(other),
+            None => Err(BuildFault::Missing),
         }
     }
 
@@ -132,9 +142,10 @@ impl<'a> Stack<Value<'a>> {
         ensures { Takes OfEnumerators (λ es. enumerators_of es.value)
             (values_of self.old) result (values_of self.new) }
     {
-        match self.pop()? {
-            Value::Enumerators(enumerators) => Ok(enumerators),
-            other => other.misplaced(),
+        match self.pop() {
+            Some(Value::Enumerators(enumerators)) => Ok(enumerators),
+            Some(other) => misplaced(other),
+            None => Err(BuildFault::Missing),
         }
     }
 
@@ -143,9 +154,10 @@ impl<'a> Stack<Value<'a>> {
         ensures { Takes OfEnumerator (λ e. enumerator_of e.value)
             (values_of self.old) result (values_of self.new) }
     {
-        match self.pop()? {
-            Value::Enumerator(enumerator) => Ok(enumerator),
-            other => other.misplaced(),
+        match self.pop() {
+            Some(Value::Enumerator(enumerator)) => Ok(enumerator),
+            Some(other) => misplaced(other),
+            None => Err(BuildFault::Missing),
         }
     }
 
@@ -153,9 +165,10 @@ impl<'a> Stack<Value<'a>> {
     pub(crate) fn arguments(&mut self) -> Result<Stack<CExp>, BuildFault>
         ensures { Takes OfExps (map exp_of) (values_of self.old) result (values_of self.new) }
     {
-        match self.pop()? {
-            Value::Arguments(arguments) => Ok(arguments),
-            other => other.misplaced(),
+        match self.pop() {
+            Some(Value::Arguments(arguments)) => Ok(arguments),
+            Some(other) => misplaced(other),
+            None => Err(BuildFault::Missing),
         }
     }
 
@@ -164,9 +177,10 @@ impl<'a> Stack<Value<'a>> {
         ensures { Takes OfCall (λ c. call_of c.value)
             (values_of self.old) result (values_of self.new) }
     {
-        match self.pop()? {
-            Value::Call(call) => Ok(call),
-            other => other.misplaced(),
+        match self.pop() {
+            Some(Value::Call(call)) => Ok(call),
+            Some(other) => misplaced(other),
+            None => Err(BuildFault::Missing),
         }
     }
 
@@ -175,9 +189,10 @@ impl<'a> Stack<Value<'a>> {
         ensures { Takes OfRhs (λ r. rhs_of r.value)
             (values_of self.old) result (values_of self.new) }
     {
-        match self.pop()? {
-            Value::Right(right) => Ok(right),
-            other => other.misplaced(),
+        match self.pop() {
+            Some(Value::Right(right)) => Ok(right),
+            Some(other) => misplaced(other),
+            None => Err(BuildFault::Missing),
         }
     }
 
@@ -186,9 +201,10 @@ impl<'a> Stack<Value<'a>> {
         ensures { Takes OfSimple (λ s. simple_of s.value)
             (values_of self.old) result (values_of self.new) }
     {
-        match self.pop()? {
-            Value::Simple(simple) => Ok(simple),
-            other => other.misplaced(),
+        match self.pop() {
+            Some(Value::Simple(simple)) => Ok(simple),
+            Some(other) => misplaced(other),
+            None => Err(BuildFault::Missing),
         }
     }
 
@@ -197,9 +213,10 @@ impl<'a> Stack<Value<'a>> {
         ensures { Takes OfInit (option_map (λ r. rhs_of r.value))
             (values_of self.old) result (values_of self.new) }
     {
-        match self.pop()? {
-            Value::Initial(initial) => Ok(initial),
-            other => other.misplaced(),
+        match self.pop() {
+            Some(Value::Initial(initial)) => Ok(initial),
+            Some(other) => misplaced(other),
+            None => Err(BuildFault::Missing),
         }
     }
 
@@ -207,9 +224,10 @@ impl<'a> Stack<Value<'a>> {
     pub(crate) fn inits(&mut self) -> Result<Stack<Init>, BuildFault>
         ensures { Takes OfInits (map init_of) (values_of self.old) result (values_of self.new) }
     {
-        match self.pop()? {
-            Value::Inits(inits) => Ok(inits),
-            other => other.misplaced(),
+        match self.pop() {
+            Some(Value::Inits(inits)) => Ok(inits),
+            Some(other) => misplaced(other),
+            None => Err(BuildFault::Missing),
         }
     }
 
@@ -218,9 +236,10 @@ impl<'a> Stack<Value<'a>> {
         ensures { Takes OfLocal (λ l. local_of l.value)
             (values_of self.old) result (values_of self.new) }
     {
-        match self.pop()? {
-            Value::Local(local) => Ok(local),
-            other => other.misplaced(),
+        match self.pop() {
+            Some(Value::Local(local)) => Ok(local),
+            Some(other) => misplaced(other),
+            None => Err(BuildFault::Missing),
         }
     }
 
@@ -229,9 +248,10 @@ impl<'a> Stack<Value<'a>> {
         ensures { Takes OfLabel (λ l. label_of l.value)
             (values_of self.old) result (values_of self.new) }
     {
-        match self.pop()? {
-            Value::Label(label) => Ok(label),
-            other => other.misplaced(),
+        match self.pop() {
+            Some(Value::Label(label)) => Ok(label),
+            Some(other) => misplaced(other),
+            None => Err(BuildFault::Missing),
         }
     }
 
@@ -239,9 +259,10 @@ impl<'a> Stack<Value<'a>> {
     pub(crate) fn labels(&mut self) -> Result<Stack<Label>, BuildFault>
         ensures { Takes OfLabels (map label_of) (values_of self.old) result (values_of self.new) }
     {
-        match self.pop()? {
-            Value::Labels(labels) => Ok(labels),
-            other => other.misplaced(),
+        match self.pop() {
+            Some(Value::Labels(labels)) => Ok(labels),
+            Some(other) => misplaced(other),
+            None => Err(BuildFault::Missing),
         }
     }
 
@@ -250,9 +271,10 @@ impl<'a> Stack<Value<'a>> {
         ensures { Takes OfStart (λ s. start_of s.value)
             (values_of self.old) result (values_of self.new) }
     {
-        match self.pop()? {
-            Value::Start(start) => Ok(start),
-            other => other.misplaced(),
+        match self.pop() {
+            Some(Value::Start(start)) => Ok(start),
+            Some(other) => misplaced(other),
+            None => Err(BuildFault::Missing),
         }
     }
 
@@ -261,9 +283,10 @@ impl<'a> Stack<Value<'a>> {
         ensures { Takes OfTest (option_map (λ e. exp_of e.value))
             (values_of self.old) result (values_of self.new) }
     {
-        match self.pop()? {
-            Value::Test(test) => Ok(test),
-            other => other.misplaced(),
+        match self.pop() {
+            Some(Value::Test(test)) => Ok(test),
+            Some(other) => misplaced(other),
+            None => Err(BuildFault::Missing),
         }
     }
 
@@ -272,9 +295,10 @@ impl<'a> Stack<Value<'a>> {
         ensures { Takes OfStep (option_map (λ s. simple_of s.value))
             (values_of self.old) result (values_of self.new) }
     {
-        match self.pop()? {
-            Value::Step(step) => Ok(step),
-            other => other.misplaced(),
+        match self.pop() {
+            Some(Value::Step(step)) => Ok(step),
+            Some(other) => misplaced(other),
+            None => Err(BuildFault::Missing),
         }
     }
 
@@ -283,9 +307,10 @@ impl<'a> Stack<Value<'a>> {
         ensures { Takes OfStmt (λ s. stmt_of s.value)
             (values_of self.old) result (values_of self.new) }
     {
-        match self.pop()? {
-            Value::Statement(statement) => Ok(statement),
-            other => other.misplaced(),
+        match self.pop() {
+            Some(Value::Statement(statement)) => Ok(statement),
+            Some(other) => misplaced(other),
+            None => Err(BuildFault::Missing),
         }
     }
 
@@ -294,9 +319,10 @@ impl<'a> Stack<Value<'a>> {
         ensures { Takes OfItems (λ is. items_of is.value)
             (values_of self.old) result (values_of self.new) }
     {
-        match self.pop()? {
-            Value::Items(items) => Ok(items),
-            other => other.misplaced(),
+        match self.pop() {
+            Some(Value::Items(items)) => Ok(items),
+            Some(other) => misplaced(other),
+            None => Err(BuildFault::Missing),
         }
     }
 
@@ -305,9 +331,10 @@ impl<'a> Stack<Value<'a>> {
         ensures { Takes OfGroups (λ gs. groups_of gs.value)
             (values_of self.old) result (values_of self.new) }
     {
-        match self.pop()? {
-            Value::Groups(groups) => Ok(groups),
-            other => other.misplaced(),
+        match self.pop() {
+            Some(Value::Groups(groups)) => Ok(groups),
+            Some(other) => misplaced(other),
+            None => Err(BuildFault::Missing),
         }
     }
 
@@ -316,9 +343,10 @@ impl<'a> Stack<Value<'a>> {
         ensures { Takes OfBracket (λ b. bracket_of b.value)
             (values_of self.old) result (values_of self.new) }
     {
-        match self.pop()? {
-            Value::Bracket(bracket) => Ok(bracket),
-            other => other.misplaced(),
+        match self.pop() {
+            Some(Value::Bracket(bracket)) => Ok(bracket),
+            Some(other) => misplaced(other),
+            None => Err(BuildFault::Missing),
         }
     }
 
@@ -327,9 +355,10 @@ impl<'a> Stack<Value<'a>> {
         ensures { Takes OfParamName (option_map (λ n. (n.0, string_bytes n.1)))
             (values_of self.old) result (values_of self.new) }
     {
-        match self.pop()? {
-            Value::ParameterName(parameter_name) => Ok(parameter_name),
-            other => other.misplaced(),
+        match self.pop() {
+            Some(Value::ParameterName(parameter_name)) => Ok(parameter_name),
+            Some(other) => misplaced(other),
+            None => Err(BuildFault::Missing),
         }
     }
 
@@ -338,9 +367,10 @@ impl<'a> Stack<Value<'a>> {
         ensures { Takes OfParam (λ p. param_of p.value)
             (values_of self.old) result (values_of self.new) }
     {
-        match self.pop()? {
-            Value::Parameter(parameter) => Ok(parameter),
-            other => other.misplaced(),
+        match self.pop() {
+            Some(Value::Parameter(parameter)) => Ok(parameter),
+            Some(other) => misplaced(other),
+            None => Err(BuildFault::Missing),
         }
     }
 
@@ -348,9 +378,10 @@ impl<'a> Stack<Value<'a>> {
     pub(crate) fn parameter_list(&mut self) -> Result<Stack<Param>, BuildFault>
         ensures { Takes OfParams (map param_of) (values_of self.old) result (values_of self.new) }
     {
-        match self.pop()? {
-            Value::ParameterList(parameter_list) => Ok(parameter_list),
-            other => other.misplaced(),
+        match self.pop() {
+            Some(Value::ParameterList(parameter_list)) => Ok(parameter_list),
+            Some(other) => misplaced(other),
+            None => Err(BuildFault::Missing),
         }
     }
 
@@ -359,9 +390,10 @@ impl<'a> Stack<Value<'a>> {
         ensures { Takes OfParameters (option_map (λ ps. map param_of ps.items))
             (values_of self.old) result (values_of self.new) }
     {
-        match self.pop()? {
-            Value::Parameters(parameters) => Ok(parameters),
-            other => other.misplaced(),
+        match self.pop() {
+            Some(Value::Parameters(parameters)) => Ok(parameters),
+            Some(other) => misplaced(other),
+            None => Err(BuildFault::Missing),
         }
     }
 
@@ -370,9 +402,10 @@ impl<'a> Stack<Value<'a>> {
         ensures { Takes OfTop (λ t. top_of t.value)
             (values_of self.old) result (values_of self.new) }
     {
-        match self.pop()? {
-            Value::Top(top) => Ok(top),
-            other => other.misplaced(),
+        match self.pop() {
+            Some(Value::Top(top)) => Ok(top),
+            Some(other) => misplaced(other),
+            None => Err(BuildFault::Missing),
         }
     }
 
@@ -380,9 +413,10 @@ impl<'a> Stack<Value<'a>> {
     pub(crate) fn tops(&mut self) -> Result<Stack<Top>, BuildFault>
         ensures { Takes OfTops (map top_of) (values_of self.old) result (values_of self.new) }
     {
-        match self.pop()? {
-            Value::Tops(tops) => Ok(tops),
-            other => other.misplaced(),
+        match self.pop() {
+            Some(Value::Tops(tops)) => Ok(tops),
+            Some(other) => misplaced(other),
+            None => Err(BuildFault::Missing),
         }
     }
 
@@ -391,9 +425,10 @@ impl<'a> Stack<Value<'a>> {
         ensures { Takes OfExternal (λ d. decl_of d.value)
             (values_of self.old) result (values_of self.new) }
     {
-        match self.pop()? {
-            Value::External(external) => Ok(external),
-            other => other.misplaced(),
+        match self.pop() {
+            Some(Value::External(external)) => Ok(external),
+            Some(other) => misplaced(other),
+            None => Err(BuildFault::Missing),
         }
     }
 
@@ -401,9 +436,10 @@ impl<'a> Stack<Value<'a>> {
     pub(crate) fn text(&mut self) -> Result<Stack<Decl>, BuildFault>
         ensures { Takes OfUnit (map decl_of) (values_of self.old) result (values_of self.new) }
     {
-        match self.pop()? {
-            Value::Text(text) => Ok(text),
-            other => other.misplaced(),
+        match self.pop() {
+            Some(Value::Text(text)) => Ok(text),
+            Some(other) => misplaced(other),
+            None => Err(BuildFault::Missing),
         }
     }
 }

@@ -1,10 +1,8 @@
 //! The values that have been read: tokens, and the trees that have been built of them.
 
-ghost use Rattle.std.specs.Prelude.{IsErrOf};
 ghost use Rattle.c_grammar.specs.CodeTree.{exp_of, simple_of, stmt_of, word_of};
 ghost use Rattle.c_grammar.specs.CodeBuild.{OfExp, OfSimple, OfStmt, OfWord};
 ghost use Rattle.c_build.specs.CodeValues.{Puts, value_of, values_of};
-ghost use Rattle.c_build.specs.declared.build.stack.BuildFault.TheVariants.{Missing};
 
 use crate::build::stack::{BuildFault, Stack};
 use c_grammar::tree::{
@@ -54,15 +52,6 @@ pub(crate) enum Value<'a> {
     Tops(Stack<Top>),
     External(Box<Decl>),
     Text(Stack<Decl>),
-}
-
-impl Value<'_> {
-    /// Lets go of a value that stands where a part of another form is wanted.
-    pub(crate) fn misplaced<T>(self) -> Result<T, BuildFault>
-        ensures { IsErrOf result Missing }
-    {
-        Err(BuildFault::Missing)
-    }
 }
 
 #[tactic(auto, unfolding(crate::specs::CodeValues::values_of))]
