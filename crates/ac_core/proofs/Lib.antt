@@ -7,3 +7,4 @@ pub mod Translated
 pub mod Shown
 pub mod Tried
 pub mod NamedLevels
+pub mod MadeLevels

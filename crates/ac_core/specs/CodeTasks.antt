@@ -8,10 +8,10 @@ use Rattle.c_meaning.specs.Levels.{AreDefaultLevels}
 use Rattle.simpl_lang.specs.Command.{SimplFn, SimplUnit}
 use Rattle.generation.specs.Generate.{generated}
 use Rattle.command_line.specs.Words.{bytes_names, words_names}
-use Rattle.ac_core.specs.declared.tasks.Writes.{Writes}
+use Rattle.ac_core.specs.declared.tasks.Asked.{Asked}
 use Rattle.ac_core.specs.Written.{has_long_function}
 
-abbrev pub options_of : Writes → List Name
+abbrev pub options_of : Asked → List Name
 options_of asked = map string_bytes asked.options.now
 
 -- each position among the locals has 32 bits

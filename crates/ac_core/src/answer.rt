@@ -12,8 +12,8 @@ ghost use Rattle.ac_core.specs.Answer.{certificate, memory, source, AsksForNone,
 ghost use Rattle.ac_core.specs.CodeTrouble.{IsTrouble};
 ghost use Rattle.answers.specs.declared.status.Status.{Status};
 
-use crate::tasks::{Checks, Runs, Tries, Writes};
-use ac_base::{ReadTrouble, Shelf, read_whole};
+use crate::tasks::{Asked, Checks, Runs, Tries, Writes};
+use ac_base::{Progress, ReadTrouble, Shelf, read_whole};
 use answers::{Answer, Status, line, push, read_fault};
 use c_values::Target;
 use command_line::{Command, asked_for};
@@ -33,11 +33,13 @@ const MEMORY_LIMIT: u64 = 1_048_576;
 /// The most functions of a sample.
 const COUNT_LIMIT: u8 = 200;
 
-/// The answer to words. The shelf is asked for the files that they name alone.
-pub(crate) fn answer_to<H: Shelf>(
+/// The answer to words. The shelf is asked for the files that they name alone. It is told how far
+/// work is.
+pub(crate) fn answer_to<H: Shelf, P: Progress>(
     alloc: Global,
     words: &[String],
     shelf: &mut H,
+    progress: &P,
 ) -> Result<Answer, AllocError>
     ensures answer { IfOk result (λ a. IsAnswerTo (H.contents shelf.old) (H.faults shelf.old)
         (H.faults shelf.new) (command_of (map string_bytes words.now)) a.status a.lines.items) }
@@ -47,16 +49,17 @@ pub(crate) fn answer_to<H: Shelf>(
         shelf.new ≡ shelf.old }
 {
     match asked_for(words) {
-        Some(command) => answer_by(alloc, command, shelf),
+        Some(command) => answer_by(alloc, command, shelf, progress),
         None => line(alloc, Status::Words, "words: no command of this form\n"),
     }
 }
 
 // The answer to what is asked for.
-fn answer_by<H: Shelf>(
+fn answer_by<H: Shelf, P: Progress>(
     alloc: Global,
     command: Command<'_>,
     shelf: &mut H,
+    progress: &P,
 ) -> Result<Answer, AllocError>
     ensures answer { IfOk result (λ a. IsCommandAnswer (H.contents shelf.old) (H.faults shelf.old)
         (H.faults shelf.new) (command_in command.entry) a.status a.lines.items) }
@@ -66,21 +69,22 @@ fn answer_by<H: Shelf>(
 {
     match command {
         Command::Write(writing, file, options) => {
-            let task = Writes { writing, options };
+            let asked = Asked { writing, options };
+            let task = Writes { asked, progress };
             of_source(alloc, file, &task, shelf)
         }
         Command::Check(file, certificate, target) => {
-            check(alloc, file, certificate, target, shelf)
+            check(alloc, file, certificate, target, shelf, progress)
         }
         Command::Sample(count) => sampled(alloc, count),
-        Command::Trial(count, target) => trial(alloc, count, target),
+        Command::Trial(count, target) => trial(alloc, count, target, progress),
         Command::Run(file, certificate, memory, target) => {
             let files = RunFiles {
                 file,
                 certificate,
                 memory,
             };
-            run(alloc, files, target, shelf)
+            run(alloc, files, target, shelf, progress)
         }
         Command::Prove(_, _, _, _) => line(alloc, Status::NotYet, "not yet\n"),
     }
@@ -107,12 +111,13 @@ fn of_source<H: Shelf, T: Task>(
 
 // The answer to a file of C text and a certificate, both of which are read before the text is
 // looked at.
-fn check<H: Shelf>(
+fn check<H: Shelf, P: Progress>(
     alloc: Global,
     file: &str,
     certificate: &str,
     target: Target,
     shelf: &mut H,
+    progress: &P,
 ) -> Result<Answer, AllocError>
     ensures answer { IfOk result (λ a. IsCheckAnswer (H.contents shelf.old) (H.faults shelf.old)
         (H.faults shelf.new) file.now certificate.now (types.target_of target)
@@ -121,18 +126,19 @@ fn check<H: Shelf>(
     ensures counts { (name : List ℕ) → H.faults shelf.old name ≤ H.faults shelf.new name }
 {
     match read_whole(alloc, shelf, file, SOURCE_LIMIT) {
-        Ok(text) => with_certificate(alloc, &text, certificate, target, shelf),
+        Ok(text) => with_certificate(alloc, &text, certificate, target, shelf, progress),
         Err(trouble) => unread(alloc, file, "source", trouble),
     }
 }
 
 // The answer to a C text and a file of a certificate.
-fn with_certificate<H: Shelf>(
+fn with_certificate<H: Shelf, P: Progress>(
     alloc: Global,
     text: &[u8],
     file: &str,
     target: Target,
     shelf: &mut H,
+    progress: &P,
 ) -> Result<Answer, AllocError>
     ensures answer { IfOk result (λ a. IsFileAnswer (H.contents shelf.old) (H.faults shelf.old)
         (H.faults shelf.new) (certificate file.now)
@@ -146,6 +152,7 @@ fn with_certificate<H: Shelf>(
             let task = Checks {
                 target,
                 certificate: &certificate,
+                progress,
             };
             answer_text(alloc, text, &task)
         }
@@ -163,11 +170,12 @@ struct RunFiles<'a> {
 
 // The answer to a file of C text, a certificate and a memory, all of which are read before the text
 // is looked at.
-fn run<H: Shelf>(
+fn run<H: Shelf, P: Progress>(
     alloc: Global,
     files: RunFiles<'_>,
     target: Target,
     shelf: &mut H,
+    progress: &P,
 ) -> Result<Answer, AllocError>
     ensures answer { IfOk result (λ a. IsRunAnswer (H.contents shelf.old) (H.faults shelf.old)
         (H.faults shelf.new) files.entry.file.now files.entry.certificate.now files.entry.memory.now
@@ -176,19 +184,28 @@ fn run<H: Shelf>(
     ensures counts { (name : List ℕ) → H.faults shelf.old name ≤ H.faults shelf.new name }
 {
     match read_whole(alloc, shelf, files.file, SOURCE_LIMIT) {
-        Ok(text) => run_certified(alloc, &text, files.certificate, files.memory, target, shelf),
+        Ok(text) => run_certified(
+            alloc,
+            &text,
+            files.certificate,
+            files.memory,
+            target,
+            shelf,
+            progress,
+        ),
         Err(trouble) => unread(alloc, files.file, "source", trouble),
     }
 }
 
 // The answer to a C text and the files of a certificate and of a memory.
-fn run_certified<H: Shelf>(
+fn run_certified<H: Shelf, P: Progress>(
     alloc: Global,
     text: &[u8],
     file: &str,
     start: &str,
     target: Target,
     shelf: &mut H,
+    progress: &P,
 ) -> Result<Answer, AllocError>
     ensures answer { IfOk result (λ a. IsFileAnswer (H.contents shelf.old) (H.faults shelf.old)
         (H.faults shelf.new) (certificate file.now)
@@ -200,19 +217,20 @@ fn run_certified<H: Shelf>(
     ensures counts { (name : List ℕ) → H.faults shelf.old name ≤ H.faults shelf.new name }
 {
     match read_whole(alloc, shelf, file, CERTIFICATE_LIMIT) {
-        Ok(certificate) => run_from(alloc, text, &certificate, start, target, shelf),
+        Ok(certificate) => run_from(alloc, text, &certificate, start, target, shelf, progress),
         Err(trouble) => unread(alloc, file, "certificate", trouble),
     }
 }
 
 // The answer to a C text, the text of a certificate and the file of a memory.
-fn run_from<H: Shelf>(
+fn run_from<H: Shelf, P: Progress>(
     alloc: Global,
     text: &[u8],
     certificate: &[u8],
     file: &str,
     target: Target,
     shelf: &mut H,
+    progress: &P,
 ) -> Result<Answer, AllocError>
     ensures answer { IfOk result (λ a. IsFileAnswer (H.contents shelf.old) (H.faults shelf.old)
         (H.faults shelf.new) (memory file.now)
@@ -227,6 +245,7 @@ fn run_from<H: Shelf>(
                 target,
                 certificate,
                 memory: &memory,
+                progress,
             };
             answer_text(alloc, text, &task)
         }
@@ -278,14 +297,19 @@ fn sampled(alloc: Global, count: u32) -> Result<Answer, AllocError>
 }
 
 // A sample of so many functions, translated and checked.
-fn trial(alloc: Global, count: u32, target: Target) -> Result<Answer, AllocError>
+fn trial<P: Progress>(
+    alloc: Global,
+    count: u32,
+    target: Target,
+    progress: &P,
+) -> Result<Answer, AllocError>
     ensures { IfOk result (λ a.
         IsTrialAnswer count (types.target_of target) a.status a.lines.items) }
 {
     match u8::try_from(count) {
         Ok(few) if few <= COUNT_LIMIT => {
             let text = sample_text(alloc, few)?;
-            answer_text(alloc, &text, &Tries { target })
+            answer_text(alloc, &text, &Tries { target, progress })
         }
         _ => line(alloc, Status::Limit, "limit: count\n"),
     }

@@ -2,6 +2,7 @@
 #![tactic(auto)]
 
 mod answer;
+mod certificates;
 mod generation_laws;
 mod limits;
 mod programs;
@@ -10,6 +11,7 @@ mod top;
 mod trial;
 
 pub use answers::Status;
+pub use certificates::translate_unit;
 pub use checking::{
     ListFault, Phase, Refused, check_certificate, check_text, final_text, final_unit, index_levels,
     levels_of,

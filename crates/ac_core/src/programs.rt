@@ -5,37 +5,34 @@ ghost use Rattle.std.specs.HashSet.{contains_text};
 ghost use Rattle.c_values.specs.Name.{Name, is_among};
 ghost use Rattle.c_lang.specs.CodeTyped.{function_of, unit_of};
 ghost use Rattle.simpl_lang.specs.CodeCommand.{simpl_unit_of};
-ghost use Rattle.ac_expr.specs.SameExp.{same_exp};
-ghost use Rattle.acceptance_laws.specs.Made.{tidy_certificate};
-ghost use Rattle.unit_translation.specs.CodeTranslated.{AllReadyToLift};
-ghost use Rattle.certificate_text.specs.CertificateText.{certificate_text};
 ghost use Rattle.command_line.specs.Words.{target_of, first_unknown};
 ghost use Rattle.command_line.specs.CodeCommand.{form_in};
 ghost use Rattle.text_answers.specs.TextAnswer.{IsRead};
 ghost use Rattle.ac_core.specs.CodeTasks.{options_of, IsGenerated};
-ghost use Rattle.ac_core.specs.Written.{certificate_for, gives, is_function, IsWritten};
+ghost use Rattle.ac_core.specs.Written.{gives, is_function, IsWritten};
 
+use crate::certificates::certificate;
 use crate::limits::{has_few_locals, has_long_function};
-use crate::tasks::Writes;
+use crate::tasks::Asked;
 use abs_print::print;
-use ac_base::Nobody;
+use ac_base::Progress;
 use answers::{Answer, Status, line, unknown_name};
 use c_lang::tree::{TypedFn, TypedUnit};
 use c_levels::default_modes;
-use certificate_text::{Certificate, Version, write};
 use command_line::{Writing, first_unknown, names_after, target_of};
 use simpl_gen::generate;
 use simpl_lang::SimplUnit;
 use std::alloc::{AllocError, Global};
 use std::collections::HashSet;
 use unit_text::write_program;
-use unit_translation::{translate_functions, translate_generated};
+use unit_translation::translate_generated;
 
 /// What is written of a typed text.
-pub(crate) fn write_unit(
+pub(crate) fn write_unit<P: Progress>(
     alloc: Global,
     unit: &TypedUnit,
-    asked: Writes<'_>,
+    asked: Asked<'_>,
+    progress: &P,
 ) -> Result<Answer, AllocError>
     requires { IsRead (target_of (options_of asked)) (unit_of unit.now) }
     ensures { IfOk result (λ a. IsWritten (form_in asked.entry.writing) (options_of asked.entry)
@@ -44,7 +41,7 @@ pub(crate) fn write_unit(
     let functions = function_names(alloc, &unit.functions)?;
     match first_unknown(&functions, asked.options) {
         Some(name) => unknown_name(alloc, name),
-        None => write_named(alloc, unit, asked),
+        None => write_named(alloc, unit, asked, progress),
     }
 }
 
@@ -63,7 +60,12 @@ fn function_names(alloc: Global, functions: &[TypedFn]) -> Result<HashSet<String
 }
 
 // What is written where each function is there that an option names.
-fn write_named(alloc: Global, unit: &TypedUnit, asked: Writes<'_>) -> Result<Answer, AllocError>
+fn write_named<P: Progress>(
+    alloc: Global,
+    unit: &TypedUnit,
+    asked: Asked<'_>,
+    progress: &P,
+) -> Result<Answer, AllocError>
     requires read { IsRead (target_of (options_of asked)) (unit_of unit.now) }
     requires named { first_unknown (is_function (unit_of unit.now)) (options_of asked) ≡ None }
     ensures { IfOk result (λ a. IsWritten (form_in asked.entry.writing) (options_of asked.entry)
@@ -79,7 +81,7 @@ fn write_named(alloc: Global, unit: &TypedUnit, asked: Writes<'_>) -> Result<Ans
     if !has_few_locals(&generated) {
         return Err(AllocError);
     }
-    let lines = written(alloc, unit, generated, asked)?;
+    let lines = written(alloc, unit, generated, asked, progress)?;
     Ok(Answer {
         status: Status::Done,
         lines,
@@ -87,11 +89,12 @@ fn write_named(alloc: Global, unit: &TypedUnit, asked: Writes<'_>) -> Result<Ans
 }
 
 // What is written of a unit, once the levels that its functions have are chosen.
-fn written(
+fn written<P: Progress>(
     alloc: Global,
     unit: &TypedUnit,
     generated: SimplUnit,
-    asked: Writes<'_>,
+    asked: Asked<'_>,
+    progress: &P,
 ) -> Result<Vec<u8>, AllocError>
     requires read { IsRead (target_of (options_of asked)) (unit_of unit.now) }
     requires named { first_unknown (is_function (unit_of unit.now)) (options_of asked) ≡ None }
@@ -102,30 +105,13 @@ fn written(
 {
     match asked.writing {
         Writing::Tree => {
-            let programs = translate_generated(alloc, generated, &Nobody)?;
+            let programs = translate_generated(alloc, generated, progress)?;
             write_program(alloc, &programs)
         }
         Writing::Notation => {
-            let programs = translate_generated(alloc, generated, &Nobody)?;
+            let programs = translate_generated(alloc, generated, progress)?;
             print(alloc, &programs)
         }
-        Writing::Certificate => certificate(alloc, &generated, asked.options),
+        Writing::Certificate => certificate(alloc, &generated, asked.options, progress),
     }
-}
-
-// The certificate of what was generated, for the target that the options choose.
-fn certificate(
-    alloc: Global,
-    generated: &SimplUnit,
-    options: &[String],
-) -> Result<Vec<u8>, AllocError>
-    requires ready { AllReadyToLift (simpl_unit_of generated.now).functions
-        (simpl_unit_of generated.now).signatures }
-    ensures { IfOk result (λ lines. lines.items ≡ certificate_text
-        (certificate_for (map string_bytes options.now)
-        (tidy_certificate same_exp (simpl_unit_of generated.now)))) }
-{
-    let functions = translate_functions(alloc, generated, &Nobody)?;
-    let version = Version::Two(target_of(options));
-    write(alloc, &Certificate { version, functions })
 }

@@ -1,4 +1,4 @@
-//! What is to be done with a typed text.
+//! What is to be done with a typed text. While it is done, it is told how far it is.
 
 ghost use Rattle.std.specs.Prelude.{map, string_bytes};
 ghost use Rattle.c_values.specs.CodeTypes as types;
@@ -7,7 +7,7 @@ ghost use Rattle.command_line.specs.CodeCommand.{form_in};
 
 use crate::programs::write_unit;
 use crate::trial::tried;
-use ac_base::Nobody;
+use ac_base::Progress;
 use answers::Answer;
 use c_lang::tree::TypedUnit;
 use c_values::Target;
@@ -17,37 +17,46 @@ use running::ran;
 use std::alloc::{AllocError, Global};
 use text_answers::Task;
 
-/// Its programs are written, by options.
+/// How programs are to be written, and by which options.
 #[derive(Clone, Copy)]
-pub(crate) struct Writes<'a> {
+pub(crate) struct Asked<'a> {
     pub(crate) writing: Writing,
     pub(crate) options: &'a [String],
 }
 
-impl Task for Writes<'_> {
+/// Its programs are written.
+#[derive(Drop)]
+pub(crate) struct Writes<'a, P> {
+    pub(crate) asked: Asked<'a>,
+    pub(crate) progress: &'a P,
+}
+
+impl<P: Progress> Task for Writes<'_, P> {
     ghost use Rattle.ac_core.specs.Written.{IsWritten};
 
-    ghost target_for = { λ task. target_of (map string_bytes task.options.now) };
+    ghost target_for = { λ task. target_of (map string_bytes task.asked.options.now) };
 
-    ghost answers = { λ task. IsWritten (form_in task.writing) (map string_bytes task.options.now) };
+    ghost answers = { λ task. IsWritten (form_in task.asked.writing)
+        (map string_bytes task.asked.options.now) };
 
     fn target(&self) -> Target {
-        target_of(self.options)
+        target_of(self.asked.options)
     }
 
     fn answer(&self, alloc: Global, unit: TypedUnit) -> Result<Answer, AllocError> {
-        write_unit(alloc, &unit, *self)
+        write_unit(alloc, &unit, self.asked, self.progress)
     }
 }
 
 /// A certificate is checked for it.
-#[derive(Clone, Copy)]
-pub(crate) struct Checks<'a> {
+#[derive(Drop)]
+pub(crate) struct Checks<'a, P> {
     pub(crate) target: Target,
     pub(crate) certificate: &'a [u8],
+    pub(crate) progress: &'a P,
 }
 
-impl Task for Checks<'_> {
+impl<P: Progress> Task for Checks<'_, P> {
     ghost use Rattle.checking.specs.Checked.{IsChecked};
 
     ghost target_for = { λ task. types.target_of task.target };
@@ -59,24 +68,26 @@ impl Task for Checks<'_> {
     }
 
     fn answer(&self, alloc: Global, unit: TypedUnit) -> Result<Answer, AllocError> {
-        checked(alloc, &unit, self.target, self.certificate, &Nobody)
+        checked(alloc, &unit, self.target, self.certificate, self.progress)
     }
 }
 
 /// A function of it is run from a memory, beside its program in a certificate.
-#[derive(Clone, Copy)]
-pub(crate) struct Runs<'a> {
+#[derive(Drop)]
+pub(crate) struct Runs<'a, P> {
     pub(crate) target: Target,
     pub(crate) certificate: &'a [u8],
     pub(crate) memory: &'a [u8],
+    pub(crate) progress: &'a P,
 }
 
-impl Task for Runs<'_> {
+impl<P: Progress> Task for Runs<'_, P> {
     ghost use Rattle.running.specs.Ran.{IsRan};
 
     ghost target_for = { λ task. types.target_of task.target };
 
-    ghost answers = { λ task. IsRan (types.target_of task.target) task.certificate.now task.memory.now };
+    ghost answers = { λ task. IsRan (types.target_of task.target) task.certificate.now
+        task.memory.now };
 
     fn target(&self) -> Target {
         self.target
@@ -89,18 +100,19 @@ impl Task for Runs<'_> {
             self.target,
             self.certificate,
             self.memory,
-            &Nobody,
+            self.progress,
         )
     }
 }
 
 /// It is translated, and its certificate checked.
-#[derive(Clone, Copy)]
-pub(crate) struct Tries {
+#[derive(Drop)]
+pub(crate) struct Tries<'a, P> {
     pub(crate) target: Target,
+    pub(crate) progress: &'a P,
 }
 
-impl Task for Tries {
+impl<P: Progress> Task for Tries<'_, P> {
     ghost use Rattle.ac_core.specs.Trial.{IsTried};
 
     ghost target_for = { λ task. types.target_of task.target };
@@ -112,6 +124,6 @@ impl Task for Tries {
     }
 
     fn answer(&self, alloc: Global, unit: TypedUnit) -> Result<Answer, AllocError> {
-        tried(alloc, &unit, self.target)
+        tried(alloc, &unit, self.target, self.progress)
     }
 }

@@ -21,7 +21,7 @@ use answers::Status;
 use std::alloc::Global;
 
 /// Does what the words ask for: reads the files that they name from the shelf, and writes the
-/// answer, or the line of a fault, to the sink.
+/// answer, or the line of a fault, to the sink, which is told how far the work is.
 ///
 /// So far `show`, `print`, `translate`, `check`, `run`, `sample` and `trial` are built. Programs that are
 /// written are tidy, and have names, types and numbers of the text alone, so that what is written is
@@ -86,7 +86,9 @@ pub fn autocorres<H: Shelf, K: Sink>(
     ensures counts { (name : List ℕ) → H.faults shelf.old name ≤ H.faults shelf.new name }
     ensures sink_count { K.faults sink.old ≤ K.faults sink.new }
 {
-    let Ok(answer) = answer_to(alloc, words, shelf) else {
+    let answer = answer_to(alloc, words, shelf, &*sink);
+    sink.over();
+    let Ok(answer) = answer else {
         return Status::Memory;
     };
     match write_whole(sink, &answer.lines) {

@@ -12,7 +12,7 @@ ghost use Rattle.answers.specs.declared.status.Status.{Status};
 ghost use Rattle.ac_core.specs.Trial.{IsTried, count_at, number_line, trial_lines};
 
 use crate::limits::has_few_locals;
-use ac_base::Nobody;
+use ac_base::Progress;
 use acceptance::check_functions;
 use answers::{Answer, Status, push};
 use c_lang::tree::TypedUnit;
@@ -27,7 +27,12 @@ use std::alloc::{AllocError, Global};
 use unit_translation::translate_functions;
 
 /// What a trial says of a typed text, at the levels by default.
-pub(crate) fn tried(alloc: Global, unit: &TypedUnit, target: Target) -> Result<Answer, AllocError>
+pub(crate) fn tried<P: Progress>(
+    alloc: Global,
+    unit: &TypedUnit,
+    target: Target,
+    progress: &P,
+) -> Result<Answer, AllocError>
     requires { IsRead (types.target_of target) (unit_of unit.now) }
     ensures { IfOk result (λ a.
         IsTried (types.target_of target) (unit_of unit.now) a.status a.lines.items) }
@@ -37,7 +42,7 @@ pub(crate) fn tried(alloc: Global, unit: &TypedUnit, target: Target) -> Result<A
     if !has_few_locals(&generated) {
         return Err(AllocError);
     }
-    let functions = translate_functions(alloc, &generated, &Nobody)?;
+    let functions = translate_functions(alloc, &generated, progress)?;
     // The kernel is run, though what is translated is proved to be accepted: a trial is a run of both.
     if check_functions(&generated, &functions).is_err() {
         unreachable!()

@@ -2,27 +2,39 @@
 
 ghost use Rattle.std.specs.Prelude.{None};
 
-use ac_base::{Failed, Progress, Sink};
+use ac_base::{Failed, Progress, Sink, Work};
 use std::io::Write;
 
-/// What is written goes to a writer. It doesn't tell what was taken.
+/// What is written goes to a writer, and how far it is to another. It doesn't tell what was taken.
 #[derive(Drop)]
-pub struct StdoutSink<W: Write> {
+pub struct StdoutSink<W: Write, P: Progress> {
     out: W,
+    progress: P,
     faults: u64,
 }
 
-impl<W: Write> StdoutSink<W> {
+impl<W: Write, P: Progress> StdoutSink<W, P> {
     /// A sink that had no fault so far.
-    pub fn new(out: W) -> StdoutSink<W> {
-        StdoutSink { out, faults: 0 }
+    pub fn new(out: W, progress: P) -> StdoutSink<W, P> {
+        StdoutSink {
+            out,
+            progress,
+            faults: 0,
+        }
     }
 }
 
-// Nothing is said of how far work is.
-impl<W: Write> Progress for StdoutSink<W> {}
+impl<W: Write, P: Progress> Progress for StdoutSink<W, P> {
+    fn done(&self, work: Work, functions: usize, all: usize) {
+        self.progress.done(work, functions, all);
+    }
 
-impl<W: Write> Sink for StdoutSink<W> {
+    fn over(&self) {
+        self.progress.over();
+    }
+}
+
+impl<W: Write, P: Progress> Sink for StdoutSink<W, P> {
     ghost taken = { λ sink. None };
 
     ghost faults = { λ sink. sink.faults };

@@ -14,6 +14,8 @@ mod generated;
 #[cfg(test)]
 mod guards;
 #[cfg(test)]
+mod progress;
+#[cfg(test)]
 mod runs;
 #[cfg(test)]
 mod type_rows;

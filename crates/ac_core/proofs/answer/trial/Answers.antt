@@ -7,7 +7,7 @@ use Rattle.ac_core.specs.Trial.{IsTried}
 use Rattle.ac_core.proofs.answer.trial.Goals as goal
 
 pub returns-in_ok-text-in-Ok : goal.returns-in_ok-text-in-Ok
-returns-in_ok-text-in-Ok c =
+returns-in_ok-text-in-Ok g c =
     of_result c.answer_text.result _ _
     (λ a h. inl (
       omega (arith, c.if-few-le-COUNT_LIMIT.true, c.in-Ok.ensures),

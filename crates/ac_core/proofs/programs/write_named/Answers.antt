@@ -13,7 +13,7 @@ use Rattle.ac_core.proofs.NamedLevels.{named_levels}
 use Rattle.ac_core.proofs.programs.write_named.Goals as goal
 
 pub written-requires-clause-generated : goal.written-requires-clause-generated
-written-requires-clause-generated c =
+written-requires-clause-generated g c =
     let u = c.args.unit.now in
     let typed = well_typed (target_of (options_of c.args.asked)) (unit_of u) c.requires.read in
     let each = c.in_ok-modes.ensures.one_each in
@@ -24,7 +24,7 @@ written-requires-clause-generated c =
     record { levels = levels; default = default'; is = is; within = sym c.has_long_function.ensures ∙ c.if-has_long_function.false; few = sym c.has_few_locals.ensures ∙ c.if-not-has_few_locals.false }
 
 pub returns-then-has_long_function : goal.returns-then-has_long_function
-returns-then-has_long_function c =
+returns-then-has_long_function g c =
     let u = c.args.unit.now in
     let typed = well_typed (target_of (options_of c.args.asked)) (unit_of u) c.requires.read in
     let each = c.in_ok-modes.ensures.one_each in

@@ -12,13 +12,13 @@ use Rattle.ac_core.proofs.Told.{unnamed_answer}
 use Rattle.ac_core.proofs.programs.write_unit.Goals as goal
 
 pub write_named-requires-clause-named : goal.write_named-requires-clause-named
-write_named-requires-clause-named c =
+write_named-requires-clause-named g c =
     same_unknown (is_function (unit_of c.args.unit.now)) (contains_text c.in_ok-functions.functions)
     (λ x. sym (c.in_ok-functions.ensures x ∙ ap (λ gs. is_among x (map (λ f. f.name) (map function_of gs))) c.deref.ensures.value)) (options_of c.args.asked)
     ∙ sym c.in-None.ensures
 
 pub returns-in-Some : goal.returns-in-Some
-returns-in-Some c =
+returns-in-Some g c =
     of_result c.unknown_name.result _ _
     (λ a. unnamed_answer (form_in c.args.asked.writing) (options_of c.args.asked) (unit_of c.args.unit.now) c.in-Some.name.now a.status a.lines.items
     (same_unknown (is_function (unit_of c.args.unit.now)) (contains_text c.in_ok-functions.functions)

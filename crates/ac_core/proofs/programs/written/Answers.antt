@@ -18,7 +18,7 @@ use Rattle.ac_core.proofs.Shown.{shows, translates}
 use Rattle.ac_core.proofs.programs.written.Goals as goal
 
 pub translate_generated-requires : goal.translate_generated-requires
-translate_generated-requires c =
+translate_generated-requires g c =
     let u = unit_of c.args.unit.now in
     record {
       ready = subst (λ (g : SimplUnit). AllReadyToLift g.functions g.signatures) (sym c.requires.generated.is)
@@ -26,7 +26,7 @@ translate_generated-requires c =
     }
 
 pub translate_generated-requires-in-Notation : goal.translate_generated-requires-in-Notation
-translate_generated-requires-in-Notation c =
+translate_generated-requires-in-Notation g c =
     let u = unit_of c.args.unit.now in
     record {
       ready = subst (λ (g : SimplUnit). AllReadyToLift g.functions g.signatures) (sym c.requires.generated.is)
@@ -34,7 +34,7 @@ translate_generated-requires-in-Notation c =
     }
 
 pub certificate-requires : goal.certificate-requires
-certificate-requires c =
+certificate-requires g c =
     let u = unit_of c.args.unit.now in
     record {
       ready = subst (λ (g : SimplUnit). AllReadyToLift g.functions g.signatures) (sym c.requires.generated.is)
@@ -42,14 +42,14 @@ certificate-requires c =
     }
 
 pub returns-in-Certificate : goal.returns-in-Certificate
-returns-in-Certificate c =
+returns-in-Certificate g c =
     of_result c.certificate.result _ _
     (λ lines e. subst (λ w. gives (options_of c.args.asked) (unit_of c.args.unit.now) (form_in w) lines.items) (sym c.in-Certificate.is)
     (translates (options_of c.args.asked) (unit_of c.args.unit.now) c.requires.read (simpl_unit_of c.args.generated) c.requires.named c.requires.generated lines.items e))
     c.certificate.ensures
 
 pub returns-in_ok-programs-in-Tree : goal.returns-in_ok-programs-in-Tree
-returns-in_ok-programs-in-Tree c =
+returns-in_ok-programs-in-Tree g c =
     of_result c.write_program.result _ _
     (λ lines e. subst (λ w. gives (options_of c.args.asked) (unit_of c.args.unit.now) (form_in w) lines.items) (sym c.in-Tree.is)
     (shows (options_of c.args.asked) (unit_of c.args.unit.now) c.requires.read (simpl_unit_of c.args.generated) c.requires.named c.requires.generated unit_text
@@ -57,7 +57,7 @@ returns-in_ok-programs-in-Tree c =
     c.write_program.ensures
 
 pub returns-in_ok-programs-in-Notation : goal.returns-in_ok-programs-in-Notation
-returns-in_ok-programs-in-Notation c =
+returns-in_ok-programs-in-Notation g c =
     of_result c.print.result _ _
     (λ lines e. subst (λ w. gives (options_of c.args.asked) (unit_of c.args.unit.now) (form_in w) lines.items) (sym c.in-Notation.is)
     (shows (options_of c.args.asked) (unit_of c.args.unit.now) c.requires.read (simpl_unit_of c.args.generated) c.requires.named c.requires.generated unit_lines

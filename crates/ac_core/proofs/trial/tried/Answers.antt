@@ -16,7 +16,7 @@ use Rattle.ac_core.proofs.Tried.{well_formed, is_accepted, tries, no_error, line
 use Rattle.ac_core.proofs.trial.tried.Goals as goal
 
 pub translate_functions-requires : goal.translate_functions-requires
-translate_functions-requires c =
+translate_functions-requires g c =
     let u = c.args.unit.now in
     let typed = well_typed (types.target_of c.args.target) (unit_of u) c.requires in
     let levels = levels_of u c.in_ok-modes.modes in
@@ -24,7 +24,7 @@ translate_functions-requires c =
     record { ready = subst (λ (g : SimplUnit). AllReadyToLift g.functions g.signatures) (sym is) (generated_are_ready (unit_of u) typed levels) }
 
 pub check_functions-requires : goal.check_functions-requires
-check_functions-requires c =
+check_functions-requires g c =
     let u = c.args.unit.now in
     let typed = well_typed (types.target_of c.args.target) (unit_of u) c.requires in
     let levels = levels_of u c.in_ok-modes.modes in
@@ -33,7 +33,7 @@ check_functions-requires c =
     well_formed (types.target_of c.args.target) (unit_of u) c.requires levels default' (simpl_unit_of c.in_ok-generated.generated) is (sym c.has_few_locals.ensures ∙ c.if-not-has_few_locals.false)
 
 pub unreachable-requires : goal.unreachable-requires
-unreachable-requires c =
+unreachable-requires g c =
     let u = c.args.unit.now in
     let typed = well_typed (types.target_of c.args.target) (unit_of u) c.requires in
     let levels = levels_of u c.in_ok-modes.modes in
@@ -45,7 +45,7 @@ unreachable-requires c =
     (is_accepted (types.target_of c.args.target) (unit_of u) c.requires levels default' (simpl_unit_of c.in_ok-generated.generated) is (sym c.has_few_locals.ensures ∙ c.if-not-has_few_locals.false)))
 
 pub returns : goal.returns
-returns c =
+returns g c =
     let u = c.args.unit.now in
     let typed = well_typed (types.target_of c.args.target) (unit_of u) c.requires in
     let levels = levels_of u c.in_ok-modes.modes in

@@ -4,4 +4,4 @@ use Rattle.text_answers.proofs.WellTyped.{well_typed}
 use Rattle.ac_core.proofs.tasks.ChecksTask.answer.Goals as goal
 
 pub checked-requires : goal.checked-requires
-checked-requires c = record { typed = well_typed (types.target_of c.args.self.now.target) (unit_of c.args.unit) c.requires }
+checked-requires g c = record { typed = well_typed (types.target_of c.args.self.now.target) (unit_of c.args.unit) c.requires }

@@ -4,4 +4,4 @@ use Rattle.text_answers.proofs.WellTyped.{well_typed}
 use Rattle.ac_core.proofs.tasks.RunsTask.answer.Goals as goal
 
 pub ran-requires : goal.ran-requires
-ran-requires c = record { typed = well_typed (types.target_of c.args.self.now.target) (unit_of c.args.unit) c.requires }
+ran-requires g c = record { typed = well_typed (types.target_of c.args.self.now.target) (unit_of c.args.unit) c.requires }
