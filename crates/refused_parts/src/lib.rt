@@ -1,0 +1,6 @@
+//! Which part of what a step takes a node of the step's tree of rules is about.
+#![tactic(auto)]
+
+mod ways;
+
+pub use ways::way_to;
