@@ -1,3 +1,13 @@
 pub mod Searching
-pub mod Stepping
 pub mod Shapes
+pub mod Stepping
+pub mod Positions
+pub mod Along
+pub mod Existence
+pub mod CommandSteps
+pub mod HeapSteps
+pub mod WordSteps
+pub mod EqualSteps
+pub mod Walking
+pub mod Verdicts
+pub mod Answers

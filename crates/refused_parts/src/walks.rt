@@ -26,7 +26,7 @@ pub(crate) trait Inside<P>: Drop {
 
     /// What the tree at a position is about, below a node of this rule that is about the part. It
     /// is none where that is an expression, which stands in the part.
-    fn inside<'a>(&self, part: &'a P, position: usize) -> Option<&'a P>
+    fn inside<'a>(&'a self, part: &'a P, position: usize) -> Option<&'a P>
         ensures { option_map (λ inner. seen inner.now) result
             ≡ goes_on (rule self.now) (seen part.now) position };
 }
@@ -35,7 +35,7 @@ pub(crate) trait Inside<P>: Drop {
 /// step. It is none where the tree has fewer nodes.
 pub(crate) fn numbered<'a, P, R: Inside<P>>(
     alloc: Global,
-    tree: &Tree<R>,
+    tree: &'a Tree<R>,
     left: &'a P,
     node: u32,
 ) -> Result<Option<&'a P>, AllocError>
@@ -49,7 +49,7 @@ pub(crate) fn numbered<'a, P, R: Inside<P>>(
 }
 
 // What the node at the end of a way is about.
-fn at_way<'a, P, R: Inside<P>>(tree: &Tree<R>, left: &'a P, way: &[usize]) -> &'a P
+fn at_way<'a, P, R: Inside<P>>(tree: &'a Tree<R>, left: &'a P, way: &[usize]) -> &'a P
     ensures { R.seen result.now
         ≡ walked R.goes_on (tree_of R.rule tree.now) (R.seen left.now) (reverse way.now) }
 {
