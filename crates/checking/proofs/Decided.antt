@@ -84,7 +84,7 @@ module _ (u : TypedUnit) (cs : List Steps) where
         pub at_levels : AreAtLevels g cs
         at_levels = subst (λ (v : SimplUnit). AreAtLevels v cs) (sym is) (λ none. levels_generated u (level_in cs) ∙ are_levels)
 
-        none_differ : names_apart g cs ≡ None
+        pub none_differ : names_apart g cs ≡ None
         none_differ =
             ap (λ (v : SimplUnit). names_apart v cs) is ∙ ap (λ xs. listed_apart 0 xs (names_in cs)) (names_generated u (level_in cs)) ∙ listed
 

@@ -12,3 +12,6 @@ mod Named
 pub mod OneText
 mod Results
 mod Told
+pub mod Places
+pub mod RefusedPlaces
+pub mod PartShown

@@ -6,3 +6,5 @@ pub mod Levels
 pub mod CodeLevels
 pub mod Programs
 pub mod CodeJudged
+pub mod RefusedPart
+pub mod CodeParts

@@ -8,12 +8,15 @@ mod last_programs;
 mod levels;
 mod lines;
 mod names;
+mod parts;
 mod refused;
 mod texts;
+mod trials;
 mod verdicts;
 
 pub use certificates::{check_certificate, final_unit};
 pub use levels::{ListFault, index_levels, levels_of};
+pub use parts::refused_part;
 pub use refused::{Phase, Refused};
 pub use texts::{check_text, final_text};
 pub use verdicts::{Accepted, checked, judged};

@@ -16,11 +16,10 @@ ghost use Rattle.checking.specs.CodeRefused.{phase_of};
 ghost use Rattle.checking.specs.Checked.{IsChecked, IsSaid, apart, function_names, target_for};
 ghost use Rattle.checking.specs.CodeJudged.{IsJudged, IsJudgedAs};
 
-use crate::levels::levels;
 use crate::lines::{accepted, name_at, phase_word, refusal};
 use crate::names::apart;
 use crate::refused::Refused;
-use crate::texts::check_telling;
+use crate::trials::try_listed;
 use ac_base::Progress;
 use answers::{Answer, Status, line, push};
 use c_lang::tree::TypedUnit;
@@ -29,7 +28,6 @@ use c_values::Target;
 use certificate_text::{CertIndex, Version, scan};
 use expression_text::TextFault;
 use itoa::Buffer;
-use simpl_gen::generate;
 use simpl_lang::SimplUnit;
 use std::alloc::{AllocError, Global};
 
@@ -134,8 +132,8 @@ fn of_index<P: Progress>(
     }
 }
 
-// Whether a certificate of a version is for a target.
-fn is_for(version: Version, target: Target) -> bool
+/// Whether a certificate of a version is for a target.
+pub(crate) fn is_for(version: Version, target: Target) -> bool
     ensures { IsTrue result ↔ (target_for (version_of version) ≡ types.target_of target) }
 {
     match (version, target) {
@@ -182,13 +180,12 @@ fn verdict_on_listed<P: Progress>(
     ensures { (c : texts.Certificate) → IsCertificateText text.now c →
         IfOk result (IsJudgedAs text.now (unit_of unit.now) c) }
 {
-    let modes = levels(alloc, &index.functions)?;
-    let generated = generate(alloc, unit, &modes)?;
-    match check_telling(alloc, &generated, text, &index, progress)? {
+    let tried = try_listed(alloc, unit, text, index, progress)?;
+    match tried.answer {
         Ok(()) => Ok(Ok(Accepted {
-            index,
-            modes,
-            generated,
+            index: tried.index,
+            modes: tried.modes,
+            generated: tried.generated,
         })),
         Err(refused) => Ok(Err(refused_line(alloc, unit, refused)?)),
     }

@@ -50,22 +50,22 @@ pub fn part_at<'a>(
         Phase::Level => Ok(Some(Part::Command(body))),
         Phase::Exception => Ok(command(numbered(alloc, &steps.exception.tree, body, node)?)),
         Phase::Local => {
-            let left = &steps.exception.program;
+            let left = &*steps.exception.program;
             Ok(command(numbered(alloc, &steps.local.tree, left, node)?))
         }
         Phase::Heap => match &steps.heap {
             Some(step) => {
-                let left = &steps.local.program;
+                let left = &*steps.local.program;
                 Ok(program(numbered(alloc, &step.tree, left, node)?))
             }
-            None => Ok(Some(Part::Program(&steps.local.program))),
+            None => Ok(Some(Part::Program(&*steps.local.program))),
         },
         Phase::Word => {
             let left = steps.before_words();
             Ok(program(numbered(alloc, &steps.word.tree, left, node)?))
         }
         Phase::Equal => {
-            let left = &steps.word.program;
+            let left = &*steps.word.program;
             Ok(program(numbered(alloc, &steps.equal.tree, left, node)?))
         }
     }

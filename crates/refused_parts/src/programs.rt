@@ -111,7 +111,10 @@ fn branch_inside(m: &Mon, position: usize) -> Option<&Mon>
 {
     match m {
         Mon::If(_, first, last) => {
-            behind(position, Some(either(position.saturating_sub(1), first, last)))
+            behind(
+                position,
+                Some(either(position.saturating_sub(1), first, last)),
+            )
         }
         _ => None,
     }

@@ -1,5 +1,6 @@
 // What is said of calls over a shelf in memory.
 
+use crate::refused::{REFUSED, Refused};
 use crate::rows::{MANY, Many, ROWS};
 use ac_base::MemoryShelf;
 use answers::Status;
@@ -186,5 +187,46 @@ fn looks_again(rt: HostRuntime) -> Result<(), Fail> {
     }
     let found = said(alloc, "show a.c", Status::Limit, long.as_str(), false)?;
     assert!(rt; found.as_slice() == b"a.c: the file has more than 262144 bytes\n".as_slice());
+    Ok(())
+}
+
+// What is said of a call that refused a row's certificate.
+fn said_of_row(alloc: Global, line: &str, row: &Refused) -> Result<Vec<u8>, AllocError> {
+    let mut files = Vec::new(alloc);
+    files.push((
+        String::from_str(alloc, "a.c")?,
+        Vec::from_slice(alloc, row.text.as_bytes())?,
+    ))?;
+    files.push((
+        String::from_str(alloc, "a.cert")?,
+        Vec::from_slice(alloc, row.certificate.as_bytes())?,
+    ))?;
+    let mut shelf = MemoryShelf::new(files, Vec::new(alloc));
+    let mut words = Vec::new(alloc);
+    for word in line.split(' ') {
+        words.push(String::from_str(alloc, word)?)?;
+    }
+    remark(alloc, &words, Status::No, &mut shelf)
+}
+
+#[test]
+fn shows_each_refused_node(rt: HostRuntime) -> Result<(), Fail> {
+    let alloc = rt.alloc();
+    let sentence =
+        "a.cert: the certificate isn't accepted for this C file: the answer names the function, the step and the node\n";
+    for row in &REFUSED {
+        let about = row.about;
+        let part = row.part;
+        let mut wanted = String::from_str(alloc, sentence)?;
+        if !part.is_empty() {
+            wanted.push_str("the node is about ")?;
+            wanted.push_str(part)?;
+            wanted.push_str("\n")?;
+        }
+        for line in ["check a.c a.cert", "run a.c a.cert a.mem"] {
+            let found = said_of_row(alloc, line, row)?;
+            assert!(rt; found.as_slice() == wanted.as_bytes(), "{about}");
+        }
+    }
     Ok(())
 }

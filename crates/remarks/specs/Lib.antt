@@ -4,3 +4,4 @@ pub mod Fault
 pub mod Remark
 pub mod CodeLook
 pub mod Rows
+pub mod CodeRefused

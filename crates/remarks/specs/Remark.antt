@@ -10,6 +10,9 @@ use Rattle.text_places.specs.Place.{line_at, column_at}
 use Rattle.text_places.specs.Shown.{marked_line}
 use Rattle.answers.specs.declared.status.Status.{Status}
 use Rattle.answers.specs.declared.status.Status.TheVariants.{Done, No, Words, Source, Text, ReadFault, WriteFault, Limit, Memory, NotYet}
+use Rattle.c_lang.specs.Typed.{TypedUnit}
+use Rattle.text_answers.specs.TextAnswer.{IsTextOf}
+use Rattle.checking.specs.RefusedPart.{IsShown}
 use Rattle.remarks.specs.Sentences.{sentence}
 use Rattle.remarks.specs.Usage.{usage}
 use Rattle.remarks.specs.Fault.{IsFault, IsTyped}
@@ -18,6 +21,10 @@ use Rattle.remarks.specs.declared.fault.Cause.{Cause}
 -- bytes of C text that are read
 abbrev pub source_limit : ℕ
 source_limit = 262144
+
+-- bytes of a certificate that are read
+abbrev pub certificate_limit : ℕ
+certificate_limit = 67108864
 
 -- a sentence about a file
 abbrev pub about : Name → List ℕ → List ℕ
@@ -57,6 +64,9 @@ unknown_function = codes "the text has no function with a body of the name that 
 abbrev pub not_accepted : List ℕ
 not_accepted = codes "the certificate isn't accepted for this C file: the answer names the function, the step and the node"
 
+abbrev pub node_is_about : List ℕ
+node_is_about = codes "the node is about "
+
 abbrev pub no_certificate : List ℕ
 no_certificate = codes "this isn't what translate writes, or it is for another target"
 
@@ -87,12 +97,6 @@ of_unread (Some (Check file cert target)) = about (file ++ (codes " or " ++ cert
 of_unread (Some (Run file cert mem target)) = about (file ++ (codes ", " ++ (cert ++ (codes " or " ++ mem)))) unread
 of_unread _ = []
 
--- of a certificate that isn't accepted
-abbrev pub of_refused : Option Command → List ℕ
-of_refused (Some (Check file cert target)) = about cert not_accepted
-of_refused (Some (Run file cert mem target)) = about cert not_accepted
-of_refused _ = []
-
 -- of a file whose text isn't of its form
 abbrev pub of_text : Option Command → List ℕ
 of_text (Some (Check file cert target)) = about cert no_certificate
@@ -101,7 +105,7 @@ of_text _ = []
 
 abbrev pub plain : Option Command → Status → List ℕ
 plain command Done = []
-plain command No = of_refused command
+plain command No = []
 plain command Words = of_words command
 plain command Source = []
 plain command Text = of_text command
@@ -124,6 +128,21 @@ pub record Types (target : Target) (text otherwise bytes : List ℕ) : Type 0 wh
 
 abbrev pub OfText : Target → Name → List ℕ → List ℕ → List ℕ → Type 0
 OfText target file otherwise text bytes = Refuses target file text bytes ⊎ Types target text otherwise bytes
+
+-- A C text and a certificate are looked at again: this is shown of the node that is refused.
+abbrev pub IsSeen : Target → List ℕ → List ℕ → Option (List ℕ) → Type 0
+IsSeen target text certificate (Some shown) = (unit : TypedUnit) × IsTextOf target text unit × IsShown target certificate unit (Some shown)
+IsSeen target text certificate None = (unit : TypedUnit) → IsTextOf target text unit → IsShown target certificate unit None
+
+-- that a certificate isn't accepted, and what is shown of the node, whose text ends its line
+abbrev pub refused_lines : Name → Option (List ℕ) → List ℕ
+refused_lines cert None = about cert not_accepted
+refused_lines cert (Some shown) = about cert not_accepted ++ (node_is_about ++ shown)
+
+pub record OfRefused (target : Target) (cert : Name) (text certificate bytes : List ℕ) : Type 0 where
+  pub shown : Option (List ℕ)
+  pub seen : IsSeen target text certificate shown
+  pub written : bytes ≡ refused_lines cert shown
 
 -- the C file of a command, and the target on which its text is typed
 abbrev pub c_file : Command → Option (Name × Target)
@@ -152,6 +171,32 @@ module _ (contents : Name → Option (List ℕ)) (before after : Name → ℕ) w
     abbrev pub OfFile : List ℕ → Type 0
     OfFile bytes = Reads bytes ⊎ IsUnread bytes ⊎ IsTooLong bytes
 
+  -- A file is read again, within a limit; or it can't be, or is too long, and then this is said.
+  module _ (file : Name) (limit : ℕ) (otherwise : List ℕ) (said : List ℕ → List ℕ → Type 0) where
+    pub record ReadsAgain (bytes : List ℕ) : Type 0 where
+      pub text : List ℕ
+      pub is_text : AreWhole (contents file) text
+      pub within : length text ≤ limit
+      pub of_text : said text bytes
+
+    pub record IsLost (bytes : List ℕ) : Type 0 where
+      pub cause : Rose (before file) (after file) ⊎ IsLonger (contents file) limit
+      pub written : bytes ≡ otherwise
+
+    abbrev pub Again : List ℕ → Type 0
+    Again bytes = ReadsAgain bytes ⊎ IsLost bytes
+
+  -- the certificate wasn't accepted: its file is read again behind the C file
+  abbrev pub OfFiles : Target → Name → Name → List ℕ → Type 0
+  OfFiles target file cert =
+      let alone = about cert not_accepted in
+      Again file source_limit alone (λ text. Again cert certificate_limit alone (OfRefused target cert text))
+
+  abbrev pub OfNo : Command → List ℕ → Type 0
+  OfNo (Check file cert target) bytes = OfFiles target file cert bytes
+  OfNo (Run file cert mem target) bytes = OfFiles target file cert bytes
+  OfNo _ bytes = bytes ≡ []
+
   -- the C text was refused
   abbrev pub OfSource : Command → List ℕ → Type 0
   OfSource (Write form file options) bytes = OfFile (target_of options) file (about file changed) bytes
@@ -172,6 +217,7 @@ module _ (contents : Name → Option (List ℕ)) (before after : Name → ℕ) w
   abbrev pub IsRemark : Option Command → Status → List ℕ → Type 0
   IsRemark (Some command) Source bytes = OfSource command bytes
   IsRemark (Some command) Limit bytes = OfLimit command bytes
+  IsRemark (Some command) No bytes = OfNo command bytes
   IsRemark command status bytes = bytes ≡ plain command status
 
   -- the shelf tells a text that isn't typed, within the limit, and reading it doesn't fail

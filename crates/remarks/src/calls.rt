@@ -7,11 +7,12 @@ ghost use Rattle.command_line.specs.Words as forms;
 ghost use Rattle.command_line.specs.Words.{command_of};
 ghost use Rattle.command_line.specs.CodeCommand.{command_in};
 ghost use Rattle.remarks.specs.Remark as specs;
-ghost use Rattle.remarks.specs.Remark.{IsRefused, IsRemark, OfLimit, OfSource, Refuses, c_file, plain};
+ghost use Rattle.remarks.specs.Remark.{IsRefused, IsRemark, OfLimit, OfNo, OfSource, Refuses, c_file, plain};
 ghost use Rattle.remarks.specs.Usage.{usage};
 ghost use Rattle.answers.specs.declared.status.Status.{Status};
 
 use crate::files::{CHANGED, Otherwise, about, of_file, push_sentence};
+use crate::refused::of_files;
 use crate::usage::usage;
 use ac_base::Shelf;
 use answers::{Status, push};
@@ -30,9 +31,6 @@ const UNREAD: &str = "the file can't be read";
 
 const UNKNOWN_FUNCTION: &str =
     "the text has no function with a body of the name that words= or bytes= gives";
-
-const NOT_ACCEPTED: &str =
-    "the certificate isn't accepted for this C file: the answer names the function, the step and the node";
 
 const NO_CERTIFICATE: &str = "this isn't what translate writes, or it is for another target";
 
@@ -87,6 +85,7 @@ fn of_command<H: Shelf>(
     match status {
         Status::Source => of_source(alloc, command, shelf),
         Status::Limit => of_limit(alloc, command, shelf),
+        Status::No => of_no(alloc, command, shelf),
         _ => plain(alloc, Some(command), status),
     }
 }
@@ -168,33 +167,38 @@ fn of_limit<H: Shelf>(
     }
 }
 
+// What is said of a command whose certificate wasn't accepted.
+fn of_no<H: Shelf>(
+    alloc: Global,
+    command: Command<'_>,
+    shelf: &mut H,
+) -> Result<Vec<u8>, AllocError>
+    ensures said { IfOk result (λ v. OfNo (H.contents shelf.old) (H.faults shelf.old)
+        (H.faults shelf.new) (command_in command.entry) v.items) }
+    ensures contents { (name : List ℕ) → H.contents shelf.new name ≡ H.contents shelf.old name }
+    ensures counts { (name : List ℕ) → H.faults shelf.old name ≤ H.faults shelf.new name }
+{
+    match command {
+        Command::Check(file, certificate, target) | Command::Run(file, certificate, _, target) => {
+            of_files(alloc, target, file, certificate, shelf)
+        }
+        _ => Ok(Vec::new(alloc)),
+    }
+}
+
 // What is said where no file is looked at.
 fn plain(alloc: Global, command: Option<Command<'_>>, status: Status) -> Result<Vec<u8>, AllocError>
     ensures { IfOk result
         (λ v. v.items ≡ plain (option_map command_in command.entry) status) }
 {
     match status {
-        Status::Done | Status::Source | Status::Limit => Ok(Vec::new(alloc)),
-        Status::No => not_accepted(alloc, command),
+        Status::Done | Status::No | Status::Source | Status::Limit => Ok(Vec::new(alloc)),
         Status::Words => of_words(alloc, command),
         Status::Text => no_text(alloc, command),
         Status::ReadFault => of_unread(alloc, command),
         Status::WriteFault => text(alloc, "the answer couldn't be written whole\n"),
         Status::Memory => text(alloc, "there isn't enough memory\n"),
         Status::NotYet => not_built(alloc),
-    }
-}
-
-// What is said of a certificate that isn't accepted.
-fn not_accepted(alloc: Global, command: Option<Command<'_>>) -> Result<Vec<u8>, AllocError>
-    ensures { IfOk result
-        (λ v. v.items ≡ specs.of_refused (option_map command_in command.entry)) }
-{
-    match command {
-        Some(Command::Check(_, certificate, _) | Command::Run(_, certificate, _, _)) => {
-            about(alloc, certificate, NOT_ACCEPTED)
-        }
-        _ => Ok(Vec::new(alloc)),
     }
 }
 

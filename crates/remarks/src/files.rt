@@ -17,7 +17,7 @@ use std::alloc::{AllocError, Global};
 use text_places::{place_of, push_marked_line};
 
 /// Bytes of C text that are read.
-const SOURCE_LIMIT: u64 = 262_144;
+pub(crate) const SOURCE_LIMIT: u64 = 262_144;
 
 pub(crate) const CHANGED: &str =
     "the file has changed since it was read, so no place in it is shown";

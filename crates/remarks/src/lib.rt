@@ -6,6 +6,7 @@ mod calls;
 mod fault;
 mod files;
 mod look;
+mod refused;
 mod rows;
 mod sentences;
 mod usage;

@@ -1,0 +1,50 @@
+-- What is said of files that are read again, and of what is shown of a refused node.
+use Rattle.std.proofs.Common.{◌≡◌, ℕ, ◌≤◌, List, Option, Some, None, Result, Ok, Err, IfOk, ◌⊎◌, inl, inr, subst, arith}
+use Rattle.c_values.specs.Name.{Name}
+use Rattle.c_values.specs.Types.{Target}
+use Rattle.c_lang.specs.Typed.{TypedUnit}
+use Rattle.ac_base.specs.Count.{Rose}
+use Rattle.ac_base.specs.Shelf.{AreWhole, IsLonger}
+use Rattle.ac_base.proofs.Faults.{Rose_within}
+use Rattle.answers.specs.declared.status.Status.{Status}
+use Rattle.answers.specs.declared.status.Status.TheVariants.{Done, No, Words, Source, Text, ReadFault, WriteFault, Limit, Memory, NotYet}
+use Rattle.text_answers.specs.TextAnswer.{IsTextOf, IsTextAnswer}
+use Rattle.text_answers.proofs.OneAnswer.{one_answer}
+use Rattle.remarks.specs.Remark.{Again, IsSeen}
+use Rattle.remarks.specs.CodeRefused.{told_part, IsToldOf}
+
+pub of_result : {T E : Type 0} (r : Result T E) (P Q : T → Type 0) → ((x : T) → P x → Q x) → IfOk r P → IfOk r Q
+of_result (Ok x) P Q f h = f x h
+of_result (Err e) P Q f h = tt
+
+-- what is told of a file from where its own reading began
+module _ (held held' : Name → Option (List ℕ)) (before mid after : Name → ℕ) (same : (n : Name) → held' n ≡ held n) (grew : (n : Name) → before n ≤ mid n)
+    (file : Name) (limit : ℕ) (otherwise : List ℕ) (said : List ℕ → List ℕ → Type 0) (bytes : List ℕ) where
+  longer : Rose (mid file) (after file) ⊎ IsLonger (held' file) limit → Rose (before file) (after file) ⊎ IsLonger (held file) limit
+  longer (inl h) = inl (Rose_within (before file) (mid file) (after file) (after file) (grew file) h (omega arith))
+  longer (inr h) = inr (subst (λ c. IsLonger c limit) (same file) h)
+
+  pub from_first : Again held' mid after file limit otherwise said bytes → Again held before after file limit otherwise said bytes
+  from_first (inl h) = inl (record { text = h.text; is_text = subst (λ c. AreWhole c h.text) (same file) h.is_text; within = h.within; of_text = h.of_text })
+  from_first (inr h) = inr (record { cause = longer h.cause; written = h.written })
+
+module _ (target : Target) (text certificate : List ℕ) where
+  none_told : (status : Status) (lines : List ℕ) → ((unit : TypedUnit) → IsToldOf target certificate unit status lines → IsToldOf target certificate unit Done lines) →
+      IsTextAnswer target (IsToldOf target certificate) text status lines → IsSeen target text certificate None
+  none_told status lines is h = λ unit typed. is unit (one_answer target (IsToldOf target certificate) text unit typed status lines h)
+
+  -- the answer to the text has what is shown
+  pub seen : (status : Status) (lines : List ℕ) → IsTextAnswer target (IsToldOf target certificate) text status lines → IsSeen target text certificate (told_part status lines)
+  seen No lines h =
+      let tree = h.answer in
+      let unit = tree.answer in
+      (unit.unit, record { tokens = h.tokens; are_tokens = h.are_tokens; tree = tree.tree; is_tree = tree.is_tree; typed = unit.typed }, unit.answer)
+  seen Done lines h = none_told Done lines (λ unit k. k) h
+  seen Words lines h = none_told Words lines (λ unit k. absurd k) h
+  seen Source lines h = none_told Source lines (λ unit k. absurd k) h
+  seen Text lines h = none_told Text lines (λ unit k. absurd k) h
+  seen ReadFault lines h = none_told ReadFault lines (λ unit k. absurd k) h
+  seen WriteFault lines h = none_told WriteFault lines (λ unit k. absurd k) h
+  seen Limit lines h = none_told Limit lines (λ unit k. absurd k) h
+  seen Memory lines h = none_told Memory lines (λ unit k. absurd k) h
+  seen NotYet lines h = none_told NotYet lines (λ unit k. absurd k) h
