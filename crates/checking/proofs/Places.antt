@@ -16,10 +16,10 @@ pub record IsThere (u : SimplUnit) (fs : List SimplFn) (ss : List Signature) (cs
   pub are_steps : slice_get cs at ≡ Some steps
   pub verdict : IsFunctionVerdict u function signature steps (Err place)
 
-same_place : {p q : Place} {m n : ℕ} → ◌≡◌ {A = UnitAnswer} (Err (of_function m p)) (Err (of_function n q)) → p ≡ q
+pub same_place : {p q : Place} {m n : ℕ} → ◌≡◌ {A = UnitAnswer} (Err (of_function m p)) (Err (of_function n q)) → p ≡ q
 same_place e = cc
 
-same_at : {p q : Place} {m n : ℕ} → ◌≡◌ {A = UnitAnswer} (Err (of_function m p)) (Err (of_function n q)) → m ≡ n
+pub same_at : {p q : Place} {m n : ℕ} → ◌≡◌ {A = UnitAnswer} (Err (of_function m p)) (Err (of_function n q)) → m ≡ n
 same_at e = cc
 
 module _ (u : SimplUnit) (at : ℕ) (place : Place) where

@@ -14,13 +14,7 @@ use Rattle.checking.specs.RefusedPart.{Shows, part_text}
 use Rattle.checking.specs.CodeParts.{place_in, IsShownAt, IsShownOf}
 use Rattle.checking.proofs.Listed.{position_there}
 use Rattle.checking.proofs.Answered.{list_is, judged_answer}
-use Rattle.checking.proofs.Places.{IsThere, function_there}
-
-same_place : {p q : Place} {m n : ℕ} → ◌≡◌ {A = UnitAnswer} (Err (of_function m p)) (Err (of_function n q)) → p ≡ q
-same_place e = cc
-
-same_at : {p q : Place} {m n : ℕ} → ◌≡◌ {A = UnitAnswer} (Err (of_function m p)) (Err (of_function n q)) → m ≡ n
-same_at e = cc
+use Rattle.checking.proofs.Places.{IsThere, same_place, same_at, function_there}
 
 module _ (u : SimplUnit) (cs : List Steps) (levels : AreAtLevels u cs) (none : names_apart u cs ≡ None) (few : length cs < 2 ^ 32) (r : Refused) (answer : IsAnswer u cs (Err r)) where
   -- the refusal is of a place of this function

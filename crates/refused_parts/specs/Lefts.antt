@@ -1,4 +1,4 @@
--- reduced
+-- The left sides of the claims of each step. That of a claim on expressions is no program.
 use Rattle.std.specs.Prelude.{Option, Some, None}
 use Rattle.simpl_lang.specs.Command.{Simpl}
 use Rattle.monad_lang.specs.Program.{Mon}
@@ -7,8 +7,6 @@ use Rattle.rule_local.specs.Rule as L
 use Rattle.rule_heap.specs.Rule as H
 use Rattle.rule_word.specs.Rule as W
 use Rattle.rule_eq.specs.Rule as Q
-
--- the left sides of the claims of each step; that of a claim on expressions is no program
 
 abbrev pub exception_left : X.Claim → Option Simpl
 exception_left c = Some c.left
