@@ -1,5 +1,5 @@
 -- What is found at the place of a verdict is what the place is about.
-use Rattle.std.proofs.Common.{◌≡◌, ◌<◌, ℕ, [], Option, Some, None, Result, Ok, Err, refl, sym, subst}
+use Rattle.std.proofs.Common.{◌≡◌, ◌<◌, ℕ, [], Option, Some, None, Err, refl, sym, subst}
 use Rattle.std.specs.Prelude.{MatchOption}
 use Rattle.std.specs.Option.{option_map}
 use Rattle.expression_lang.specs.Sort.{sort_of_kind}
@@ -25,6 +25,9 @@ use Rattle.acceptance.specs.Certificate.{Step, Steps, before_words}
 use Rattle.acceptance.specs.Accepted.{word_context}
 use Rattle.acceptance.specs.Verdict as V
 use Rattle.acceptance.specs.Verdict.{Place, ◌at◌, IsFunctionVerdict}
+use Rattle.acceptance.specs.declared.places.Phase as P
+use Rattle.acceptance.specs.declared.places.Place as L
+use Rattle.acceptance.specs.CodePlace.{phase_of, place_of}
 use Rattle.refused_parts.specs.Lefts.{exception_left, local_left, heap_left, word_left, equal_left}
 use Rattle.refused_parts.specs.Parts.{Part, Command, Program, IsOfHeaps, IsPartAt}
 use Rattle.refused_parts.specs.CodeInside.{exception_inside, local_inside, heap_inside, word_inside, equal_inside}
@@ -44,6 +47,15 @@ module _ (Is : Part → Type 0) where
   of_program : (o : Option Mon) (q : Part) → Is q → ((m : Mon) → Is (Program m) → o ≡ Some m) → ((m : Simpl) → Is (Command m) → ⊥) → MatchOption (option_map Program o) ⊥ Is
   of_program o (Program m) h found other = subst (λ x. MatchOption (option_map Program x) ⊥ Is) (sym (found m h)) h
   of_program o (Command m) h found other = absurd (other m h)
+
+module _ (u : SimplUnit) (f : SimplFn) (s : Signature) (c : Steps) where
+  -- what is told at the phase of a place is told at the place
+  pub at_phase : (place : L.Place) (p : P.Phase) → place.phase ≡ p → (told found : Option Part) → told ≡ found →
+      (IsFunctionVerdict u f s c (Err (phase_of p at place.node)) → MatchOption found ⊥ (IsPartAt u f s c (phase_of p at place.node))) →
+      IsFunctionVerdict u f s c (Err (place_of place)) → MatchOption told ⊥ (IsPartAt u f s c (place_of place))
+  at_phase place p e told found same h v =
+      subst (λ x. MatchOption x ⊥ (IsPartAt u f s c (place_of place))) (sym same)
+      (subst (λ q. MatchOption found ⊥ (IsPartAt u f s c (phase_of q at place.node))) (sym e) (h (subst (λ q. IsFunctionVerdict u f s c (Err (phase_of q at place.node))) e v)))
 
 module _ (u : SimplUnit) (f : SimplFn) (s : Signature) (c : Steps) (n : ℕ) (l : n < last_number) where
   abbrev IsRefusedAt : V.Phase → Type 0

@@ -1,5 +1,5 @@
 -- The claims of the parts in the step of equality: their left sides are where the code goes on.
-use Rattle.std.proofs.Common.{◌≡◌, true, false, ℕ, zero, suc, List, [], ◌∷◌, Option, Some, None, refl, ap, sym, ◌∙◌}
+use Rattle.std.proofs.Common.{◌≡◌, true, false, ℕ, [], Some, None, refl, ap, ◌∙◌}
 use Rattle.expression_lang.specs.Expression.{TruthLit}
 use Rattle.monad_lang.specs.Program as M
 use Rattle.monad_lang.specs.Program.{Mon}

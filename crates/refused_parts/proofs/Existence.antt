@@ -1,5 +1,5 @@
 -- The first node of a checked tree that is no instance of its rule is about some part.
-use Rattle.std.proofs.Common.{◌≡◌, ◌<◌, ◌≤◌, ℕ, zero, suc, ◌+◌, List, [], ◌∷◌, Option, Some, None, Result, Ok, Err, ◌⊎◌, inl, inr, refl, sym, subst, arith}
+use Rattle.std.proofs.Common.{◌≡◌, ◌<◌, ℕ, suc, ◌+◌, List, [], ◌∷◌, Option, Result, Ok, Err, inl, inr, refl, arith}
 use Rattle.std.specs.Prelude.{unwrap_or}
 use Rattle.rule_trees.specs.RuleTree.{Tree, Trees, node, no_trees, tree, Table, Checked, AllChecked, next, last_number}
 use Rattle.rule_trees.specs.CodeNodes.{nodes, nodes_in}

@@ -1,5 +1,5 @@
 -- The claims of the parts in the step to typed heaps: their left sides are where the code goes on.
-use Rattle.std.proofs.Common.{◌≡◌, Bool, true, false, ℕ, zero, suc, ◌+◌, ◌==◌, List, [], ◌∷◌, ◌++◌, length, Option, Some, None, refl, ap, sym, ◌∙◌, arith, if◌then◌else◌}
+use Rattle.std.proofs.Common.{◌≡◌, true, ℕ, suc, List, [], ◌∷◌, ◌++◌, length, Some, None, refl, ap, ◌∙◌, arith}
 use Rattle.c_values.specs.Layout.{Layout}
 use Rattle.expression_lang.specs.Expression as E
 use Rattle.expression_lang.specs.Expression.{Exp}

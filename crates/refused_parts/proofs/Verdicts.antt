@@ -1,5 +1,5 @@
 -- The place of a verdict is about some part.
-use Rattle.std.proofs.Common.{◌≡◌, ◌<◌, ℕ, zero, suc, ◌+◌, Bool, true, false, ◌&&◌, [], Option, Some, None, Result, Ok, Err, ◌⊎◌, inl, inr, refl, sym, subst, arith}
+use Rattle.std.proofs.Common.{◌≡◌, ◌<◌, ℕ, Bool, true, false, ◌&&◌, [], Option, Some, None, Result, Err, inl, inr, refl, sym, subst, arith}
 use Rattle.expression_lang.specs.Sort.{is_lifted, sort_of_kind}
 use Rattle.expression_lang.specs.Signature.{Signature, names_of, kinds_of}
 use Rattle.simpl_lang.specs.Command.{Simpl, SimplFn, SimplUnit}

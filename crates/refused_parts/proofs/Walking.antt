@@ -1,8 +1,7 @@
 -- Where the code comes is what the node is about.
-use Rattle.std.proofs.Common.{◌≡◌, ◌<◌, ◌≤◌, ℕ, zero, suc, List, [], ◌∷◌, Option, Some, None, refl, sym, subst, ap, ◌∙◌, arith}
+use Rattle.std.proofs.Common.{◌≡◌, ℕ, zero, suc, List, [], ◌∷◌, Option, Some, None, refl, sym, subst, ap, ◌∙◌, arith}
 use Rattle.std.specs.Prelude.{unwrap_or}
 use Rattle.rule_trees.specs.RuleTree.{Tree, Trees, node, no_trees, tree, Table}
-use Rattle.refused_parts.specs.Ways.{number_at}
 use Rattle.refused_parts.specs.About.{IsAbout}
 use Rattle.refused_parts.specs.CodeWalks.{walked, walked_in, IsFound}
 use Rattle.refused_parts.proofs.Positions.{IsAt}

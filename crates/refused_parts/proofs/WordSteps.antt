@@ -1,16 +1,15 @@
 -- The claims of the parts in the step to numbers: their left sides are where the code goes on.
-use Rattle.std.proofs.Common.{◌≡◌, ℕ, zero, suc, List, [], ◌∷◌, ◌++◌, length, Option, Some, None, refl, ap, sym, ◌∙◌}
+use Rattle.std.proofs.Common.{◌≡◌, ℕ, suc, List, [], ◌∷◌, ◌++◌, length, Option, Some, None, refl, ap, ◌∙◌}
 use Rattle.c_values.specs.Word.{Wadd, Wsub, Wmul, Wudiv, Wumod, Wsdiv, Wsmod, Wneg, Wult, Wule, Wslt, Wsle}
 use Rattle.c_values.specs.Number as N
 use Rattle.expression_lang.specs.Expression as X
 use Rattle.expression_lang.specs.Expression.{Exp}
 use Rattle.expression_lang.specs.Sort.{Kind, WordKind, Scope}
-use Rattle.expression_lang.specs.Signature.{Signature, signature, kinds_of}
+use Rattle.expression_lang.specs.Signature.{Signature, signature}
 use Rattle.ac_expr.specs.Heads.{children}
 use Rattle.monad_lang.specs.Program as M
 use Rattle.program_facts.specs.Places.{place_children}
 use Rattle.monad_lang.specs.Program.{Mon, Start}
-use Rattle.monad_lang.specs.Run.{start_names}
 use Rattle.rule_word.specs.Rule as W
 use Rattle.rule_word.specs.Rule.{Claim, Context, Point, View, AsIs, Unsigned, Signed, program, expression}
 use Rattle.rule_word.specs.Scopes.{words, width_in}

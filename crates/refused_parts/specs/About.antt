@@ -1,7 +1,7 @@
 -- What the nodes of a tree of rules are about: each is checked for a claim, and is about the left side of that claim. Nodes are numbered in preorder
 -- from 0.
-use Rattle.std.specs.Prelude.{◌≡◌, ℕ, zero, suc, ◌+◌, List, [], ◌∷◌, Option, unwrap_or, ◌⊎◌}
-use Rattle.rule_trees.specs.RuleTree.{Tree, Trees, node, no_trees, tree, Table, IsInstance}
+use Rattle.std.specs.Prelude.{◌≡◌, ℕ, zero, suc, ◌+◌, List, ◌∷◌, Option, unwrap_or, ◌⊎◌}
+use Rattle.rule_trees.specs.RuleTree.{Tree, Trees, node, tree, Table, IsInstance}
 use Rattle.rule_trees.specs.CodeNodes.{nodes}
 
 -- by the left sides of claims; some claims have none, as those on expressions have no program

@@ -5,10 +5,8 @@ use Rattle.expression_lang.specs.Signature.{Signature, names_of, kinds_of}
 use Rattle.expression_lang.specs.Sort.{sort_of_kind}
 use Rattle.monad_lang.specs.Program.{Mon}
 use Rattle.monad_lang.specs.Sorted.{setting_signed}
-use Rattle.rule_exn.specs.Rule as X
 use Rattle.rule_exn.specs.Rule.{◌to◌}
 use Rattle.rule_exn.specs.Table as Exceptions
-use Rattle.rule_local.specs.Rule as L
 use Rattle.rule_local.specs.Rule.{whole}
 use Rattle.rule_local.specs.Table as Locals
 use Rattle.rule_local.specs.Units.{context_of, outputs_of}
