@@ -1,2 +1,1 @@
-pub mod BuildReduces
-pub mod BuildReplays
+pub mod Fitted

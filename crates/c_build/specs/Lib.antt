@@ -1,3 +1,3 @@
-pub mod CodeStacks
-pub mod CodeReduce
-pub mod CodeStacksOf
+pub mod CodeValues
+pub mod Parts
+pub mod Void

@@ -8,87 +8,91 @@ ghost use Rattle.c_grammar.specs.CodeBuild.{OfUnit};
 ghost use Rattle.c_grammar.specs.CodeScript.{replay};
 ghost use Rattle.c_grammar.specs.Tree.{External};
 ghost use Rattle.c_grammar.specs.CodeTree.{unit_of};
-ghost use Rattle.c_build.specs.CodeReduce.{rebuild};
-ghost use Rattle.c_build.specs.CodeStacks.{empty, put};
-ghost use Rattle.c_build.specs.CodeStacksOf.{stacks_of};
+ghost use Rattle.c_build.specs.CodeValues.{values_of};
 
 mod declarators;
 mod externals;
 mod operands;
 mod parameters;
+mod parts;
 mod reduce;
 mod simples;
 mod stack;
-mod stacks;
 mod statements;
 mod tokens;
 mod types;
+mod value;
 
 use c_grammar::Step;
 use c_grammar::tree::Unit;
 use c_lex::Token;
-use stack::BuildFault;
-use stacks::Stacks;
+use stack::{BuildFault, Stack};
 use std::alloc::{AllocError, Global};
+use value::Value;
 
 /// Takes one step on the tokens that are left, and tells which are left then.
+#[tactic(auto, using(crate::proofs::Fitted::misfits), unfolding(c_grammar::specs::CodeScript::replay))]
 fn follow<'a>(
     alloc: Global,
-    stacks: &mut Stacks<'a>,
+    values: &mut Stack<Value<'a>>,
     step: Step,
     rest: &'a [Token],
 ) -> Result<&'a [Token], BuildFault>
     ensures { MatchResult result
         (λ left. (steps : List Steps) →
-        rebuild (step ∷ steps) (lexemes_of rest.now) (stacks_of stacks.old)
-        ≡ rebuild steps (lexemes_of left.now) (stacks_of stacks.new))
+        replay (step ∷ steps) (lexemes_of rest.now) (values_of values.old)
+        ≡ replay steps (lexemes_of left.now) (values_of values.new))
         (λ e. e ≡ BuildFault.Missing → (steps : List Steps) →
-        rebuild (step ∷ steps) (lexemes_of rest.now) (stacks_of stacks.old) ≡ None) }
+        replay (step ∷ steps) (lexemes_of rest.now) (values_of values.old) ≡ None) }
 {
     match step {
         Step::Shift => {
             let Some((token, left)) = rest.split_first() else {
                 return Err(BuildFault::Missing);
             };
-            stacks.tokens.push(token)?;
+            values.put(Value::Token(token))?;
             Ok(left)
         }
         Step::Reduce(production) => {
-            stacks.reduce(alloc, production)?;
+            values.reduce(alloc, production)?;
             Ok(rest)
         }
     }
 }
 
-/// The stacks after all steps.
-fn run<'a>(alloc: Global, steps: &[Step], tokens: &'a [Token]) -> Result<Stacks<'a>, BuildFault>
+/// The values after all steps.
+#[tactic(auto, unfolding(c_grammar::specs::CodeScript::replay, crate::specs::CodeValues::values_of))]
+fn run<'a>(
+    alloc: Global,
+    steps: &[Step],
+    tokens: &'a [Token],
+) -> Result<Stack<Value<'a>>, BuildFault>
     ensures { MatchResult result
-        (λ stacks. rebuild steps.now (lexemes_of tokens.now) empty ≡ Some (stacks_of stacks))
-        (λ e. e ≡ BuildFault.Missing → rebuild steps.now (lexemes_of tokens.now) empty ≡ None) }
+        (λ values. replay steps.now (lexemes_of tokens.now) [] ≡ Some (values_of values))
+        (λ e. e ≡ BuildFault.Missing → replay steps.now (lexemes_of tokens.now) [] ≡ None) }
 {
-    let mut stacks = Stacks::new(alloc);
+    let mut values = Stack::new(alloc);
     let mut rest = tokens;
     for step in steps {
-        rest = follow(alloc, &mut stacks, *step, rest)?;
+        rest = follow(alloc, &mut values, *step, rest)?;
     }
-    Ok(stacks)
+    Ok(values)
 }
 
-/// The tree that stands alone on the stacks after all steps.
+/// The tree that stands alone on the stack after all steps.
 fn tree_of(alloc: Global, steps: &[Step], tokens: &[Token]) -> Result<Unit, BuildFault>
-    ensures { (exts : List External) → rebuild steps.now (lexemes_of tokens.now) empty
-        ≡ Some (put (OfUnit exts) empty) → MatchResult result (λ unit. unit_of unit ≡ exts)
+    ensures { (exts : List External) → replay steps.now (lexemes_of tokens.now) []
+        ≡ Some (OfUnit exts ∷ []) → MatchResult result (λ unit. unit_of unit ≡ exts)
         (λ e. e ≡ BuildFault.Memory) }
 {
-    let mut stacks = run(alloc, steps, tokens)?;
-    let externals = stacks.externals.texts.pop()?;
+    let mut values = run(alloc, steps, tokens)?;
+    let text = values.text()?;
     Ok(Unit {
-        externals: externals.into_vec(),
+        externals: text.into_vec(),
     })
 }
 
 /// The tree of a script, where its steps leave one.
-#[tactic(auto, using(crate::proofs::BuildReplays::built))]
 pub fn build(alloc: Global, steps: &[Step], tokens: &[Token]) -> Result<Option<Unit>, AllocError>
     ensures { (exts : List External) → replay steps.now (lexemes_of tokens.now) []
         ≡ Some (OfUnit exts ∷ []) → IfOk result (λ found. option_map unit_of found ≡ Some exts) }

@@ -1,4 +1,4 @@
-//! Trees from the script of a text, on one typed stack for each group of productions.
+//! Trees from the script of a text, on one stack of values.
 #![tactic(auto)]
 
 pub mod build;

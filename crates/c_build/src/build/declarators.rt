@@ -1,161 +1,151 @@
 //! Declarators and locals are built from their parts.
 
-ghost use Rattle.c_build.specs.CodeStacksOf.{stacks_of, Reduces};
+ghost use Rattle.std.specs.Prelude.{◌≡◌};
+ghost use Rattle.std.specs.Option.{option_map};
+ghost use Rattle.c_grammar.specs.Tree.{Initialized};
+ghost use Rattle.c_grammar.specs.CodeTree.{declarator_of, init_of, rhs_of};
+ghost use Rattle.c_build.specs.CodeValues.{Acts, values_of};
 
 use crate::build::stack::{BuildFault, Stack};
-use crate::build::stacks::Stacks;
 use crate::build::tokens::name_of;
+use crate::build::value::Value;
 use c_grammar::Production;
-use c_grammar::tree::{Declarator, Declarators, Dimensions, Init, Local};
+use c_grammar::tree::{Declarator, Declarators, Dimensions, Init, Local, Rhs};
 use std::alloc::Global;
 
-impl Stacks<'_> {
+/// A local and its value.
+fn initialized(declarator: Box<Declarator>, value: Option<Box<Rhs>>) -> Init
+    ensures { init_of result ≡ Initialized (declarator_of declarator.value)
+        (option_map (λ r. rhs_of r.value) value) }
+{
+    Init {
+        declarator: Box::into_inner(declarator),
+        value: value.map(Box::into_inner),
+    }
+}
+
+#[tactic(auto, unfolding(c_grammar::specs::CodeBuild::act))]
+impl Stack<Value<'_>> {
     /// The last declarator of a member.
     pub(crate) fn last_declarator(&mut self, alloc: Global) -> Result<(), BuildFault>
-        ensures { Reduces Production.LastDeclarator (stacks_of self.old) result
-            (stacks_of self.new) }
+        ensures { Acts Production.LastDeclarator (values_of self.old) result (values_of self.new) }
     {
-        self.tokens.pop()?;
-        let declarator = self.types.declarators.pop()?;
-        self.types
-            .declarator_lists
-            .push(Box::new(alloc, Declarators::Last(declarator))?)
+        self.token()?;
+        let declarator = self.declarator()?;
+        self.put(Value::Declarators(Box::new(alloc, Declarators::Last(declarator))?))
     }
 
     /// A declarator before others.
     pub(crate) fn more_declarators(&mut self, alloc: Global) -> Result<(), BuildFault>
-        ensures { Reduces Production.MoreDeclarators (stacks_of self.old) result
-            (stacks_of self.new) }
+        ensures { Acts Production.MoreDeclarators (values_of self.old) result (values_of self.new) }
     {
-        self.tokens.pop()?;
-        let rest = self.types.declarator_lists.pop()?;
-        let declarator = self.types.declarators.pop()?;
-        self.types
-            .declarator_lists
-            .push(Box::new(alloc, Declarators::More(declarator, rest))?)
+        let rest = self.declarators()?;
+        self.token()?;
+        let declarator = self.declarator()?;
+        self.put(Value::Declarators(Box::new(alloc, Declarators::More(declarator, rest))?))
     }
 
     /// No more stars.
     pub(crate) fn no_stars(&mut self, alloc: Global) -> Result<(), BuildFault>
-        ensures { Reduces Production.NoStars (stacks_of self.old) result (stacks_of self.new) }
+        ensures { Acts Production.NoStars (values_of self.old) result (values_of self.new) }
     {
-        self.types.stars.push(Stack::new(alloc))
+        self.put(Value::Stars(Stack::new(alloc)))
     }
 
     /// A star before others.
     pub(crate) fn more_stars(&mut self) -> Result<(), BuildFault>
-        ensures { Reduces Production.MoreStars (stacks_of self.old) result (stacks_of self.new) }
+        ensures { Acts Production.MoreStars (values_of self.old) result (values_of self.new) }
     {
-        let at = self.tokens.pop()?.start;
-        let mut stars = self.types.stars.pop()?;
+        let mut stars = self.stars()?;
+        let at = self.token()?.start;
         stars.push(at)?;
-        self.types.stars.push(stars)
+        self.put(Value::Stars(stars))
     }
 
     /// `const` behind a star.
     pub(crate) fn star_const(&mut self) -> Result<(), BuildFault>
-        ensures { Reduces Production.StarConst (stacks_of self.old) result (stacks_of self.new) }
+        ensures { Acts Production.StarConst (values_of self.old) result (values_of self.new) }
     {
-        self.tokens.pop()?;
+        self.token()?;
         Ok(())
     }
 
     /// A declarator.
-    pub(crate) fn declarator(&mut self, alloc: Global) -> Result<(), BuildFault>
-        ensures { Reduces Production.Declarator (stacks_of self.old) result (stacks_of self.new) }
+    pub(crate) fn whole_declarator(&mut self, alloc: Global) -> Result<(), BuildFault>
+        ensures { Acts Production.Declarator (values_of self.old) result (values_of self.new) }
     {
-        let token = self.tokens.pop()?;
-        let dimensions = self.types.dimensions.pop()?;
-        let stars = self.types.stars.pop()?;
-        self.types.declarators.push(Box::new(
-            alloc,
-            Declarator::Declare(
-                stars.into_vec(),
-                token.start,
-                name_of(alloc, token)?,
-                dimensions,
-            ),
-        )?)
+        let dimensions = self.dimensions()?;
+        let token = self.token()?;
+        let stars = self.stars()?;
+        let name = name_of(alloc, token)?;
+        let declarator = Declarator::Declare(stars.into_vec(), token.start, name, dimensions);
+        self.put(Value::Declarator(Box::new(alloc, declarator)?))
     }
 
     /// No more array lengths.
     pub(crate) fn no_dimensions(&mut self, alloc: Global) -> Result<(), BuildFault>
-        ensures { Reduces Production.NoDimensions (stacks_of self.old) result (stacks_of self.new) }
+        ensures { Acts Production.NoDimensions (values_of self.old) result (values_of self.new) }
     {
-        self.types
-            .dimensions
-            .push(Box::new(alloc, Dimensions::None)?)
+        self.put(Value::Dimensions(Box::new(alloc, Dimensions::None)?))
     }
 
     /// An array length before others.
     pub(crate) fn more_dimensions(&mut self, alloc: Global) -> Result<(), BuildFault>
-        ensures { Reduces Production.MoreDimensions (stacks_of self.old) result
-            (stacks_of self.new) }
+        ensures { Acts Production.MoreDimensions (values_of self.old) result (values_of self.new) }
     {
-        self.tokens.pop()?;
-        self.tokens.pop()?;
-        let rest = self.types.dimensions.pop()?;
-        let length = self.operands.expressions.pop()?;
-        self.types
-            .dimensions
-            .push(Box::new(alloc, Dimensions::More(length, rest))?)
+        let rest = self.dimensions()?;
+        self.token()?;
+        let length = self.expression()?;
+        self.token()?;
+        self.put(Value::Dimensions(Box::new(alloc, Dimensions::More(length, rest))?))
     }
 
     /// The locals of one declaration.
-    pub(crate) fn local(&mut self) -> Result<(), BuildFault>
-        ensures { Reduces Production.Local (stacks_of self.old) result (stacks_of self.new) }
+    pub(crate) fn whole_local(&mut self, alloc: Global) -> Result<(), BuildFault>
+        ensures { Acts Production.Local (values_of self.old) result (values_of self.new) }
     {
-        let inits = self.statements.init_lists.pop()?;
-        let words = self.types.word_lists.pop()?;
-        self.statements.locals.push(Local {
-            words: Box::into_inner(words),
-            inits: inits.into_vec(),
-        })
+        let inits = self.inits()?.into_vec();
+        let words = Box::into_inner(self.words()?);
+        self.put(Value::Local(Box::new(alloc, Local { words, inits })?))
     }
 
     /// The value of a local.
     pub(crate) fn init(&mut self) -> Result<(), BuildFault>
-        ensures { Reduces Production.Init (stacks_of self.old) result (stacks_of self.new) }
+        ensures { Acts Production.Init (values_of self.old) result (values_of self.new) }
     {
-        self.tokens.pop()?;
-        let value = self.operands.values.pop()?;
-        self.statements.initials.push(Some(value))
+        let value = self.right()?;
+        self.token()?;
+        self.put(Value::Initial(Some(value)))
     }
 
     /// A local without a value.
     pub(crate) fn no_init(&mut self) -> Result<(), BuildFault>
-        ensures { Reduces Production.NoInit (stacks_of self.old) result (stacks_of self.new) }
+        ensures { Acts Production.NoInit (values_of self.old) result (values_of self.new) }
     {
-        self.statements.initials.push(None)
+        self.put(Value::Initial(None))
     }
 
     /// The last local of a declaration.
     pub(crate) fn last_init(&mut self, alloc: Global) -> Result<(), BuildFault>
-        ensures { Reduces Production.LastInit (stacks_of self.old) result (stacks_of self.new) }
+        ensures { Acts Production.LastInit (values_of self.old) result (values_of self.new) }
     {
-        self.tokens.pop()?;
-        let value = self.statements.initials.pop()?;
-        let declarator = self.types.declarators.pop()?;
+        self.token()?;
+        let initial = self.initial()?;
+        let declarator = self.declarator()?;
         let mut inits = Stack::new(alloc);
-        inits.push(Init {
-            declarator: Box::into_inner(declarator),
-            value,
-        })?;
-        self.statements.init_lists.push(inits)
+        inits.push(initialized(declarator, initial))?;
+        self.put(Value::Inits(inits))
     }
 
     /// A local before others.
     pub(crate) fn more_inits(&mut self) -> Result<(), BuildFault>
-        ensures { Reduces Production.MoreInits (stacks_of self.old) result (stacks_of self.new) }
+        ensures { Acts Production.MoreInits (values_of self.old) result (values_of self.new) }
     {
-        self.tokens.pop()?;
-        let mut inits = self.statements.init_lists.pop()?;
-        let value = self.statements.initials.pop()?;
-        let declarator = self.types.declarators.pop()?;
-        inits.push(Init {
-            declarator: Box::into_inner(declarator),
-            value,
-        })?;
-        self.statements.init_lists.push(inits)
+        let mut inits = self.inits()?;
+        self.token()?;
+        let initial = self.initial()?;
+        let declarator = self.declarator()?;
+        inits.push(initialized(declarator, initial))?;
+        self.put(Value::Inits(inits))
     }
 }

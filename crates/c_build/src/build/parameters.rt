@@ -1,14 +1,14 @@
 //! Parameters are built from their parts.
 
-ghost use Rattle.c_build.specs.CodeStacksOf.{stacks_of, Reduces};
 ghost use Rattle.std.specs.Prelude.{◌≡◌, map};
 ghost use Rattle.c_grammar.specs.CodeTree.{param_of, words_of};
 ghost use Rattle.c_grammar.specs.Spells.{parameters};
-ghost use Rattle.c_build.specs.CodeReduce.{is_void, is_void_word};
+ghost use Rattle.c_build.specs.Void.{is_void, is_void_word};
+ghost use Rattle.c_build.specs.CodeValues.{Acts, values_of};
 
 use crate::build::stack::{BuildFault, Stack};
-use crate::build::stacks::Stacks;
 use crate::build::tokens::name_of;
+use crate::build::value::Value;
 use c_grammar::Production;
 use c_grammar::tree::{Bracket, Param, Word, Words};
 use c_lex::Keyword;
@@ -48,119 +48,110 @@ fn without_void(alloc: Global, listed: Stack<Param>) -> Vec<Param>
     }
 }
 
-impl Stacks<'_> {
+#[tactic(auto, unfolding(c_grammar::specs::CodeBuild::act))]
+impl Stack<Value<'_>> {
     /// A declarator without parameters.
     pub(crate) fn no_parameters(&mut self) -> Result<(), BuildFault>
-        ensures { Reduces Production.NoParameters (stacks_of self.old) result (stacks_of self.new) }
+        ensures { Acts Production.NoParameters (values_of self.old) result (values_of self.new) }
     {
-        self.externals.parameters.push(None)
+        self.put(Value::Parameters(None))
     }
 
     /// Parameters of a declarator.
     pub(crate) fn some_parameters(&mut self, alloc: Global) -> Result<(), BuildFault>
-        ensures { Reduces Production.SomeParameters (stacks_of self.old) result
-            (stacks_of self.new) }
+        ensures { Acts Production.SomeParameters (values_of self.old) result (values_of self.new) }
     {
-        self.tokens.pop()?;
-        let parameters = self.externals.param_lists.pop()?;
-        self.externals
-            .parameters
-            .push(Some(without_void(alloc, parameters)))
+        let listed = self.parameter_list()?;
+        self.token()?;
+        self.put(Value::Parameters(Some(without_void(alloc, listed))))
     }
 
     /// No parameters in the parentheses.
     pub(crate) fn empty_parameters(&mut self, alloc: Global) -> Result<(), BuildFault>
-        ensures { Reduces Production.EmptyParameters (stacks_of self.old) result
-            (stacks_of self.new) }
+        ensures { Acts Production.EmptyParameters (values_of self.old) result (values_of self.new) }
     {
-        self.tokens.pop()?;
-        self.externals.param_lists.push(Stack::new(alloc))
+        self.token()?;
+        self.put(Value::ParameterList(Stack::new(alloc)))
     }
 
     /// The last parameter.
     pub(crate) fn last_parameter(&mut self, alloc: Global) -> Result<(), BuildFault>
-        ensures { Reduces Production.LastParameter (stacks_of self.old) result
-            (stacks_of self.new) }
+        ensures { Acts Production.LastParameter (values_of self.old) result (values_of self.new) }
     {
-        self.tokens.pop()?;
-        let parameter = self.externals.params.pop()?;
+        self.token()?;
+        let parameter = self.parameter()?;
         let mut parameters = Stack::new(alloc);
-        parameters.push(parameter)?;
-        self.externals.param_lists.push(parameters)
+        parameters.push(Box::into_inner(parameter))?;
+        self.put(Value::ParameterList(parameters))
     }
 
     /// A parameter before others.
     pub(crate) fn more_parameters(&mut self) -> Result<(), BuildFault>
-        ensures { Reduces Production.MoreParameters (stacks_of self.old) result
-            (stacks_of self.new) }
+        ensures { Acts Production.MoreParameters (values_of self.old) result (values_of self.new) }
     {
-        self.tokens.pop()?;
-        let mut parameters = self.externals.param_lists.pop()?;
-        let parameter = self.externals.params.pop()?;
-        parameters.push(parameter)?;
-        self.externals.param_lists.push(parameters)
+        let mut parameters = self.parameter_list()?;
+        self.token()?;
+        let parameter = self.parameter()?;
+        parameters.push(Box::into_inner(parameter))?;
+        self.put(Value::ParameterList(parameters))
     }
 
     /// A parameter.
-    pub(crate) fn parameter(&mut self) -> Result<(), BuildFault>
-        ensures { Reduces Production.Parameter (stacks_of self.old) result (stacks_of self.new) }
+    pub(crate) fn whole_parameter(&mut self, alloc: Global) -> Result<(), BuildFault>
+        ensures { Acts Production.Parameter (values_of self.old) result (values_of self.new) }
     {
-        let bracket = self.externals.brackets.pop()?;
-        let name = self.externals.names.pop()?;
-        let stars = self.types.stars.pop()?;
-        let words = self.types.word_lists.pop()?;
-        self.externals.params.push(Param {
-            words: Box::into_inner(words),
-            stars: stars.into_vec(),
+        let bracket = Box::into_inner(self.bracket()?);
+        let name = self.parameter_name()?;
+        let stars = self.stars()?.into_vec();
+        let words = Box::into_inner(self.words()?);
+        let parameter = Param {
+            words,
+            stars,
             name,
             bracket,
-        })
+        };
+        self.put(Value::Parameter(Box::new(alloc, parameter)?))
     }
 
     /// The name of a parameter.
-    pub(crate) fn parameter_name(&mut self, alloc: Global) -> Result<(), BuildFault>
-        ensures { Reduces Production.ParameterName (stacks_of self.old) result
-            (stacks_of self.new) }
+    pub(crate) fn some_parameter_name(&mut self, alloc: Global) -> Result<(), BuildFault>
+        ensures { Acts Production.ParameterName (values_of self.old) result (values_of self.new) }
     {
-        let token = self.tokens.pop()?;
-        self.externals
-            .names
-            .push(Some((token.start, name_of(alloc, token)?)))
+        let token = self.token()?;
+        let name = name_of(alloc, token)?;
+        self.put(Value::ParameterName(Some((token.start, name))))
     }
 
     /// A parameter without a name.
     pub(crate) fn no_parameter_name(&mut self) -> Result<(), BuildFault>
-        ensures { Reduces Production.NoParameterName (stacks_of self.old) result
-            (stacks_of self.new) }
+        ensures { Acts Production.NoParameterName (values_of self.old) result (values_of self.new) }
     {
-        self.externals.names.push(None)
+        self.put(Value::ParameterName(None))
     }
 
     /// A parameter without brackets.
-    pub(crate) fn no_bracket(&mut self) -> Result<(), BuildFault>
-        ensures { Reduces Production.NoBracket (stacks_of self.old) result (stacks_of self.new) }
+    pub(crate) fn no_bracket(&mut self, alloc: Global) -> Result<(), BuildFault>
+        ensures { Acts Production.NoBracket (values_of self.old) result (values_of self.new) }
     {
-        self.externals.brackets.push(Bracket::None)
+        self.put(Value::Bracket(Box::new(alloc, Bracket::None)?))
     }
 
     /// `[]`
-    pub(crate) fn open_bracket(&mut self) -> Result<(), BuildFault>
-        ensures { Reduces Production.OpenBracket (stacks_of self.old) result (stacks_of self.new) }
+    pub(crate) fn open_bracket(&mut self, alloc: Global) -> Result<(), BuildFault>
+        ensures { Acts Production.OpenBracket (values_of self.old) result (values_of self.new) }
     {
-        self.tokens.pop()?;
-        let at = self.tokens.pop()?.start;
-        self.externals.brackets.push(Bracket::Open(at))
+        self.token()?;
+        let at = self.token()?.start;
+        self.put(Value::Bracket(Box::new(alloc, Bracket::Open(at))?))
     }
 
     /// `[e]`
-    pub(crate) fn sized_bracket(&mut self) -> Result<(), BuildFault>
-        ensures { Reduces Production.SizedBracket (stacks_of self.old) result (stacks_of self.new) }
+    pub(crate) fn sized_bracket(&mut self, alloc: Global) -> Result<(), BuildFault>
+        ensures { Acts Production.SizedBracket (values_of self.old) result (values_of self.new) }
     {
-        self.tokens.pop()?;
-        let at = self.tokens.pop()?.start;
-        let length = self.operands.expressions.pop()?;
-        self.externals
-            .brackets
-            .push(Bracket::Length(at, Box::into_inner(length)))
+        self.token()?;
+        let length = self.expression()?;
+        let at = self.token()?.start;
+        self.put(Value::Bracket(Box::new(alloc, Bracket::Length(at, Box::into_inner(length)))?))
     }
 }

@@ -1,16 +1,16 @@
 //! The end of a production.
 
-ghost use Rattle.c_build.specs.CodeStacksOf.{stacks_of, Reduces};
+ghost use Rattle.c_build.specs.CodeValues.{Acts, values_of};
 
-use crate::build::stack::BuildFault;
-use crate::build::stacks::Stacks;
+use crate::build::stack::{BuildFault, Stack};
+use crate::build::value::Value;
 use c_grammar::Production;
 use std::alloc::Global;
 
-impl Stacks<'_> {
+impl Stack<Value<'_>> {
     /// Builds what a production makes of its parts.
     pub(crate) fn reduce(&mut self, alloc: Global, production: Production) -> Result<(), BuildFault>
-        ensures { Reduces production (stacks_of self.old) result (stacks_of self.new) }
+        ensures { Acts production (values_of self.old) result (values_of self.new) }
     {
         match production {
             Production::Name => self.variable(alloc),
@@ -26,13 +26,13 @@ impl Stacks<'_> {
             Production::Cast => self.cast(alloc),
             Production::Binary(operator) => self.binary(alloc, operator),
             Production::Conditional => self.conditional(alloc),
-            Production::Value => self.value(),
-            Production::Call => self.call(),
-            Production::CallValue => self.call_value(),
+            Production::Value => self.value(alloc),
+            Production::Call => self.function_call(alloc),
+            Production::CallValue => self.call_value(alloc),
             Production::NoArguments => self.no_arguments(alloc),
             Production::LastArgument => self.last_argument(alloc),
             Production::MoreArguments => self.more_arguments(),
-            Production::TypeName => Ok(()),
+            Production::TypeName => self.type_name_of(),
             Production::NoWords => self.no_words(alloc),
             Production::MoreWords => self.more_words(alloc),
             Production::Reserved => self.reserved(alloc),
@@ -55,26 +55,26 @@ impl Stacks<'_> {
             Production::NoStars => self.no_stars(alloc),
             Production::MoreStars => self.more_stars(),
             Production::StarConst => self.star_const(),
-            Production::Declarator => self.declarator(alloc),
+            Production::Declarator => self.whole_declarator(alloc),
             Production::NoDimensions => self.no_dimensions(alloc),
             Production::MoreDimensions => self.more_dimensions(alloc),
-            Production::Local => self.local(),
+            Production::Local => self.whole_local(alloc),
             Production::Init => self.init(),
             Production::NoInit => self.no_init(),
             Production::LastInit => self.last_init(alloc),
             Production::MoreInits => self.more_inits(),
-            Production::Assign => self.assign(),
-            Production::Update(operator) => self.update(operator),
-            Production::After(operator) => self.after(operator),
-            Production::Before(operator) => self.before(operator),
-            Production::Invoke => self.invoke(),
-            Production::NoStart => self.no_start(),
-            Production::StartLocal => self.start_local(),
-            Production::StartSimple => self.start_simple(),
+            Production::Assign => self.assign(alloc),
+            Production::Update(operator) => self.update(alloc, operator),
+            Production::After(operator) => self.after(alloc, operator),
+            Production::Before(operator) => self.before(alloc, operator),
+            Production::Invoke => self.invoke(alloc),
+            Production::NoStart => self.no_start(alloc),
+            Production::StartLocal => self.start_local(alloc),
+            Production::StartSimple => self.start_simple(alloc),
             Production::NoTest => self.no_test(),
-            Production::Test => self.test(),
+            Production::Test => self.some_test(),
             Production::NoStep => self.no_step(),
-            Production::Step => self.step(),
+            Production::Step => self.some_step(),
             Production::Empty => self.empty_statement(alloc),
             Production::Block => self.block(alloc),
             Production::Break => self.break_loop(alloc),
@@ -87,23 +87,23 @@ impl Stacks<'_> {
             Production::Do => self.do_loop(alloc),
             Production::For => self.for_loop(alloc),
             Production::Switch => self.switch(alloc),
-            Production::Simple => self.simple(alloc),
+            Production::Simple => self.simple_statement(alloc),
             Production::NoItems => self.no_items(alloc),
             Production::LocalItem => self.local_item(alloc),
             Production::StatementItem => self.statement_item(alloc),
             Production::NoGroups => self.no_groups(alloc),
             Production::MoreGroups => self.more_groups(alloc),
-            Production::Case => self.case_label(),
-            Production::Default => self.default_label(),
+            Production::Case => self.case_label(alloc),
+            Production::Default => self.default_label(alloc),
             Production::NoLabels => self.no_labels(alloc),
             Production::MoreLabels => self.more_labels(),
-            Production::Function => self.function(),
-            Production::Declaration(true) => self.type_definition(),
-            Production::Declaration(false) => self.declaration(),
+            Production::Function => self.function(alloc),
+            Production::Declaration(true) => self.type_definition(alloc),
+            Production::Declaration(false) => self.declaration(alloc),
             Production::NoTops => self.no_tops(alloc),
             Production::LastTop => self.last_top(alloc),
             Production::MoreTops => self.more_tops(),
-            Production::Top => self.top(),
+            Production::Top => self.whole_top(alloc),
             Production::NoValue => self.no_value(),
             Production::SomeValue => self.some_value(),
             Production::NoExternals => self.no_externals(alloc),
@@ -113,12 +113,12 @@ impl Stacks<'_> {
             Production::EmptyParameters => self.empty_parameters(alloc),
             Production::LastParameter => self.last_parameter(alloc),
             Production::MoreParameters => self.more_parameters(),
-            Production::Parameter => self.parameter(),
-            Production::ParameterName => self.parameter_name(alloc),
+            Production::Parameter => self.whole_parameter(alloc),
+            Production::ParameterName => self.some_parameter_name(alloc),
             Production::NoParameterName => self.no_parameter_name(),
-            Production::NoBracket => self.no_bracket(),
-            Production::OpenBracket => self.open_bracket(),
-            Production::SizedBracket => self.sized_bracket(),
+            Production::NoBracket => self.no_bracket(alloc),
+            Production::OpenBracket => self.open_bracket(alloc),
+            Production::SizedBracket => self.sized_bracket(alloc),
         }
     }
 }

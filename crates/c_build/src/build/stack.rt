@@ -1,6 +1,6 @@
 //! A stack of values, the last one on top.
 
-ghost use Rattle.std.specs.Prelude.{◌≡◌, [], ◌∷◌, List, MatchResult, reverse};
+ghost use Rattle.std.specs.Prelude.{◌≡◌, [], ◌∷◌, IsErrOf, List, MatchOption, MatchResult, reverse};
 ghost use Rattle.c_build.specs.declared.build.stack.BuildFault.TheVariants.{Memory, Missing};
 
 use std::alloc::{AllocError, AllocFailed, Global};
@@ -53,15 +53,11 @@ impl<T> Stack<T> {
         }
     }
 
-    /// Takes the top.
-    pub(crate) fn pop(&mut self) -> Result<T, BuildFault>
-        ensures { MatchResult result (λ top. self.old ≡ top ∷ self.new)
-            (λ e. (e ≡ Missing) × (self.old ≡ [])) }
+    /// Takes the top, if there is one.
+    pub(crate) fn pop(&mut self) -> Option<T>
+        ensures { MatchOption result (self.old ≡ []) (λ top. self.old ≡ top ∷ self.new) }
     {
-        match self.items.pop() {
-            Some(top) => Ok(top),
-            None => Err(BuildFault::Missing),
-        }
+        self.items.pop()
     }
 }
 
@@ -82,4 +78,11 @@ impl<T: Drop> Stack<T> {
         items.reverse();
         items
     }
+}
+
+/// Lets go of a value that stands where a part of another form is wanted.
+pub(crate) fn misplaced<V: Drop, T>(_value: V) -> Result<T, BuildFault>
+    ensures { IsErrOf result Missing }
+{
+    Err(BuildFault::Missing)
 }

@@ -1,271 +1,236 @@
 //! Statements are built from their parts.
 
-ghost use Rattle.c_build.specs.CodeStacksOf.{stacks_of, Reduces};
+ghost use Rattle.c_build.specs.CodeValues.{Acts, values_of};
 
 use crate::build::stack::{BuildFault, Stack};
-use crate::build::stacks::Stacks;
+use crate::build::value::Value;
 use c_grammar::Production;
 use c_grammar::tree::{Groups, Items, Label, Stmt};
 use std::alloc::Global;
 
-impl Stacks<'_> {
+#[tactic(auto, unfolding(c_grammar::specs::CodeBuild::act))]
+impl Stack<Value<'_>> {
     /// `;`
     pub(crate) fn empty_statement(&mut self, alloc: Global) -> Result<(), BuildFault>
-        ensures { Reduces Production.Empty (stacks_of self.old) result (stacks_of self.new) }
+        ensures { Acts Production.Empty (values_of self.old) result (values_of self.new) }
     {
-        let at = self.tokens.pop()?.start;
-        self.statements
-            .statements
-            .push(Box::new(alloc, Stmt::Empty(at))?)
+        let at = self.token()?.start;
+        self.put_statement(alloc, Stmt::Empty(at))
     }
 
     /// A block.
     pub(crate) fn block(&mut self, alloc: Global) -> Result<(), BuildFault>
-        ensures { Reduces Production.Block (stacks_of self.old) result (stacks_of self.new) }
+        ensures { Acts Production.Block (values_of self.old) result (values_of self.new) }
     {
-        self.tokens.pop()?;
-        let at = self.tokens.pop()?.start;
-        let items = self.statements.item_lists.pop()?;
-        self.statements
-            .statements
-            .push(Box::new(alloc, Stmt::Block(at, items))?)
+        self.token()?;
+        let items = self.items()?;
+        let at = self.token()?.start;
+        self.put_statement(alloc, Stmt::Block(at, items))
     }
 
     /// `break;`
     pub(crate) fn break_loop(&mut self, alloc: Global) -> Result<(), BuildFault>
-        ensures { Reduces Production.Break (stacks_of self.old) result (stacks_of self.new) }
+        ensures { Acts Production.Break (values_of self.old) result (values_of self.new) }
     {
-        self.tokens.pop()?;
-        let at = self.tokens.pop()?.start;
-        self.statements
-            .statements
-            .push(Box::new(alloc, Stmt::Break(at))?)
+        self.token()?;
+        let at = self.token()?.start;
+        self.put_statement(alloc, Stmt::Break(at))
     }
 
     /// `continue;`
     pub(crate) fn continue_loop(&mut self, alloc: Global) -> Result<(), BuildFault>
-        ensures { Reduces Production.Continue (stacks_of self.old) result (stacks_of self.new) }
+        ensures { Acts Production.Continue (values_of self.old) result (values_of self.new) }
     {
-        self.tokens.pop()?;
-        let at = self.tokens.pop()?.start;
-        self.statements
-            .statements
-            .push(Box::new(alloc, Stmt::Continue(at))?)
+        self.token()?;
+        let at = self.token()?.start;
+        self.put_statement(alloc, Stmt::Continue(at))
     }
 
     /// `return;`
     pub(crate) fn return_nothing(&mut self, alloc: Global) -> Result<(), BuildFault>
-        ensures { Reduces Production.Return (stacks_of self.old) result (stacks_of self.new) }
+        ensures { Acts Production.Return (values_of self.old) result (values_of self.new) }
     {
-        self.tokens.pop()?;
-        let at = self.tokens.pop()?.start;
-        self.statements
-            .statements
-            .push(Box::new(alloc, Stmt::Return(at, None))?)
+        self.token()?;
+        let at = self.token()?.start;
+        self.put_statement(alloc, Stmt::Return(at, None))
     }
 
     /// `return r;`
     pub(crate) fn return_value(&mut self, alloc: Global) -> Result<(), BuildFault>
-        ensures { Reduces Production.ReturnValue (stacks_of self.old) result (stacks_of self.new) }
+        ensures { Acts Production.ReturnValue (values_of self.old) result (values_of self.new) }
     {
-        self.tokens.pop()?;
-        let at = self.tokens.pop()?.start;
-        let value = self.operands.values.pop()?;
-        self.statements
-            .statements
-            .push(Box::new(alloc, Stmt::Return(at, Some(value)))?)
+        self.token()?;
+        let value = self.right()?;
+        let at = self.token()?.start;
+        self.put_statement(alloc, Stmt::Return(at, Some(Box::into_inner(value))))
     }
 
     /// An `if` without `else`.
     pub(crate) fn if_alone(&mut self, alloc: Global) -> Result<(), BuildFault>
-        ensures { Reduces Production.If (stacks_of self.old) result (stacks_of self.new) }
+        ensures { Acts Production.If (values_of self.old) result (values_of self.new) }
     {
-        self.tokens.pop()?;
-        self.tokens.pop()?;
-        let at = self.tokens.pop()?.start;
-        let then = self.statements.statements.pop()?;
-        let test = self.operands.expressions.pop()?;
-        self.statements.statements.push(Box::new(alloc, Stmt::If(at, Box::into_inner(test), then))?)
+        let then = self.statement()?;
+        self.token()?;
+        let test = self.expression()?;
+        self.token()?;
+        let at = self.token()?.start;
+        self.put_statement(alloc, Stmt::If(at, Box::into_inner(test), then))
     }
 
     /// An `if` with `else`.
     pub(crate) fn if_else(&mut self, alloc: Global) -> Result<(), BuildFault>
-        ensures { Reduces Production.IfElse (stacks_of self.old) result (stacks_of self.new) }
+        ensures { Acts Production.IfElse (values_of self.old) result (values_of self.new) }
     {
-        self.tokens.pop()?;
-        self.tokens.pop()?;
-        self.tokens.pop()?;
-        let at = self.tokens.pop()?.start;
-        let otherwise = self.statements.statements.pop()?;
-        let then = self.statements.statements.pop()?;
-        let test = self.operands.expressions.pop()?;
-        self.statements.statements.push(Box::new(
-            alloc,
-            Stmt::IfElse(at, Box::into_inner(test), then, otherwise),
-        )?)
+        let otherwise = self.statement()?;
+        self.token()?;
+        let then = self.statement()?;
+        self.token()?;
+        let test = self.expression()?;
+        self.token()?;
+        let at = self.token()?.start;
+        let test = Box::into_inner(test);
+        self.put_statement(alloc, Stmt::IfElse(at, test, then, otherwise))
     }
 
     /// `while (e) s`
     pub(crate) fn while_loop(&mut self, alloc: Global) -> Result<(), BuildFault>
-        ensures { Reduces Production.While (stacks_of self.old) result (stacks_of self.new) }
+        ensures { Acts Production.While (values_of self.old) result (values_of self.new) }
     {
-        self.tokens.pop()?;
-        self.tokens.pop()?;
-        let at = self.tokens.pop()?.start;
-        let body = self.statements.statements.pop()?;
-        let test = self.operands.expressions.pop()?;
-        self.statements.statements.push(Box::new(
-            alloc,
-            Stmt::While(at, Box::into_inner(test), body),
-        )?)
+        let body = self.statement()?;
+        self.token()?;
+        let test = self.expression()?;
+        self.token()?;
+        let at = self.token()?.start;
+        self.put_statement(alloc, Stmt::While(at, Box::into_inner(test), body))
     }
 
     /// `do s while (e);`
     pub(crate) fn do_loop(&mut self, alloc: Global) -> Result<(), BuildFault>
-        ensures { Reduces Production.Do (stacks_of self.old) result (stacks_of self.new) }
+        ensures { Acts Production.Do (values_of self.old) result (values_of self.new) }
     {
-        self.tokens.pop()?;
-        self.tokens.pop()?;
-        self.tokens.pop()?;
-        self.tokens.pop()?;
-        let at = self.tokens.pop()?.start;
-        let test = self.operands.expressions.pop()?;
-        let body = self.statements.statements.pop()?;
-        self.statements.statements.push(Box::new(alloc, Stmt::Do(at, body, Box::into_inner(test)))?)
+        self.token()?;
+        self.token()?;
+        let test = self.expression()?;
+        self.token()?;
+        self.token()?;
+        let body = self.statement()?;
+        let at = self.token()?.start;
+        self.put_statement(alloc, Stmt::Do(at, body, Box::into_inner(test)))
     }
 
     /// `for (start; test; step) s`
     pub(crate) fn for_loop(&mut self, alloc: Global) -> Result<(), BuildFault>
-        ensures { Reduces Production.For (stacks_of self.old) result (stacks_of self.new) }
+        ensures { Acts Production.For (values_of self.old) result (values_of self.new) }
     {
-        self.tokens.pop()?;
-        let at = self.tokens.pop()?.start;
-        let body = self.statements.statements.pop()?;
-        let step = self.statements.steps.pop()?;
-        let test = self.operands.tests.pop()?;
-        let start = self.statements.starts.pop()?;
-        self.statements
-            .statements
-            .push(Box::new(alloc, Stmt::For(at, start, test, step, body))?)
+        let body = self.statement()?;
+        let step = self.step()?.map(Box::into_inner);
+        let test = self.test()?.map(Box::into_inner);
+        let start = Box::into_inner(self.start()?);
+        self.token()?;
+        let at = self.token()?.start;
+        self.put_statement(alloc, Stmt::For(at, start, test, step, body))
     }
 
     /// A switch.
     pub(crate) fn switch(&mut self, alloc: Global) -> Result<(), BuildFault>
-        ensures { Reduces Production.Switch (stacks_of self.old) result (stacks_of self.new) }
+        ensures { Acts Production.Switch (values_of self.old) result (values_of self.new) }
     {
-        self.tokens.pop()?;
-        self.tokens.pop()?;
-        self.tokens.pop()?;
-        self.tokens.pop()?;
-        let at = self.tokens.pop()?.start;
-        let groups = self.statements.groups.pop()?;
-        let value = self.operands.expressions.pop()?;
-        self.statements.statements.push(Box::new(
-            alloc,
-            Stmt::Switch(at, Box::into_inner(value), groups),
-        )?)
+        self.token()?;
+        let groups = self.groups()?;
+        self.token()?;
+        self.token()?;
+        let value = self.expression()?;
+        self.token()?;
+        let at = self.token()?.start;
+        self.put_statement(alloc, Stmt::Switch(at, Box::into_inner(value), groups))
     }
 
     /// A simple statement.
-    pub(crate) fn simple(&mut self, alloc: Global) -> Result<(), BuildFault>
-        ensures { Reduces Production.Simple (stacks_of self.old) result (stacks_of self.new) }
+    pub(crate) fn simple_statement(&mut self, alloc: Global) -> Result<(), BuildFault>
+        ensures { Acts Production.Simple (values_of self.old) result (values_of self.new) }
     {
-        self.tokens.pop()?;
-        let simple = self.statements.simples.pop()?;
-        self.statements
-            .statements
-            .push(Box::new(alloc, Stmt::Simple(simple))?)
+        self.token()?;
+        let simple = Box::into_inner(self.simple()?);
+        self.put_statement(alloc, Stmt::Simple(simple))
     }
 
     /// The end of a block.
     pub(crate) fn no_items(&mut self, alloc: Global) -> Result<(), BuildFault>
-        ensures { Reduces Production.NoItems (stacks_of self.old) result (stacks_of self.new) }
+        ensures { Acts Production.NoItems (values_of self.old) result (values_of self.new) }
     {
-        self.statements
-            .item_lists
-            .push(Box::new(alloc, Items::None)?)
+        self.put(Value::Items(Box::new(alloc, Items::None)?))
     }
 
     /// Locals in a block.
     pub(crate) fn local_item(&mut self, alloc: Global) -> Result<(), BuildFault>
-        ensures { Reduces Production.LocalItem (stacks_of self.old) result (stacks_of self.new) }
+        ensures { Acts Production.LocalItem (values_of self.old) result (values_of self.new) }
     {
-        let rest = self.statements.item_lists.pop()?;
-        let local = self.statements.locals.pop()?;
-        self.statements
-            .item_lists
-            .push(Box::new(alloc, Items::Local(local, rest))?)
+        let rest = self.items()?;
+        let local = Box::into_inner(self.local()?);
+        self.put(Value::Items(Box::new(alloc, Items::Local(local, rest))?))
     }
 
     /// A statement in a block.
     pub(crate) fn statement_item(&mut self, alloc: Global) -> Result<(), BuildFault>
-        ensures { Reduces Production.StatementItem (stacks_of self.old) result
-            (stacks_of self.new) }
+        ensures { Acts Production.StatementItem (values_of self.old) result (values_of self.new) }
     {
-        let rest = self.statements.item_lists.pop()?;
-        let statement = self.statements.statements.pop()?;
-        self.statements
-            .item_lists
-            .push(Box::new(alloc, Items::Statement(statement, rest))?)
+        let rest = self.items()?;
+        let statement = self.statement()?;
+        self.put(Value::Items(Box::new(alloc, Items::Statement(statement, rest))?))
     }
 
     /// The end of a switch.
     pub(crate) fn no_groups(&mut self, alloc: Global) -> Result<(), BuildFault>
-        ensures { Reduces Production.NoGroups (stacks_of self.old) result (stacks_of self.new) }
+        ensures { Acts Production.NoGroups (values_of self.old) result (values_of self.new) }
     {
-        self.statements.groups.push(Box::new(alloc, Groups::None)?)
+        self.put(Value::Groups(Box::new(alloc, Groups::None)?))
     }
 
     /// A group of a switch before others.
     pub(crate) fn more_groups(&mut self, alloc: Global) -> Result<(), BuildFault>
-        ensures { Reduces Production.MoreGroups (stacks_of self.old) result (stacks_of self.new) }
+        ensures { Acts Production.MoreGroups (values_of self.old) result (values_of self.new) }
     {
-        let rest = self.statements.groups.pop()?;
-        let items = self.statements.item_lists.pop()?;
-        let first = self.statements.statements.pop()?;
-        let labels = self.statements.label_lists.pop()?;
-        let label = self.statements.labels.pop()?;
-        self.statements.groups.push(Box::new(
-            alloc,
-            Groups::More(label, labels.into_vec(), first, items, rest),
-        )?)
+        let rest = self.groups()?;
+        let items = self.items()?;
+        let first = self.statement()?;
+        let labels = self.labels()?.into_vec();
+        let label = Box::into_inner(self.label()?);
+        self.put(Value::Groups(Box::new(alloc, Groups::More(label, labels, first, items, rest))?))
     }
 
     /// `case e:`
-    pub(crate) fn case_label(&mut self) -> Result<(), BuildFault>
-        ensures { Reduces Production.Case (stacks_of self.old) result (stacks_of self.new) }
+    pub(crate) fn case_label(&mut self, alloc: Global) -> Result<(), BuildFault>
+        ensures { Acts Production.Case (values_of self.old) result (values_of self.new) }
     {
-        self.tokens.pop()?;
-        let at = self.tokens.pop()?.start;
-        let value = self.operands.expressions.pop()?;
-        self.statements
-            .labels
-            .push(Label::Case(at, Box::into_inner(value)))
+        self.token()?;
+        let value = self.expression()?;
+        let at = self.token()?.start;
+        self.put(Value::Label(Box::new(alloc, Label::Case(at, Box::into_inner(value)))?))
     }
 
     /// `default:`
-    pub(crate) fn default_label(&mut self) -> Result<(), BuildFault>
-        ensures { Reduces Production.Default (stacks_of self.old) result (stacks_of self.new) }
+    pub(crate) fn default_label(&mut self, alloc: Global) -> Result<(), BuildFault>
+        ensures { Acts Production.Default (values_of self.old) result (values_of self.new) }
     {
-        self.tokens.pop()?;
-        let at = self.tokens.pop()?.start;
-        self.statements.labels.push(Label::Default(at))
+        self.token()?;
+        let at = self.token()?.start;
+        self.put(Value::Label(Box::new(alloc, Label::Default(at))?))
     }
 
     /// No more labels of a group.
     pub(crate) fn no_labels(&mut self, alloc: Global) -> Result<(), BuildFault>
-        ensures { Reduces Production.NoLabels (stacks_of self.old) result (stacks_of self.new) }
+        ensures { Acts Production.NoLabels (values_of self.old) result (values_of self.new) }
     {
-        self.statements.label_lists.push(Stack::new(alloc))
+        self.put(Value::Labels(Stack::new(alloc)))
     }
 
     /// A further label of a group.
     pub(crate) fn more_labels(&mut self) -> Result<(), BuildFault>
-        ensures { Reduces Production.MoreLabels (stacks_of self.old) result (stacks_of self.new) }
+        ensures { Acts Production.MoreLabels (values_of self.old) result (values_of self.new) }
     {
-        let mut labels = self.statements.label_lists.pop()?;
-        let label = self.statements.labels.pop()?;
-        labels.push(label)?;
-        self.statements.label_lists.push(labels)
+        let mut labels = self.labels()?;
+        let label = self.label()?;
+        labels.push(Box::into_inner(label))?;
+        self.put(Value::Labels(labels))
     }
 }
