@@ -26,16 +26,13 @@ never_both e = cc
 
 module _ (target : Target) (text : List ℕ) (unit : TypedUnit) where
   -- nothing, where no certificate is refused
-  pub nothing : ((c : Certificate) (at : ℕ) (place : Place) → IsRefusedAt target text unit c at place → ⊥) → IsShown target text unit None
+  nothing : ((c : Certificate) (at : ℕ) (place : Place) → IsRefusedAt target text unit c at place → ⊥) → IsShown target text unit None
   nothing never c at place h = absurd (never c at place h)
 
   module _ (d : Certificate) (is : IsCertificateText text d) where
     -- a certificate that is refused is this one
     this : (c : Certificate) (at : ℕ) (place : Place) → IsRefusedAt target text unit c at place → IsRefusedAt target text unit d at place
     this c at place h = subst (λ x. IsRefusedAt target text unit x at place) (one_certificate text c d h.is_text is) h
-
-    pub for_another : (target_for d.version ≡ target → ⊥) → IsShown target text unit None
-    for_another other = nothing (λ c at place h. other (this c at place h).for_target)
 
     pub differs : (p : ℕ × Name) → apart unit d.functions ≡ Some p → IsShown target text unit None
     differs p e = nothing (λ c at place h. let none = (this c at place h).listed in absurd cc)

@@ -46,10 +46,6 @@ module _ (u : SimplUnit) (cs : List Steps) (levels : AreAtLevels u cs) (none : n
       let e = unit_verdicts_are_one u cs (Err (of_function r.function placed.place)) (Err (of_function at place)) placed.verdict v in
       subst (λ n. IsShownAt u cs n place o) (same_at e) (subst (λ p. IsShownAt u cs r.function p o) (same_place e) h)
 
-  -- a refusal is of some place
-  pub nowhere : {A : Type 0} → None ≡ place_in r → A
-  nowhere e = let f = placed.is_place in absurd cc
-
   module _ (place : Place) (is : Some place ≡ place_in r) (f : SimplFn) (steps : Steps) (is_function : slice_get u.functions r.function ≡ Some f) (are_steps : slice_get cs r.function ≡ Some steps) where
     this_place : place ≡ placed.place
     this_place = same_Some place placed.place (is ∙ placed.is_place)
