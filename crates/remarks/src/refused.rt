@@ -89,11 +89,14 @@ fn lines(alloc: Global, file: &str, shown: Option<Vec<u8>>) -> Result<Vec<u8>, A
         ≡ refused_lines file.now (option_map (λ part. part.items) shown)) }
 {
     let mut lines = about(alloc, file, NOT_ACCEPTED)?;
-    if let Some(shown) = shown {
-        push(&mut lines, NODE_IS_ABOUT)?;
-        lines.extend_from_slice(&shown)?;
+    match shown {
+        Some(shown) => {
+            push(&mut lines, NODE_IS_ABOUT)?;
+            lines.extend_from_slice(&shown)?;
+            Ok(lines)
+        }
+        None => Ok(lines),
     }
-    Ok(lines)
 }
 
 // What is shown of the node at which a certificate isn't accepted for a C text.
