@@ -64,7 +64,7 @@ impl Sink for Told {
 }
 
 // How many functions are told translated and checked where a command is done.
-fn told(
+fn counted(
     alloc: Global,
     words: &str,
     certificate: &[u8],
@@ -105,7 +105,7 @@ fn each_function_is_told_in_turn(rt: HostRuntime) -> Result<(), Fail> {
         ("trial 3", (3, 0)),
         ("check a.c c.cert", (0, 3)),
     ] {
-        assert!(rt; told(alloc, words, &certificate)? == Some(want), "{words}");
+        assert!(rt; counted(alloc, words, &certificate)? == Some(want), "{words}");
     }
     Ok(())
 }
