@@ -105,7 +105,10 @@ fn each_function_is_told_in_turn(rt: HostRuntime) -> Result<(), Fail> {
         ("trial 3", (3, 0)),
         ("check a.c c.cert", (0, 3)),
     ] {
-        assert!(rt; counted(alloc, words, &certificate)? == Some(want), "{words}");
+        assert!(rt;
+            counted(alloc, words, &certificate)? == Some(want),
+            "{words}"
+        );
     }
     Ok(())
 }
