@@ -37,7 +37,8 @@ impl Model for MemorySink {
       faults = sink.failures;
     } };
 
-    ghost invariant = { λ sink. (vec_len sink.bytes ≤ sink.room) × (sink.room ≤ vec_capacity sink.bytes) × (1 ≤ sink.step) };
+    ghost invariant = { λ sink. (vec_len sink.bytes ≤ sink.room)
+        × (sink.room ≤ vec_capacity sink.bytes) × (1 ≤ sink.step) };
 }
 
 impl MemorySink {

@@ -49,7 +49,8 @@ struct Among<'a, S: Sequence> {
 }
 
 impl<S: Sequence> FactTest for Among<'_, S> {
-    ghost Passes = { λ test e. Gives (facts_of (S.parts) test.facts.now) e (stands_for (fact_of test.claim.now)) };
+    ghost Passes = { λ test e. Gives (facts_of (S.parts) test.facts.now) e
+        (stands_for (fact_of test.claim.now)) };
 
     fn passes(&self, fact: &Fact<'_>) -> bool {
         gives(self.facts, fact, self.claim)
@@ -63,7 +64,8 @@ fn some<'x, S: Sequence, T: FactTest>(
     after: &'x After<'x, S>,
 ) -> bool
     ensures { IsTrue result
-        ↔ SomeFact (Lasting (T.Passes test.now) (lasts (S.parts) after.now)) (facts_of (S.parts) facts.now) }
+        ↔ SomeFact (Lasting (T.Passes test.now) (lasts (S.parts) after.now))
+        (facts_of (S.parts) facts.now) }
 {
     let mut rest = facts;
     'links: loop {
@@ -117,7 +119,8 @@ fn is_guard_kept<S: Sequence, T: FactTest>(
 ) -> bool
     ensures { IsTrue result
         ↔ GuardHas (Kept (Lasting (T.Passes test.now) (lasts (S.parts) after.now)) left
-        (map string_bytes split.now.names.now) (S.parts split.now.rest)) (S.guard_in split.now.first) }
+        (map string_bytes split.now.names.now) (S.parts split.now.rest))
+        (S.guard_in split.now.first) }
 {
     match split.first.guard() {
         Some(guard) => {
@@ -137,7 +140,8 @@ fn some_guard<S: Sequence, T: FactTest>(
     after: &After<'_, S>,
 ) -> bool
     ensures { IsTrue result
-        ↔ SomeGuard (Lasting (T.Passes test.now) (lasts (S.parts) after.now)) count (S.parts parts) }
+        ↔ SomeGuard (Lasting (T.Passes test.now) (lasts (S.parts) after.now)) count
+        (S.parts parts) }
 {
     let mut rest = parts;
     let mut left = count;
@@ -157,7 +161,8 @@ fn some_guard<S: Sequence, T: FactTest>(
 // Whether some fact gives the claim at once.
 fn some_gives_at_once<S: Sequence>(facts: &Facts<'_, S>, claim: &Fact<'_>) -> bool
     ensures { IsTrue result
-        ↔ SomeFact (λ e. GivesAtOnce e (stands_for (fact_of claim.now))) (facts_of (S.parts) facts.now) }
+        ↔ SomeFact (λ e. GivesAtOnce e (stands_for (fact_of claim.now)))
+        (facts_of (S.parts) facts.now) }
 {
     some(facts, &AtOnce { claim }, &After::Nothing)
 }
@@ -193,7 +198,8 @@ fn exp_gives<S: Sequence>(facts: &Facts<'_, S>, e: &Exp, claim: &Fact<'_>) -> bo
 // Whether a fact gives the claim, where these facts are known.
 fn gives<S: Sequence>(facts: &Facts<'_, S>, fact: &Fact<'_>, claim: &Fact<'_>) -> bool
     ensures { IsTrue result
-        ↔ Gives (facts_of (S.parts) facts.now) (stands_for (fact_of fact.now)) (stands_for (fact_of claim.now)) }
+        ↔ Gives (facts_of (S.parts) facts.now) (stands_for (fact_of fact.now))
+        (stands_for (fact_of claim.now)) }
 {
     match fact {
         Fact::Whole(e) => exp_gives(facts, e, claim),

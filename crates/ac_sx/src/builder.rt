@@ -47,7 +47,8 @@ impl SxBuilder {
 
     /// One part more of the innermost list.
     fn place(&mut self, tree: Sx) -> Result<(), AllocError>
-        ensures { OnOk result (building_of self.new ≡ placed (building_of self.old) (tree_of tree)) }
+        ensures { OnOk result
+            (building_of self.new ≡ placed (building_of self.old) (tree_of tree)) }
     {
         self.parts.push(tree)?;
         Ok(())

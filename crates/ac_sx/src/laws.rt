@@ -23,9 +23,11 @@ pub fn depth_is_nesting()
 pub fn one_number()
     ensures once { (es : List Entry) → IsTable es → (i j : ℕ) (t : Tree) →
         slice_get (trees_of es) i ≡ Some t → slice_get (trees_of es) j ≡ Some t → i ≡ j }
-    ensures list { (es : List Entry) → IsTable es → (i : ℕ) (parts : List ℕ) → slice_get es i ≡ Some (Parts parts) →
+    ensures list { (es : List Entry) → IsTable es → (i : ℕ) (parts : List ℕ) →
+        slice_get es i ≡ Some (Parts parts) →
         slice_get (trees_of es) i ≡ Some (Node (trees_at (trees_of es) parts)) }
-    ensures earlier { (es : List Entry) → IsTable es → (i : ℕ) (parts : List ℕ) → slice_get es i ≡ Some (Parts parts) →
+    ensures earlier { (es : List Entry) → IsTable es → (i : ℕ) (parts : List ℕ) →
+        slice_get es i ≡ Some (Parts parts) →
         (k : ℕ) → k < length parts → get_or parts k 0 < i }
 {}
 

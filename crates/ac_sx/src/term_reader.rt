@@ -134,8 +134,10 @@ impl Terms {
         // memory runs out.
         ensures found { IfOk result (λ id. (tree : Tree) × IsTree tree × (bytes.now ≡ spelling tree)
             × (depth tree ≤ deepest) × (slice_get (trees_of self.new) id.0 ≡ Some tree)) }
-        ensures only { (tree : Tree) → IsTree tree → depth tree ≤ deepest → bytes.now ≡ spelling tree →
-            MatchResult result (λ id. slice_get (trees_of self.new) id.0 ≡ Some tree) (λ e. e ≡ SxFault.Memory) }
+        ensures only { (tree : Tree) → IsTree tree → depth tree ≤ deepest →
+            bytes.now ≡ spelling tree →
+            MatchResult result (λ id. slice_get (trees_of self.new) id.0 ≡ Some tree)
+            (λ e. e ≡ SxFault.Memory) }
 
         ensures within { IfOk result (λ id. id.0 < length self.new) }
 
@@ -148,8 +150,10 @@ impl Terms {
         ensures fault { IfErr result (IsFaultOf (bytes.now ++ line_end ∷ [])) }
 
         // .. and where there is a cause, there is its error, unless memory runs out.
-        ensures no_text { (at : ℕ) → IsNoText (bytes.now ++ line_end ∷ []) at → IsRefused result (SxFault.NotText at) }
-        ensures deep { (at : ℕ) → OpensTooDeep (bytes.now ++ line_end ∷ []) at → IsRefused result (SxFault.Deep at) }
+        ensures no_text { (at : ℕ) → IsNoText (bytes.now ++ line_end ∷ []) at →
+            IsRefused result (SxFault.NotText at) }
+        ensures deep { (at : ℕ) → OpensTooDeep (bytes.now ++ line_end ∷ []) at →
+            IsRefused result (SxFault.Deep at) }
     {
         recognise_line(bytes)?;
         match self.build(bytes)? {
@@ -160,9 +164,11 @@ impl Terms {
 
     /// The number of the tree of bytes that spell one.
     fn build(&mut self, bytes: &[u8]) -> Result<Option<TermId>, AllocError>
-        requires spelt { (tree : Tree) × IsTree tree × (bytes.now ≡ spelling tree) × (depth tree ≤ deepest) }
+        requires spelt { (tree : Tree) × IsTree tree × (bytes.now ≡ spelling tree)
+            × (depth tree ≤ deepest) }
         requires room { length self.old + length bytes.now < 2 ^ 32 }
-        ensures found { IfOk result (λ found. option_and_then (λ id. slice_get (trees_of self.new) id.0) found
+        ensures found { IfOk result
+            (λ found. option_and_then (λ id. slice_get (trees_of self.new) id.0) found
             ≡ built (bytes.now ++ line_end ∷ [])) }
         ensures kept { Keeps self.old self.new }
         ensures len { length self.new ≤ length self.old + length bytes.now }

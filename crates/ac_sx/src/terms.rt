@@ -95,7 +95,8 @@ impl Terms {
     /// It takes stack for each level of nesting, so for 4,096 at most.
     pub fn tree(&self, alloc: Global, id: TermId) -> Result<Sx, AllocError>
         requires { id.0 < length self.now }
-        ensures tree { IfOk result (λ tree. slice_get (trees_of self.now) id.0 ≡ Some (tree_of tree)) }
+        ensures tree { IfOk result
+            (λ tree. slice_get (trees_of self.now) id.0 ≡ Some (tree_of tree)) }
         ensures low { IfOk result (λ tree. depth (tree_of tree) ≤ deepest) }
     {
         match self.node(id) {

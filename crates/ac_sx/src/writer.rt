@@ -38,7 +38,8 @@ fn descend<'a>(
     tree: &'a Sx,
 ) -> Result<(), AllocError>
     ensures text { OnOk result (text.new.items ++ lists_behind (left_of lists.new.items)
-        ≡ (text.old.items ++ spelling (tree_of tree.now)) ++ lists_behind (left_of lists.old.items)) }
+        ≡ (text.old.items ++ spelling (tree_of tree.now))
+        ++ lists_behind (left_of lists.old.items)) }
     ensures less { OnOk result (nodes_behind (left_of lists.new.items)
         < nodes_behind (left_of lists.old.items) + nodes (tree_of tree.now)) }
 {

@@ -1,5 +1,5 @@
 -- What contracts see of the values on the builder's stack, and what is taken from there, put there and built there.
-use Rattle.std.specs.Prelude.{◌≡◌, Bool, false, List, ◌∷◌, Result, Ok, Err, Some, None, map, string_bytes}
+use Rattle.std.specs.Prelude.{◌≡◌, Bool, false, List, ◌∷◌, Result, Ok, Err, Some, map, string_bytes}
 use Rattle.std.specs.Option.{option_map}
 use Rattle.c_lex.specs.Lexeme.{lexeme_of}
 use Rattle.c_grammar.specs.Tree.{Typed}

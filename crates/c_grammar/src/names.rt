@@ -23,7 +23,8 @@ pub(crate) struct Names<'a> {
     /// Those that are.
     types: HashSet<&'a str>,
     ghost within: { made ≤ vec_len all },
-    ghost same: { (n : List ℕ) → contains_by (λ name. pointwise nat_eq n name.now) types ≡ operators.is_made (made_of (map (λ name. name.now) all.items) made) n },
+    ghost same: { (n : List ℕ) → contains_by (λ name. pointwise nat_eq n name.now) types
+        ≡ operators.is_made (made_of (map (λ name. name.now) all.items) made) n },
 }
 
 impl<'a> Names<'a> {

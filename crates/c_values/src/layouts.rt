@@ -70,7 +70,8 @@ impl Model for Layout {
     ghost use Rattle.c_values.specs.CodeLayout.{struct_def_of};
     ghost use Rattle.c_values.specs.CodeStructTable.{IsTabled};
 
-    ghost view = { λ l. record { target = target_of l.target; structs = map struct_def_of l.structs.items } };
+    ghost view = { λ l.
+        record { target = target_of l.target; structs = map struct_def_of l.structs.items } };
 
     ghost invariant = { λ l. IsTabled (target_of l.target) l.structs.items l.table };
 }

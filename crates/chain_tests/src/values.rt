@@ -79,7 +79,8 @@ fn is_sorted_behind(e: &Exp, bindings: &[(String, Value)], names: &Names<'_>, l:
 // Whether an expression without globals is well-sorted in an environment.
 fn is_sorted(e: &Exp, env: &Env, l: &Layout) -> bool
     ensures scalars { result ≡ true → AreScalars env.now.items }
-    ensures sorted { result ≡ true → IsSome (sort_of (scope_in l.now env.now.items []) (exp_of e.now)) }
+    ensures sorted { result ≡ true →
+        IsSome (sort_of (scope_in l.now env.now.items []) (exp_of e.now)) }
 {
     let names = Names::new();
     is_sorted_behind(e, env, &names, l)

@@ -106,7 +106,8 @@ struct Files<'a> {
 }
 
 fn three(words: &[String]) -> Option<Files<'_>>
-    ensures { option_map (λ f. (f.file.now, f.certificate.now, f.third.now, types.target_of f.target)) result
+    ensures { option_map
+        (λ f. (f.file.now, f.certificate.now, f.third.now, types.target_of f.target)) result
         ≡ three_files (map string_bytes words.now) }
 {
     let Some((file, rest)) = words.split_first() else {

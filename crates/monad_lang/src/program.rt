@@ -97,9 +97,11 @@ fn turned(head: Head, mut first: Box<Mon>, last: Box<Mon>) -> Mon
 impl Mon {
     /// What is left of this first part and what it stands before: one program, or what comes behind a front of its own.
     fn turn(self, beside: (Head, Box<Mon>)) -> (Mon, Option<(Head, Box<Mon>)>)
-        ensures front { IfSome result.1 (λ (own, front). 1 + (2 * weight front.value + weight result.0)
+        ensures front { IfSome result.1
+            (λ (own, front). 1 + (2 * weight front.value + weight result.0)
             ≤ 2 * weight self + weight beside.1.value) }
-        ensures no_front { IfNone result.1 (weight result.0 ≤ 2 * weight self + weight beside.1.value) }
+        ensures no_front { IfNone result.1
+            (weight result.0 ≤ 2 * weight self + weight beside.1.value) }
     {
         let (head, last) = beside;
         match self {

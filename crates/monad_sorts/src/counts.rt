@@ -77,7 +77,8 @@ fn result_count(name: &str, setting: Setting<'_>) -> usize
 
 // The kind of what a call gives.
 fn result_kind(name: &str, functions: Functions<'_>) -> Option<Kind>
-    ensures { option_map kind_of result ≡ result_kind (signature (functions_in functions.entry) name.now) }
+    ensures { option_map kind_of result
+        ≡ result_kind (signature (functions_in functions.entry) name.now) }
 {
     match functions {
         Functions::Programs(functions) => match function(functions, name)?.results.first() {

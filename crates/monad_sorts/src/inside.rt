@@ -28,7 +28,8 @@ impl<'a> Inside<'a> {
     /// What is in scope after so many last parts of a program that stands here.
     pub fn pass(&'a self, setting: Setting<'a>, m: &'a Mon, steps: usize) -> Inside<'a>
         ensures { scalars_in result
-            ≡ names_after (setting_in setting.entry no_names) steps (scalars_in self.now) (mon_of m.now) }
+            ≡ names_after (setting_in setting.entry no_names) steps (scalars_in self.now)
+            (mon_of m.now) }
     {
         Inside::Passed(self, setting, m, steps)
     }

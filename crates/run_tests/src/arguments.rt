@@ -26,7 +26,8 @@ pub(crate) fn takes(u: &FinalUnit, f: u32, values: &[Value]) -> bool
 
 // Whether there is a value for each parameter, of its kind's sort.
 fn are_arguments(parameters: &[Binder], values: &[Value]) -> bool
-    ensures { result ≡ true → AreOfSorts (map sort_of_kind (kinds_of (map binder_of parameters.now)))
+    ensures { result ≡ true →
+        AreOfSorts (map sort_of_kind (kinds_of (map binder_of parameters.now)))
         (map value_of values.now) }
 {
     match (parameters.split_first(), values.split_first()) {

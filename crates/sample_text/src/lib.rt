@@ -74,7 +74,8 @@ fn push_of_shape(text: &mut Vec<u8>, shape: u32, k: u32) -> Result<(), AllocErro
 // A function that calls this one.
 fn push_call(text: &mut Vec<u8>, called: u32) -> Result<(), AllocError>
     ensures { OnOk result (text.new.items ≡ text.old.items
-        ++ around (codes "(unsigned a, unsigned b) { unsigned r; r = f") called (codes "(a, b); return r; }\n")) }
+        ++ around (codes "(unsigned a, unsigned b) { unsigned r; r = f") called
+        (codes "(a, b); return r; }\n")) }
 {
     push_around(
         text,

@@ -70,7 +70,8 @@ fn are_locals_formed(locals: &[Binder]) -> bool
 /// unit.
 pub fn is_command_sorted(u: &SimplUnit, locals: &[Binder], c: &Simpl) -> bool
     ensures { result ≡ is_sorted
-        (scope_among (simpl_unit_of u.now) (map binder_of locals.now)) (signatures_in u.now) (simpl_of c.now) }
+        (scope_among (simpl_unit_of u.now) (map binder_of locals.now)) (signatures_in u.now)
+        (simpl_of c.now) }
 {
     let outside = Names::new();
     let inside = outside.push_all(locals);

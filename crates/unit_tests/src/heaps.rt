@@ -44,7 +44,8 @@ pub(crate) fn place<'a>(
     ensures whole { IfSome result (λ _. is_object l.now (type_of t.now) ≡ true) }
     ensures address { IfSome result (λ _. address < space l.now) }
     ensures shape { IfSome result (λ u. Some (shape_of l.now (type_of u.now))
-        ≡ option_map (λ q. q.shape) (spot (shape_of l.now (type_of t.now)) (map step_of path.now))) }
+        ≡ option_map (λ q. q.shape)
+        (spot (shape_of l.now (type_of t.now)) (map step_of path.now))) }
     ensures part { IfSome result (λ u. is_object l.now (type_of u.now) ≡ true) }
     ensures layout { IfSome result (λ _. IsLayout l.now) }
 {

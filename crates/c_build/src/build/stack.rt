@@ -80,7 +80,7 @@ impl<T: Drop> Stack<T> {
     }
 }
 
-/// Lets go of a value that stands where a part of another form is wanted.
+/// Lets go of what stands where a part of another form is wanted: a value, or that there is none.
 pub(crate) fn misplaced<V: Drop, T>(_value: V) -> Result<T, BuildFault>
     ensures { IsErrOf result Missing }
 {

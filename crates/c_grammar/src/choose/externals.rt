@@ -43,7 +43,9 @@ fn external(stack: &mut Vec<Symbol>, typed: bool, kind: &TokenKind) -> Result<An
     ensures { IfOk result
         (λ answer.
         Follows (choice.and_then (choice.words true Seen.Nothing typed (kind_of kind.now))
-        (Symbol.Tops false ∷ Symbol.Made false ∷ Symbol.Externals ∷ choice.end Production.MoreExternals ∷ [])) answer (reverse stack.old.items) (reverse stack.new.items)) }
+        (Symbol.Tops false ∷ Symbol.Made false ∷ Symbol.Externals
+        ∷ choice.end Production.MoreExternals ∷ []))
+        answer (reverse stack.old.items) (reverse stack.new.items)) }
 {
     push_all(
         stack,

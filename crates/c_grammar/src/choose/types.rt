@@ -277,7 +277,8 @@ fn further_members(
         (λ answer.
         Follows (choice.and_then (choice.words false Seen.Nothing typed (kind_of kind.now))
         (choice.declarator false
-        (Symbol.DeclaratorsMore ∷ Symbol.MembersMore ∷ choice.end Production.MoreMembers ∷ []))) answer (reverse stack.old.items) (reverse stack.new.items)) }
+        (Symbol.DeclaratorsMore ∷ Symbol.MembersMore ∷ choice.end Production.MoreMembers ∷ [])))
+        answer (reverse stack.old.items) (reverse stack.new.items)) }
 {
     push_all(
         stack,

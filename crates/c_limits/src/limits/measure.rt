@@ -109,7 +109,8 @@ impl Measure {
     fn join(&mut self, right: Measure) -> Result<(), AllocError>
         ensures { IfOk result
             (λ _. machine.measure_of self.new
-            ≡ machine.cut (limits.beside (machine.measure_of self.old) (machine.measure_of right))) }
+            ≡ machine.cut (limits.beside (machine.measure_of self.old)
+            (machine.measure_of right))) }
     {
         let Measure {
             functions,
