@@ -5,5 +5,6 @@ pub mod LimitsFound
 pub mod LimitsSteps
 pub mod LimitsLevels
 pub mod LimitsStatements
-pub mod CountSteps
-pub mod Counted
+pub mod DepthSteps
+pub mod BoundSums
+pub mod Bounded

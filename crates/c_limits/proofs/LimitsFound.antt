@@ -12,7 +12,7 @@ use Rattle.c_limits.specs.declared.limits.Limit.TheVariants as limit
 use Rattle.c_limits.specs.Limits.{earlier, unit, first_limit}
 use Rattle.c_limits.specs.CodeMeasure.{Part, cut, cut_part, reduced, advanced, measured, limit_of}
 use Rattle.c_limits.proofs.LimitsLists.{get_take}
-use Rattle.c_limits.proofs.LimitsParts.{Agrees, part, whole, reduces}
+use Rattle.c_limits.proofs.LimitsParts.{Agrees, part, reduces}
 use Rattle.c_limits.proofs.LimitsCut.{cut_reduced}
 
 -- the parts behind steps, of which the first argument is what is left of them
@@ -25,8 +25,7 @@ parts vs = map cut_part (map part vs)
 
 reduced_parts : (p : Production) (vs ws : List Value) → act p vs ≡ Some ws → reduced cut p (parts vs) ≡ parts ws
 reduced_parts p vs ws h =
-    let agrees : Option (List Value) → Type 0 = λ o. Agrees o (reduced whole p (map part vs)) in
-    cut_reduced p (map part vs) ∙ ap (λ ps. map cut_part ps) (subst agrees h (reduces p vs))
+    cut_reduced p (map part vs) ∙ ap (λ ps. map cut_part ps) (subst (λ o. Agrees p vs o) h (reduces p vs)).0
 
 abbrev values_of : Option (List Value) → List Value
 values_of None = []

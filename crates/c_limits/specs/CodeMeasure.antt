@@ -82,12 +82,16 @@ gathered keep (suc n) (p ∷ ps) sum = gathered keep n ps (joined keep p sum)
 -- what a production makes of its parts
 abbrev pub made : (Measure → Measure) → Role → Part → Option Part
 made keep roles.Nothing p = None
+made keep roles.Leaf p = Some (record { first = p.first; measure = keep (node (unwrap_or p.first 0) p.measure) })
 made keep roles.Node p = Some (record { first = p.first; measure = keep (node (unwrap_or p.first 0) p.measure) })
 made keep roles.Specifier p = Some p
+made keep roles.TypePart p = Some (record { first = None; measure = p.measure })
 made keep roles.Part p = Some (record { first = None; measure = p.measure })
+made keep (roles.Sequence n) p = Some (record { first = None; measure = p.measure })
 made keep roles.Simple p = Some (record { first = p.first; measure = outermost p.measure })
 made keep roles.Outermost p = Some (record { first = None; measure = outermost p.measure })
 made keep roles.Statement p = Some (record { first = None; measure = keep (statement (unwrap_or p.first 0) p.measure) })
+made keep (roles.Compound n) p = Some (record { first = None; measure = keep (statement (unwrap_or p.first 0) p.measure) })
 made keep roles.Local p = Some (record { first = None; measure = keep (local (unwrap_or p.first 0) p.measure) })
 made keep roles.Function p = Some (record { first = None; measure = keep (function (unwrap_or p.first 0) p.measure) })
 

@@ -4,4 +4,4 @@ pub mod CodeLevels
 pub mod LimitsExamples
 pub mod CodeRoles
 pub mod CodeMeasure
-pub mod CodeCounts
+pub mod CodeBounds

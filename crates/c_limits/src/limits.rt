@@ -8,14 +8,14 @@ ghost use Rattle.c_grammar.specs.CodeScript.{replay};
 ghost use Rattle.c_limits.specs.Limits as limits;
 ghost use Rattle.c_limits.specs.CodeMeasure as machine;
 
-mod counts;
+mod bounds;
 pub mod laws;
 mod measure;
 mod offsets;
 mod part;
 mod role;
 
-use self::counts::is_within;
+use self::bounds::stays_within;
 use self::measure::Fault;
 use self::part::{Part, reduce};
 use c_grammar::Step;
@@ -106,8 +106,8 @@ fn limit_of(mut parts: Vec<Part>) -> Option<Fault>
 /// The first limit that the tree of a script passes, and the offset where it does. Where several are passed at one offset, it is
 /// the first of them in the order of `Limit`.
 ///
-/// It takes time and memory in proportion to the number of steps, however deep the tree is. The nodes
-/// are counted first: only where a limit is passed are places looked for.
+/// It takes time and memory in proportion to the number of steps, however deep the tree is. Bounds are
+/// counted first: only where they pass a limit are all parts measured, and places found.
 pub fn first_limit(
     alloc: Global,
     steps: &[Step],
@@ -116,7 +116,7 @@ pub fn first_limit(
     ensures { (exts : List External) → replay steps.now (lexemes_of tokens.now) []
         ≡ Some (OfUnit exts ∷ []) → IfOk result (λ found. found ≡ limits.first_limit exts) }
 {
-    if is_within(alloc, steps, tokens)? {
+    if stays_within(alloc, steps)? {
         return Ok(None);
     }
     Ok(limit_of(measured(alloc, steps, tokens)?))

@@ -61,7 +61,7 @@ impl Part {
         let at = first.unwrap_or(0);
         match role {
             Role::Nothing => Ok(None),
-            Role::Node => {
+            Role::Leaf | Role::Node => {
                 let mut measure = counted(alloc, measure)?;
                 measure.node(at)?;
                 Ok(Some(Part {
@@ -70,7 +70,7 @@ impl Part {
                 }))
             }
             Role::Specifier => Ok(Some(Part { first, measure })),
-            Role::Part => Ok(Some(Part {
+            Role::TypePart | Role::Part | Role::Sequence(_) => Ok(Some(Part {
                 first: None,
                 measure,
             })),
@@ -82,7 +82,7 @@ impl Part {
                 first: None,
                 measure: outermost(measure),
             })),
-            Role::Statement => {
+            Role::Statement | Role::Compound(_) => {
                 let mut measure = counted(alloc, measure)?;
                 measure.statement(at)?;
                 Ok(Some(Part {

@@ -10,18 +10,26 @@ use c_grammar::Production;
 pub(super) enum Role {
     /// No part: a `const` behind a star.
     Nothing,
-    /// A node of an expression.
+    /// A name or a constant: a node of an expression with no other below it.
+    Leaf,
+    /// Any other node of an expression.
     Node,
     /// Words, stars or a declarator: what a declaration may begin with.
     Specifier,
-    /// A list of parts, or a part alone.
+    /// A list of parts of a type, or one alone. It may stand in an expression.
+    TypePart,
+    /// A list of other parts, or a part alone, which stands in no expression.
     Part,
     /// A call or a simple statement, whose expressions stand in no other.
     Simple,
     /// A part whose expressions stand in no other.
     Outermost,
-    /// A statement.
+    /// A statement in which no other stands.
     Statement,
+    /// A statement with so many in it, or lists of them.
+    Compound(usize),
+    /// A list of statements, of so many and shorter lists.
+    Sequence(usize),
     /// The declarator of a local.
     Local,
     /// A function.
@@ -34,10 +42,8 @@ pub(super) fn role_of(production: Production) -> Role
 {
     match production {
         Production::StarConst => Role::Nothing,
-        Production::Name
-        | Production::Number
-        | Production::Character
-        | Production::Parenthesis
+        Production::Name | Production::Number | Production::Character => Role::Leaf,
+        Production::Parenthesis
         | Production::Index
         | Production::Member
         | Production::PointerMember
@@ -78,23 +84,25 @@ pub(super) fn role_of(production: Production) -> Role
         | Production::Parameter
         | Production::SizedBracket => Role::Outermost,
         Production::Empty
-        | Production::Block
         | Production::Break
         | Production::Continue
         | Production::Return
         | Production::ReturnValue
+        | Production::Simple => Role::Statement,
+        Production::Block
         | Production::If
-        | Production::IfElse
         | Production::While
         | Production::Do
         | Production::For
-        | Production::Switch
-        | Production::Simple => Role::Statement,
+        | Production::Switch => Role::Compound(1),
+        Production::IfElse => Role::Compound(2),
+        Production::NoItems | Production::NoGroups => Role::Sequence(0),
+        Production::LocalItem => Role::Sequence(1),
+        Production::StatementItem => Role::Sequence(2),
+        Production::MoreGroups => Role::Sequence(3),
         Production::LastInit | Production::MoreInits => Role::Local,
         Production::Function => Role::Function,
-        Production::CallValue
-        | Production::NoArguments
-        | Production::TypeName
+        Production::TypeName
         | Production::LastMember
         | Production::MoreMembers
         | Production::LastDeclarator
@@ -105,10 +113,9 @@ pub(super) fn role_of(production: Production) -> Role
         | Production::Explicit
         | Production::LastEnumerator
         | Production::LastEnumeratorComma
-        | Production::MoreEnumerators => Role::Part,
-        Production::NoItems
-        | Production::LocalItem
-        | Production::StatementItem
+        | Production::MoreEnumerators => Role::TypePart,
+        Production::CallValue
+        | Production::NoArguments
         | Production::Init
         | Production::NoInit
         | Production::NoStart
@@ -117,8 +124,6 @@ pub(super) fn role_of(production: Production) -> Role
         | Production::NoTest
         | Production::NoStep
         | Production::Step
-        | Production::NoGroups
-        | Production::MoreGroups
         | Production::Default
         | Production::NoLabels
         | Production::MoreLabels => Role::Part,
