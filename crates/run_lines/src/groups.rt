@@ -5,8 +5,7 @@ ghost use Rattle.std.specs.Option.{option_map};
 ghost use Rattle.correspondence.specs.Outcome.{Done};
 ghost use Rattle.c_values.specs.CodeValue.{value_of};
 ghost use Rattle.c_memory.specs.CodeHeap.{byte_content};
-ghost use Rattle.c_memory.specs.Heap.{IsHeap, OnTypes};
-ghost use Rattle.typed_heap.specs.CodeCells.{cells_of};
+ghost use Rattle.c_memory.specs.Heap.{IsHeap};
 ghost use Rattle.expression_lang.specs.CodeState.{AreOfTypes, state_of};
 ghost use Rattle.expression_text.specs.Row.{number_op_head};
 ghost use Rattle.simpl_lang.specs.CodeCommand.{guard_kind_of};
@@ -22,7 +21,7 @@ ghost use Rattle.run_lines.specs.RunLines as texts;
 
 use crate::ends::{CStop, ProgramStop, Verdict};
 use crate::lines::result_line;
-use crate::states::{global_lines, range_lines, tag_lines};
+use crate::states::{RunHeap, global_lines, range_lines, tag_lines};
 use crate::text::{push, push_number};
 use c_lang::tree::{TypedFn, TypedUnit};
 use c_memory::ByteHeap;
@@ -31,7 +30,6 @@ use expression_text::Head;
 use memory_text::MemoryText;
 use simpl_lang::GuardKind;
 use std::alloc::{AllocError, Global};
-use typed_heap::TypedHeap;
 
 const C_WORD: &str = "c";
 
@@ -101,67 +99,26 @@ fn guard_word(kind: GuardKind) -> &'static str
     }
 }
 
-/// A program on typed heaps gives a value, where its function has a result, and a state.
-pub fn write_program_value_on_types(
+/// A program gives a value, where its function has a result, and a state.
+pub fn write_program_value<H: RunHeap>(
     alloc: Global,
     unit: &TypedUnit,
     function: &TypedFn,
     memory: &MemoryText,
     value: &Option<Value>,
-    heap: &TypedHeap,
+    heap: &H,
     globals: &[Value],
     lines: &mut Vec<u8>,
 ) -> Result<(), AllocError>
     requires unit { IsWellTyped (unit_of unit.now) }
     requires memory { is_memory (unit_of unit.now) (memory_of memory.now) ≡ true }
-    requires heap { IsHeap unit.now.layout (OnTypes (cells_of heap.now)) }
+    requires heap { IsHeap unit.now.layout (H.content heap.now) }
     requires globals { AreOfTypes unit.now.layout unit.now.globals.items globals.now }
     ensures { OnOk result (lines.new.items ≡ lines.old.items
         ++ texts.program_lines (unit_of unit.now) (function_of function.now)
         (memory_of memory.now) (Done (record {
           values = given value.now;
-          state = state_of (OnTypes (cells_of heap.now)) unit.now.globals.items globals.now;
-        }))) }
-{
-    result_line(
-        alloc,
-        PROGRAM_WORD,
-        &unit.layout,
-        &function.result,
-        value,
-        lines,
-    )?;
-    tag_lines(alloc, PROGRAM_WORD, &unit.layout, heap, &memory.tags, lines)?;
-    global_lines(
-        alloc,
-        PROGRAM_WORD,
-        &unit.layout,
-        &unit.globals,
-        globals,
-        lines,
-    )
-}
-
-/// The same of a program on bytes.
-pub fn write_program_value_on_bytes(
-    alloc: Global,
-    unit: &TypedUnit,
-    function: &TypedFn,
-    memory: &MemoryText,
-    value: &Option<Value>,
-    heap: &ByteHeap,
-    globals: &[Value],
-    lines: &mut Vec<u8>,
-) -> Result<(), AllocError>
-    requires unit { IsWellTyped (unit_of unit.now) }
-    requires memory { is_memory (unit_of unit.now) (memory_of memory.now) ≡ true }
-    requires heap { IsHeap unit.now.layout (byte_content heap.now) }
-    requires globals { AreOfTypes unit.now.layout unit.now.globals.items globals.now }
-    ensures { OnOk result (lines.new.items ≡ lines.old.items
-        ++ texts.program_lines (unit_of unit.now) (function_of function.now)
-        (memory_of memory.now) (Done (record {
-          values = given value.now;
-          state = state_of (byte_content heap.now) unit.now.globals.items globals.now;
+          state = state_of (H.content heap.now) unit.now.globals.items globals.now;
         }))) }
 {
     result_line(
@@ -181,7 +138,7 @@ pub fn write_program_value_on_bytes(
         globals,
         lines,
     )?;
-    range_lines(alloc, PROGRAM_WORD, heap, &memory.bytes, lines)
+    heap.bytes_lines(alloc, PROGRAM_WORD, &memory.bytes, lines)
 }
 
 /// A program gives nothing.

@@ -11,6 +11,6 @@ mod values;
 
 pub use ends::{CStop, ProgramStop, Verdict};
 pub use groups::{
-    write_c_stop, write_c_value, write_program_stop, write_program_value_on_bytes,
-    write_program_value_on_types, write_verdict,
+    write_c_stop, write_c_value, write_program_stop, write_program_value, write_verdict,
 };
+pub use states::RunHeap;

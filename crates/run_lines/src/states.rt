@@ -17,6 +17,7 @@ use crate::lines::{global_line, range_line, tag_line};
 use c_memory::{ByteHeap, Heap};
 use c_values::{CType, GlobalVar, Layout, Value};
 use std::alloc::{AllocError, Global};
+use typed_heap::TypedHeap;
 
 /// A line for each tag.
 pub(crate) fn tag_lines<H: Heap>(
@@ -100,4 +101,43 @@ pub(crate) fn range_lines(
         rest = others;
     }
     Ok(())
+}
+
+/// A heap that programs run on.
+pub trait RunHeap: Heap {
+    /// A line for each range, where the heap has bytes.
+    fn bytes_lines(
+        &self,
+        alloc: Global,
+        who: &str,
+        ranges: &[(u64, Vec<u8>)],
+        lines: &mut Vec<u8>,
+    ) -> Result<(), AllocError>
+        requires { EndInSpace (map run_of ranges.now) }
+        ensures { OnOk result (lines.new.items ≡ lines.old.items
+            ++ texts.bytes_lines who.now (Self.content self.now) (map run_of ranges.now)) };
+}
+
+impl RunHeap for ByteHeap {
+    fn bytes_lines(
+        &self,
+        alloc: Global,
+        who: &str,
+        ranges: &[(u64, Vec<u8>)],
+        lines: &mut Vec<u8>,
+    ) -> Result<(), AllocError> {
+        range_lines(alloc, who, self, ranges, lines)
+    }
+}
+
+impl RunHeap for TypedHeap {
+    fn bytes_lines(
+        &self,
+        _alloc: Global,
+        _who: &str,
+        _ranges: &[(u64, Vec<u8>)],
+        _lines: &mut Vec<u8>,
+    ) -> Result<(), AllocError> {
+        Ok(())
+    }
 }

@@ -1,9 +1,7 @@
 //! The side of the program: the last program of a certificate is run, on the heap of its level.
 
 ghost use Rattle.std.specs.Prelude.{◌≡◌, ◌++◌, ◌<◌, ◌^◌, List, length, IfOk};
-ghost use Rattle.c_memory.specs.CodeHeap.{byte_content};
 ghost use Rattle.c_lang.specs.Typed as typed;
-ghost use Rattle.typed_heap.specs.CodeCells.{typed_content};
 ghost use Rattle.acceptance.specs.Certificate.{Steps};
 ghost use Rattle.certificate_text.specs.CertificateText as certificates;
 ghost use Rattle.memory_text.specs.MemoryText as memories;
@@ -14,14 +12,10 @@ ghost use Rattle.running.specs.CodeRuns.{HasOutcome, HasProgramEnd, IsStart, Pro
 
 use crate::start::{Came, Start};
 use ac_interp::{AOutcome, Ran, run_abstract};
-use c_memory::ByteHeap;
 use checking::{Accepted, final_text};
-use run_lines::{
-    ProgramStop, write_program_stop, write_program_value_on_bytes, write_program_value_on_types,
-};
+use run_lines::{ProgramStop, RunHeap, write_program_stop, write_program_value};
 use run_start::{arguments_of, globals_of, views_of};
 use std::alloc::{AllocError, Global};
-use typed_heap::TypedHeap;
 
 /// Runs the function's program in an accepted certificate, and writes how it ends.
 pub(crate) fn program_side(
@@ -40,8 +34,8 @@ pub(crate) fn program_side(
         IfOk result (ProgramSide start.entry c.functions lines.old.items lines.new.items) }
 {
     match program_outcome(alloc, start, certificate, accepted)? {
-        Ran::Typed(outcome) => typed_lines(alloc, start, outcome, lines),
-        Ran::Bytes(outcome) => bytes_lines(alloc, start, outcome, lines),
+        Ran::Typed(outcome) => end_lines(alloc, start, outcome, lines),
+        Ran::Bytes(outcome) => end_lines(alloc, start, outcome, lines),
     }
 }
 
@@ -79,55 +73,21 @@ fn program_outcome(
     ))
 }
 
-// The lines of an end of a program on typed heaps.
-fn typed_lines(
+// The lines of an end of a program.
+fn end_lines<H: RunHeap + Drop>(
     alloc: Global,
     start: Start<'_>,
-    outcome: AOutcome<TypedHeap>,
+    outcome: AOutcome<H>,
     lines: &mut Vec<u8>,
 ) -> Result<Came, AllocError>
     requires start { IsStart start }
-    requires ends { (cs : List Steps) × HasOutcome typed_content start cs outcome }
-    ensures { (cs : List Steps) → HasOutcome typed_content start.entry cs outcome →
+    requires ends { (cs : List Steps) × HasOutcome H.content start cs outcome }
+    ensures { (cs : List Steps) → HasOutcome H.content start.entry cs outcome →
         IfOk result (ProgramSide start.entry cs lines.old.items lines.new.items) }
 {
     match outcome {
         AOutcome::Value(value, heap, globals) => {
-            write_program_value_on_types(
-                alloc,
-                start.unit,
-                start.function,
-                start.memory,
-                &value,
-                &heap,
-                &globals,
-                lines,
-            )?;
-            Ok(Came::Value)
-        }
-        AOutcome::Fails => program_stop(ProgramStop::Fails, lines),
-        AOutcome::Wide(op, a, b) => program_stop(ProgramStop::Wide(op, a, b), lines),
-        AOutcome::OutOfTurns => program_stop(ProgramStop::OutOfTurns, lines),
-        AOutcome::Deep => program_stop(ProgramStop::Deep, lines),
-        AOutcome::Memory => Err(AllocError),
-    }
-}
-
-// The lines of an end of a program on bytes.
-fn bytes_lines(
-    alloc: Global,
-    start: Start<'_>,
-    outcome: AOutcome<ByteHeap>,
-    lines: &mut Vec<u8>,
-) -> Result<Came, AllocError>
-    requires start { IsStart start }
-    requires ends { (cs : List Steps) × HasOutcome byte_content start cs outcome }
-    ensures { (cs : List Steps) → HasOutcome byte_content start.entry cs outcome →
-        IfOk result (ProgramSide start.entry cs lines.old.items lines.new.items) }
-{
-    match outcome {
-        AOutcome::Value(value, heap, globals) => {
-            write_program_value_on_bytes(
+            write_program_value(
                 alloc,
                 start.unit,
                 start.function,
