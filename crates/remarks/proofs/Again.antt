@@ -20,14 +20,12 @@ of_result (Err e) P Q f h = tt
 
 -- what is told of a file from where its own reading began
 module _ (held held' : Name → Option (List ℕ)) (before mid after : Name → ℕ) (same : (n : Name) → held' n ≡ held n) (grew : (n : Name) → before n ≤ mid n)
-    (file : Name) (limit : ℕ) (otherwise : List ℕ) (said : List ℕ → List ℕ → Type 0) (bytes : List ℕ) where
-  longer : Rose (mid file) (after file) ⊎ IsLonger (held' file) limit → Rose (before file) (after file) ⊎ IsLonger (held file) limit
-  longer (inl h) = inl (Rose_within (before file) (mid file) (after file) (after file) (grew file) h (omega arith))
-  longer (inr h) = inr (subst (λ c. IsLonger c limit) (same file) h)
-
-  pub from_first : Again held' mid after file limit otherwise said bytes → Again held before after file limit otherwise said bytes
+    (file : Name) (limit : ℕ) (unread long : List ℕ) (said : List ℕ → List ℕ → Type 0) (bytes : List ℕ) where
+  pub from_first : Again held' mid after file limit unread long said bytes → Again held before after file limit unread long said bytes
   from_first (inl h) = inl (record { text = h.text; is_text = subst (λ c. AreWhole c h.text) (same file) h.is_text; within = h.within; of_text = h.of_text })
-  from_first (inr h) = inr (record { cause = longer h.cause; written = h.written })
+  from_first (inr (inl h)) =
+      inr (inl (record { fault = Rose_within (before file) (mid file) (after file) (after file) (grew file) h.fault (omega arith); written = h.written }))
+  from_first (inr (inr h)) = inr (inr (record { longer = subst (λ c. IsLonger c limit) (same file) h.longer; written = h.written }))
 
 module _ (target : Target) (text certificate : List ℕ) where
   none_told : (status : Status) (lines : List ℕ) → ((unit : TypedUnit) → IsToldOf target certificate unit status lines → IsToldOf target certificate unit Done lines) →

@@ -28,7 +28,7 @@ module _ (contents : Name → Option (List ℕ)) (before after : Name → ℕ) (
   of_text otherwise bytes read same (inr t) = absurd (refused.untyped (subst (IsTyped target) same t.typed))
 
   of_file : (otherwise bytes : List ℕ) → OfFile contents before after target file otherwise bytes → Refuses target file text bytes
-  of_file otherwise bytes (inl h) = of_text otherwise bytes h.text (the_text (contents file) text h.text refused.told h.is_text) h.said
+  of_file otherwise bytes (inl h) = of_text otherwise bytes h.text (the_text (contents file) text h.text refused.told h.is_text) h.of_text
   of_file otherwise bytes (inr (inl h)) = absurd (refused.unfailing h.fault)
   of_file otherwise bytes (inr (inr h)) = absurd (not_longer (contents file) text source_limit refused.told refused.within h.longer)
 

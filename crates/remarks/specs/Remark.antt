@@ -152,45 +152,34 @@ c_file (Run file cert mem target) = Some (file, target)
 c_file _ = None
 
 module _ (contents : Name → Option (List ℕ)) (before after : Name → ℕ) where
-  -- The C file is read again: whole; or it can't be, and then no place is told; or it is too long.
-  module _ (target : Target) (file : Name) (otherwise : List ℕ) where
+  -- A file is read again, whole, and this is said of it; or it can't be read, or it is longer than a limit, and then these lines tell so.
+  module _ (file : Name) (limit : ℕ) (unread long : List ℕ) (said : List ℕ → List ℕ → Type 0) where
     pub record Reads (bytes : List ℕ) : Type 0 where
-      pub text : List ℕ
-      pub is_text : AreWhole (contents file) text
-      pub within : length text ≤ source_limit
-      pub said : OfText target file otherwise text bytes
-
-    pub record IsUnread (bytes : List ℕ) : Type 0 where
-      pub fault : Rose (before file) (after file)
-      pub written : bytes ≡ about file changed
-
-    pub record IsTooLong (bytes : List ℕ) : Type 0 where
-      pub longer : IsLonger (contents file) source_limit
-      pub written : bytes ≡ about file long_file
-
-    abbrev pub OfFile : List ℕ → Type 0
-    OfFile bytes = Reads bytes ⊎ IsUnread bytes ⊎ IsTooLong bytes
-
-  -- A file is read again, within a limit; or it can't be, or is too long, and then this is said.
-  module _ (file : Name) (limit : ℕ) (otherwise : List ℕ) (said : List ℕ → List ℕ → Type 0) where
-    pub record ReadsAgain (bytes : List ℕ) : Type 0 where
       pub text : List ℕ
       pub is_text : AreWhole (contents file) text
       pub within : length text ≤ limit
       pub of_text : said text bytes
 
-    pub record IsLost (bytes : List ℕ) : Type 0 where
-      pub cause : Rose (before file) (after file) ⊎ IsLonger (contents file) limit
-      pub written : bytes ≡ otherwise
+    pub record IsUnread (bytes : List ℕ) : Type 0 where
+      pub fault : Rose (before file) (after file)
+      pub written : bytes ≡ unread
+
+    pub record IsTooLong (bytes : List ℕ) : Type 0 where
+      pub longer : IsLonger (contents file) limit
+      pub written : bytes ≡ long
 
     abbrev pub Again : List ℕ → Type 0
-    Again bytes = ReadsAgain bytes ⊎ IsLost bytes
+    Again bytes = Reads bytes ⊎ IsUnread bytes ⊎ IsTooLong bytes
+
+  -- the C file, whose text is refused, or typed and then this is said
+  abbrev pub OfFile : Target → Name → List ℕ → List ℕ → Type 0
+  OfFile target file otherwise = Again file source_limit (about file changed) (about file long_file) (OfText target file otherwise)
 
   -- the certificate wasn't accepted: its file is read again behind the C file
   abbrev pub OfFiles : Target → Name → Name → List ℕ → Type 0
   OfFiles target file cert =
       let alone = about cert not_accepted in
-      Again file source_limit alone (λ text. Again cert certificate_limit alone (OfRefused target cert text))
+      Again file source_limit alone alone (λ text. Again cert certificate_limit alone alone (OfRefused target cert text))
 
   abbrev pub OfNo : Command → List ℕ → Type 0
   OfNo (Check file cert target) bytes = OfFiles target file cert bytes

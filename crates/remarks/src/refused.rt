@@ -56,6 +56,7 @@ fn of_certificate<H: Shelf>(
 ) -> Result<Vec<u8>, AllocError>
     ensures said { IfOk result (λ v. Again (H.contents shelf.old) (H.faults shelf.old)
         (H.faults shelf.new) file.now certificate_limit (specs.about file.now specs.not_accepted)
+        (specs.about file.now specs.not_accepted)
         (OfRefused (target_of target) file.now text.now) v.items) }
     ensures contents { (name : List ℕ) → H.contents shelf.new name ≡ H.contents shelf.old name }
     ensures counts { (name : List ℕ) → H.faults shelf.old name ≤ H.faults shelf.new name }

@@ -20,15 +20,15 @@ returns-in-Ok-clause-said g c =
       text = c.in-Ok.text.items;
       is_text = c.in-Ok.ensures.whole;
       within = omega (arith, within);
-      of_text = from_first held held' before mid after c.in-Ok.ensures.contents c.in-Ok.ensures.counts cert certificate_limit alone (OfRefused target cert c.in-Ok.text.items) v.items
-          (subst (λ (text : List ℕ). Again held' mid after cert certificate_limit alone (OfRefused target cert text) v.items) c.deref.ensures.value h);
+      of_text = from_first held held' before mid after c.in-Ok.ensures.contents c.in-Ok.ensures.counts cert certificate_limit alone alone (OfRefused target cert c.in-Ok.text.items) v.items
+          (subst (λ (text : List ℕ). Again held' mid after cert certificate_limit alone alone (OfRefused target cert text) v.items) c.deref.ensures.value h);
     }))
     c.of_certificate.ensures.said
 
 pub returns-in-Err-ReadFault-clause-said : goal.returns-in-Err-ReadFault-clause-said
 returns-in-Err-ReadFault-clause-said g c =
-    of_result c.about.result _ _ (λ v e. inr (record { cause = inl (c.in-Err-ReadFault.ensures.fault (ap (λ e. Err e) c.in-Err-ReadFault.field-0-is)); written = e })) c.about.ensures
+    of_result c.about.result _ _ (λ v e. inr (inl (record { fault = c.in-Err-ReadFault.ensures.fault (ap (λ e. Err e) c.in-Err-ReadFault.field-0-is); written = e }))) c.about.ensures
 
 pub returns-in-Err-Limit-clause-said : goal.returns-in-Err-Limit-clause-said
 returns-in-Err-Limit-clause-said g c =
-    of_result c.about-in-Err-Limit.result _ _ (λ v e. inr (record { cause = inr (c.in-Err-Limit.ensures.limit (ap (λ e. Err e) c.in-Err-Limit.field-0-is)); written = e })) c.about-in-Err-Limit.ensures
+    of_result c.about-in-Err-Limit.result _ _ (λ v e. inr (inr (record { longer = c.in-Err-Limit.ensures.limit (ap (λ e. Err e) c.in-Err-Limit.field-0-is); written = e }))) c.about-in-Err-Limit.ensures
