@@ -1,5 +1,5 @@
 -- The function at whose place a unit's certificate isn't accepted.
-use Rattle.std.proofs.Common.{◌≡◌, ℕ, suc, ◌+◌, List, [], ◌∷◌, slice_get, Some, Ok, Err, inl, inr, refl, sym, subst, ◌∙◌, arith}
+use Rattle.std.proofs.Common.{◌≡◌, ℕ, suc, ◌+◌, List, [], ◌∷◌, slice_get, Some, Ok, Err, inl, inr, refl, sym, subst, arith}
 use Rattle.expression_lang.specs.Signature.{Signature}
 use Rattle.simpl_lang.specs.Command.{SimplFn, SimplUnit}
 use Rattle.acceptance.specs.Certificate.{Steps}

@@ -1,16 +1,16 @@
 -- What is shown of the place where a certificate isn't accepted.
-use Rattle.std.proofs.Common.{◌≡◌, ℕ, ◌<◌, ◌^◌, List, length, slice_get, Option, Some, None, Err, refl, sym, ap, subst, ◌∙◌, arith}
+use Rattle.std.proofs.Common.{◌≡◌, ℕ, ◌<◌, ◌^◌, List, length, slice_get, Option, Some, None, Err, sym, ap, subst, ◌∙◌, arith}
 use Rattle.std.proofs.lemmas.Option.{same_Some}
 use Rattle.expression_lang.specs.Signature.{Signature}
 use Rattle.simpl_lang.specs.Command.{SimplFn, SimplUnit}
 use Rattle.rule_trees.specs.RuleTree.{last_number}
 use Rattle.acceptance.specs.Certificate.{Steps}
 use Rattle.acceptance.specs.Verdict.{Place, IsFunctionVerdict}
-use Rattle.acceptance.specs.UnitVerdict.{UnitAnswer, of_function, IsUnitVerdict}
+use Rattle.acceptance.specs.UnitVerdict.{of_function, IsUnitVerdict}
 use Rattle.acceptance.proofs.UnitVerdicts.{unit_verdicts_are_one}
 use Rattle.refused_parts.specs.Parts.{Part, IsPartAt}
-use Rattle.checking.specs.Refused.{Refused, told, at_place, names_apart, AreAtLevels, IsAnswer}
-use Rattle.checking.specs.RefusedPart.{Shows, part_text}
+use Rattle.checking.specs.Refused.{Refused, told, names_apart, AreAtLevels, IsAnswer}
+use Rattle.checking.specs.RefusedPart.{part_text}
 use Rattle.checking.specs.CodeParts.{place_in, IsShownAt, IsShownOf}
 use Rattle.checking.proofs.Listed.{position_there}
 use Rattle.checking.proofs.Answered.{list_is, judged_answer}

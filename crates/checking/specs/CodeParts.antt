@@ -1,5 +1,5 @@
 -- What the code finds at the place where a certificate isn't accepted, and on the way there.
-use Rattle.std.specs.Prelude.{◌≡◌, ◌<◌, ℕ, List, map, Option, Some, None, Err}
+use Rattle.std.specs.Prelude.{◌≡◌, ◌<◌, ℕ, List, Option, Some, None, Err}
 use Rattle.std.specs.Option.{option_map}
 use Rattle.simpl_lang.specs.Command.{SimplUnit}
 use Rattle.simpl_lang.specs.CodeCommand.{simpl_unit_of}

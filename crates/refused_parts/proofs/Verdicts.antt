@@ -25,7 +25,7 @@ use Rattle.monad_lang.specs.Sorted.{setting_signed}
 use Rattle.acceptance.specs.Accepted.{is_command, is_on_words, is_on_numbers, word_context}
 use Rattle.acceptance.specs.Certificate.{Step, Steps, before_words}
 use Rattle.acceptance.specs.Verdict as V
-use Rattle.acceptance.specs.Verdict.{Place, Answer, ◌at◌, IsFormed, IsTest, Before, IsDone, IsExceptionVerdict, IsLocalVerdict, IsHeapVerdict, IsWordVerdict, IsEqualVerdict, IsFunctionVerdict}
+use Rattle.acceptance.specs.Verdict.{Place, ◌at◌, IsFormed, IsExceptionVerdict, IsLocalVerdict, IsHeapVerdict, IsWordVerdict, IsEqualVerdict, IsFunctionVerdict}
 use Rattle.refused_parts.specs.About.{IsAbout}
 use Rattle.refused_parts.specs.Lefts.{exception_left, local_left, heap_left, word_left, equal_left}
 use Rattle.refused_parts.specs.Parts.{Part, Command, Program, IsOfHeaps, IsPartOf, IsPartAt}

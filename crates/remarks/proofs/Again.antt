@@ -1,14 +1,13 @@
 -- What is said of files that are read again, and of what is shown of a refused node.
-use Rattle.std.proofs.Common.{◌≡◌, ℕ, ◌≤◌, List, Option, Some, None, Result, Ok, Err, IfOk, ◌⊎◌, inl, inr, sym, subst, arith}
+use Rattle.std.proofs.Common.{◌≡◌, ℕ, ◌≤◌, List, Option, Some, None, Result, Ok, Err, IfOk, inl, inr, sym, subst, arith}
 use Rattle.c_values.specs.Name.{Name}
 use Rattle.c_values.specs.Types.{Target}
 use Rattle.c_lang.specs.Typed.{TypedUnit}
-use Rattle.ac_base.specs.Count.{Rose}
 use Rattle.ac_base.specs.Shelf.{AreWhole, IsLonger}
 use Rattle.ac_base.proofs.Faults.{Rose_within}
 use Rattle.answers.specs.declared.status.Status.{Status}
 use Rattle.answers.specs.declared.status.Status.TheVariants.{Done, No, Words, Source, Text, ReadFault, WriteFault, Limit, Memory, NotYet}
-use Rattle.text_answers.specs.TextAnswer.{IsTextOf, IsTextAnswer}
+use Rattle.text_answers.specs.TextAnswer.{IsTextAnswer}
 use Rattle.text_answers.proofs.OneAnswer.{one_answer}
 use Rattle.remarks.specs.Remark.{Again, IsSeen}
 use Rattle.checking.specs.RefusedPart.{IsShown}

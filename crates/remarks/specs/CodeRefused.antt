@@ -1,5 +1,5 @@
 -- A part that is shown of a refused node, as an answer: its text under the status of what isn't accepted.
-use Rattle.std.specs.Prelude.{◌≡◌, ℕ, List, [], Option, Some, None}
+use Rattle.std.specs.Prelude.{◌≡◌, ℕ, List, Option, Some, None}
 use Rattle.c_values.specs.Types.{Target}
 use Rattle.c_lang.specs.Typed.{TypedUnit}
 use Rattle.answers.specs.declared.status.Status.{Status}

@@ -5,7 +5,6 @@ use Rattle.ac_expr.specs.SameExp.{same_exp}
 use Rattle.simpl_lang.specs.Command.{SimplUnit}
 use Rattle.simpl_lang.specs.CodeCommand.{simpl_unit_of}
 use Rattle.monad_lang.specs.Program.{FinalUnit}
-use Rattle.monad_lang.specs.CodeProgram.{final_unit_of}
 use Rattle.monad_lang.specs.Sorted.{IsWellFormed}
 use Rattle.c_lang.specs.CodeTyped.{unit_of}
 use Rattle.generation.specs.Generate.{generated}

@@ -1,5 +1,5 @@
 -- What is made of the functions is the last unit, and tidy.
-use Rattle.std.proofs.Common.{◌≡◌, sym, subst, ◌∙◌, ap}
+use Rattle.std.proofs.Common.{sym, subst, ◌∙◌, ap}
 use Rattle.ac_expr.specs.SameExp.{same_exp}
 use Rattle.simpl_lang.specs.CodeCommand.{simpl_unit_of}
 use Rattle.monad_lang.specs.Program.{FinalUnit}
