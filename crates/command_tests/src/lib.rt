@@ -2,6 +2,8 @@
 #![tactic(auto)]
 
 #[cfg(test)]
+mod heads;
+#[cfg(test)]
 mod program_forms;
 #[cfg(test)]
 mod program_sequences;
