@@ -15,7 +15,7 @@ ghost use Rattle.expression_lang.specs.CodeExpression.{exp_of};
 ghost use Rattle.expression_lang.specs.CodeSort.{names_of, scalar_of, scope_of};
 ghost use Rattle.expression_lang.specs.CodeState.{IsScalar, AreScalars, scalar_of_value, scalars_with, scope_in};
 
-use crate::chain::sides_of;
+use crate::chain::{Sides, sides_of};
 use c_memory::{ByteHeap, Heap, HeapFault};
 use c_values::{CType, Layout, Value, Word, is_object};
 use expression_lang::{Env, Exp, Names, Scalar, eval, sort_of};
@@ -162,94 +162,88 @@ fn returned(m: &Mon) -> Option<&Exp> {
     }
 }
 
-// A function of two parameters `p` and `q`, with their values, the objects that there are, and what
-// it returns.
-struct Row<'a> {
-    text: &'a str,
-    arguments: (u64, u64),
-    objects: [(u64, &'a str); 2],
-    value: u64,
-}
-
-const ROWS: [Row<'static>; 7] = [
-    Row {
-        text: "struct i{int x;int y;};struct o{struct i a;struct i b[3];};int f(struct o*p,int q){return p->b[q].y;}",
-        arguments: (4096, 2),
-        objects: [(4096, "o"), (4160, "i")],
-        value: 0x201f_1e1d,
-    },
-    Row {
-        text: "struct i{int x;int y;};struct o{struct i a;struct i b[3];};int f(struct i*p,int q){return p->y;}",
-        arguments: (4120, 0),
-        objects: [(4096, "o"), (4160, "i")],
-        value: 0x201f_1e1d,
-    },
-    Row {
-        text: "struct i{int x;int y;};struct o{struct i a;struct i b[3];};int f(int*p,int q){return *p;}",
-        arguments: (4124, 0),
-        objects: [(4096, "o"), (4160, "i")],
-        value: 0x201f_1e1d,
-    },
-    Row {
-        text: "struct o{unsigned v[4];unsigned n;};struct i{int x;};unsigned f(struct o*p,unsigned q){return p->v[q];}",
-        arguments: (4096, 3),
-        objects: [(4096, "o"), (4160, "i")],
-        value: 0x100f_0e0d,
-    },
-    Row {
-        text: "struct i{unsigned char c;unsigned short h;};struct o{struct i a[4];};unsigned f(struct o*p,struct i*q){return p->a[1].h+q->h;}",
-        arguments: (4096, 4100),
-        objects: [(4096, "o"), (4160, "i")],
-        value: 0x100e,
-    },
-    Row {
-        text: "struct i{unsigned x;};struct o{unsigned y;};unsigned f(unsigned*p,unsigned*q){return *p^*q;}",
-        arguments: (4100, 4100),
-        objects: [(4096, "o"), (4100, "i")],
-        value: 0,
-    },
-    Row {
-        text: "struct i{unsigned x;};struct o{unsigned y;};unsigned f(struct i*p,unsigned*q){return p->x-*q;}",
-        arguments: (4100, 4096),
-        objects: [(4096, "o"), (4100, "i")],
-        value: 0x0404_0404,
-    },
-];
+// Functions of two parameters `p` and `q`: the values of these, the address of a struct `i` beside
+// the struct `o` at 4096, what is returned, and the text.
+const ROWS: &str = "\
+4096 2 4160 538910237 | struct i{int x;int y;};struct o{struct i a;struct i b[3];};int f(struct o*p,int q){return p->b[q].y;}
+4120 0 4160 538910237 | struct i{int x;int y;};struct o{struct i a;struct i b[3];};int f(struct i*p,int q){return p->y;}
+4124 0 4160 538910237 | struct i{int x;int y;};struct o{struct i a;struct i b[3];};int f(int*p,int q){return *p;}
+4096 3 4160 269422093 | struct o{unsigned v[4];unsigned n;};struct i{int x;};unsigned f(struct o*p,unsigned q){return p->v[q];}
+4096 4100 4160 4110 | struct i{unsigned char c;unsigned short h;};struct o{struct i a[4];};unsigned f(struct o*p,struct i*q){return p->a[1].h+q->h;}
+4100 4100 4100 0 | struct i{unsigned x;};struct o{unsigned y;};unsigned f(unsigned*p,unsigned*q){return *p^*q;}
+4100 4096 4100 67372036 | struct i{unsigned x;};struct o{unsigned y;};unsigned f(struct i*p,unsigned*q){return p->x-*q;}";
 
 // Where the arguments are the values of the parameters.
 fn arguments(alloc: Global, (p, q): (u64, u64)) -> Result<Env, AllocError> {
     let mut env: Env = Vec::new(alloc);
     for (name, value) in [("p", p), ("q", q)] {
-        let value = Value::Word(Word::new(32, value % (1 << 32)));
-        env.push((String::from_str(alloc, name)?, value))?;
+        let name = String::from_str(alloc, name)?;
+        env.push((name, word(value)))?;
     }
     Ok(env)
 }
 
-fn tag(alloc: Global, (address, name): (u64, &str)) -> Result<(u64, CType), AllocError> {
+// The value of 32 bits.
+fn word(bits: u64) -> Value {
+    Value::Word(Word::new(32, bits % (1 << 32)))
+}
+
+// A tag of a struct.
+fn tag(alloc: Global, address: u64, name: &str) -> Result<(u64, CType), AllocError> {
     Ok((address, CType::Struct(String::from_str(alloc, name)?)))
 }
 
-// Whether a function returns its row's value on both heaps.
-fn is_returned(alloc: Global, row: &Row<'_>) -> Result<bool, Fail> {
-    let sides = sides_of(alloc, row.text)?;
-    let expressions = match (returned(&sides.bytes), returned(&sides.heaps)) {
-        (Some(left), Some(right)) => (left, right),
-        _ => return Err(Fail::from("nothing is returned")),
-    };
-    let tags = [tag(alloc, row.objects[0])?, tag(alloc, row.objects[1])?];
-    let env = arguments(alloc, row.arguments)?;
-    let (left, right) = both(alloc, &sides.unit.layout, &tags, &env, expressions)?.ok_or(
-        "no value",
-    )?;
-    let wanted = Value::Word(Word::new(32, row.value % (1 << 32)));
-    Ok(left == wanted && right == wanted)
+// What a function returns from bytes and from their view, where the struct `i` is at this address.
+fn returned_values(
+    alloc: Global,
+    sides: &Sides,
+    env: &Env,
+    inner: u64,
+) -> Result<(Value, Value), Fail> {
+    let left = returned(&sides.bytes).ok_or("nothing is returned")?;
+    let right = returned(&sides.heaps).ok_or("nothing is returned")?;
+    let outer = tag(alloc, 4096, "o")?;
+    let tags = [outer, tag(alloc, inner, "i")?];
+    Ok(both(alloc, &sides.unit.layout, &tags, env, (left, right))?.ok_or("no value")?)
+}
+
+// The numbers of a cell.
+fn numbers(alloc: Global, words: &str) -> Result<Vec<u64>, Fail> {
+    let mut numbers = Vec::new(alloc);
+    for word in words.split(' ') {
+        numbers.push(word.parse::<u64>().ok().ok_or("no number")?)?;
+    }
+    Ok(numbers)
+}
+
+// Whether a function returns this value from both heaps.
+fn returns(
+    alloc: Global,
+    text: &str,
+    parameters: (u64, u64),
+    inner: u64,
+    wanted: u64,
+) -> Result<bool, Fail> {
+    let env = arguments(alloc, parameters)?;
+    let sides = sides_of(alloc, text)?;
+    let (left, right) = returned_values(alloc, &sides, &env, inner)?;
+    Ok(left == word(wanted) && right == word(wanted))
+}
+
+// Whether the function of a row returns its value.
+fn is_returned(alloc: Global, row: &str) -> Result<bool, Fail> {
+    let (words, text) = row.split_once(" | ").ok_or("no text")?;
+    let numbers = numbers(alloc, words)?;
+    match numbers.as_slice() {
+        [p, q, inner, value] => returns(alloc, text, (*p, *q), *inner, *value),
+        _ => Err(Fail::from("no four numbers")),
+    }
 }
 
 #[test]
 fn parts_are_returned_alike(rt: HostRuntime) -> Result<(), Fail> {
-    for row in &ROWS {
-        assert!(rt; is_returned(rt.alloc(), row)?, "{}", row.text);
+    for row in ROWS.lines() {
+        assert!(rt; is_returned(rt.alloc(), row)?, "{row}");
     }
     Ok(())
 }
