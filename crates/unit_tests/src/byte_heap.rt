@@ -1,179 +1,179 @@
 //! Heaps of bytes, at values that are known from elsewhere.
 
-ghost use Rattle.std.specs.Prelude.{◌≡◌, ◌+◌, ◌^◌, ◌≤◌, IfOk};
-ghost use Rattle.c_values.specs.Types.{address_width};
-ghost use Rattle.c_values.specs.CodeTypes.{target_of};
 ghost use Rattle.c_memory.specs.CodeHeap.{memory_of};
 ghost use Rattle.c_memory.specs.Heap.{IsHeap, OnBytes};
 
-use crate::heaps::{UINT, copy_value, heap_of_row, is_root, put_word, word_at};
-use c_memory::{ByteHeap, Heap, HeapFault};
-use c_values::{CType, IntType, Layout, StructDef, Target};
-use std::alloc::{AllocError, Global};
+use crate::heaps::{UINT, covers, heap_of_row, is_root, put_word, word_at};
+use crate::layouts::{STRUCTS, layout};
+use crate::scenes::{Ranges, Start, two_tags, wrong_line};
+use c_memory::{ByteHeap, HeapFault};
+use c_values::{CType, IntType, Layout, Target};
+use std::alloc::Global;
 use std::test::Fail;
 
-fn named(alloc: Global) -> Result<CType, AllocError> {
-    Ok(CType::Struct(String::from_str(alloc, "p")?))
-}
-
-// A layout with a struct `p` of a byte and an `unsigned`.
-fn layout(alloc: Global, target: Target) -> Result<Layout, Fail> {
-    let mut l = Layout::build(target, Vec::new(alloc))?;
-    let mut members = Vec::new(alloc);
-    members.push((String::from_str(alloc, "a")?, CType::Int(IntType::UChar)))?;
-    members.push((String::from_str(alloc, "b")?, UINT))?;
-    let definition = StructDef {
-        name: String::from_str(alloc, "p")?,
-        members,
-    };
-    l.can_follow(&definition).then_some(()).ok_or("no layout")?;
-    l.define(alloc, definition)?;
-    Ok(l)
-}
-
-// The last address of the space.
-fn last_address(target: Target) -> u64
-    ensures end { result + 1 ≡ 2 ^ address_width (target_of target) }
-    ensures least { 2 ^ 32 ≤ result + 1 }
-{
-    match target {
-        Target::Ilp32 => u64::from(u32::MAX),
-        Target::Lp64 => u64::MAX,
-    }
-}
-
-// A heap with eight bytes at each of two addresses, and two tags.
-fn heap_of(
-    alloc: Global,
-    l: &Layout,
-    first: (u64, [u8; 8]),
-    second: (u64, [u8; 8]),
-    tags: [(u64, CType); 2],
-) -> Result<ByteHeap, Fail>
-    ensures { IfOk result (λ h. IsHeap l.now (OnBytes (memory_of h))) }
-{
-    let last = last_address(l.target());
-    if second.0 < 8 || second.0 - 8 < first.0 || last - 7 < second.0 {
-        return Err(Fail::from("no bytes"));
-    }
-    if !is_root(l, &tags[0].1) || !is_root(l, &tags[1].1) {
-        return Err(Fail::from("no tags"));
-    }
-    let low = Vec::from_slice(alloc, &first.1)?;
-    let high = Vec::from_slice(alloc, &second.1)?;
-    let bytes = [(first.0, low), (second.0, high)];
-    Ok(ByteHeap::new(alloc, l, &bytes, &tags)?)
-}
+// Two tags, and what is wrong with them, where addresses have 32 bits, 64 bits, or either.
+const FAULTS: &str = "\
+either | uint 4096 | uint 4102 | Misaligned(1)
+64 | uint 18446744073709551615 | uint 4096 | Misaligned(0)
+either | uint 4096 | p 0 | Null(1)
+32 | uint 4294967292 | uint 4096 | -
+64 | uint 18446744073709551612 | uint 4096 | -
+32 | uint 4096 | p 4294967292 | Past(1)
+64 | uint 4096 | p 18446744073709551612 | Past(1)
+either | p 4096 | uint 4092 | -
+either | uint 4092 | p 4096 | -
+either | p 4096 | uint 4096 | Overlap(1)
+either | uint 4096 | p 4096 | Overlap(1)
+either | p 4096 | uint 4100 | Overlap(1)
+either | uint 4100 | p 4096 | Overlap(1)
+either | p 4096 | uint 4104 | -
+either | uint 4104 | p 4096 | -
+32 | p 4294967288 | uint 4294967284 | -
+32 | uint 4294967284 | p 4294967288 | -
+64 | p 18446744073709551608 | uint 18446744073709551604 | -
+64 | uint 18446744073709551604 | p 18446744073709551608 | -
+32 | p 4294967288 | uint 4294967292 | Overlap(1)
+32 | uint 4294967292 | p 4294967288 | Overlap(1)
+64 | p 18446744073709551608 | uint 18446744073709551612 | Overlap(1)
+64 | uint 18446744073709551612 | p 18446744073709551608 | Overlap(1)";
 
 // What is wrong with two tags.
-fn fault_of(
-    alloc: Global,
-    target: Target,
-    first: (u64, CType),
-    second: (u64, CType),
-) -> Result<Option<HeapFault>, Fail> {
-    let l = layout(alloc, target)?;
-    let tags = [first, second];
+fn fault_of(alloc: Global, target: Target, tags: [&str; 2]) -> Result<Option<HeapFault>, Fail> {
+    let l = layout(alloc, target, STRUCTS)?;
+    let tags = two_tags(alloc, tags)?;
     if !is_root(&l, &tags[0].1) || !is_root(&l, &tags[1].1) {
         return Err(Fail::from("no tags"));
     }
     Ok(ByteHeap::new(alloc, &l, &[], &tags).err())
 }
 
-// The bytes from an address on.
-fn bytes_at(h: &ByteHeap, address: u32) -> [u8; 8] {
-    let mut bytes = [0; 8];
-    for i in 0..8u32 {
-        bytes[i as usize] = h.byte(u64::from(address) + u64::from(i));
+// Whether this is wrong with two tags.
+fn is_fault(alloc: Global, target: Target, tags: [&str; 2], wanted: &str) -> Result<bool, Fail> {
+    match fault_of(alloc, target, tags)? {
+        None => Ok(wanted == "-"),
+        Some(fault) => Ok(format!(in alloc; "{fault:?}")?.as_str() == wanted),
     }
-    bytes
+}
+
+// Whether a row is right.
+fn is_right(alloc: Global, row: &str) -> Result<bool, Fail> {
+    let mut cells = row.split(" | ");
+    let (Some(widths), Some(first), Some(second), Some(fault)) = (
+        cells.next(),
+        cells.next(),
+        cells.next(),
+        cells.next(),
+    ) else {
+        return Err(Fail::from("too few cells"));
+    };
+    let tags = [first, second];
+    Ok(
+        (widths == "64" || is_fault(alloc, Target::Ilp32, tags, fault)?)
+            && (widths == "32" || is_fault(alloc, Target::Lp64, tags, fault)?),
+    )
 }
 
 #[test]
-fn misaligned_tags(rt: HostRuntime) -> Result<(), Fail> {
-    let alloc = rt.alloc();
-    for target in [Target::Ilp32, Target::Lp64] {
-        let fault = fault_of(alloc, target, (4096, UINT), (4102, UINT))?;
-        assert!(rt; fault == Some(HeapFault::Misaligned(1)));
-    }
-    // The end of the space is no multiple of a size.
-    let fault = fault_of(alloc, Target::Lp64, (u64::MAX, UINT), (4096, UINT))?;
-    assert!(rt; fault == Some(HeapFault::Misaligned(0)));
-    Ok(())
-}
-
-#[test]
-fn null_tags(rt: HostRuntime) -> Result<(), Fail> {
-    let alloc = rt.alloc();
-    for target in [Target::Ilp32, Target::Lp64] {
-        let fault = fault_of(alloc, target, (4096, UINT), (0, named(alloc)?))?;
-        assert!(rt; fault == Some(HeapFault::Null(1)));
-    }
-    Ok(())
-}
-
-#[test]
-fn tags_past_the_end(rt: HostRuntime) -> Result<(), Fail> {
-    let alloc = rt.alloc();
-    for target in [Target::Ilp32, Target::Lp64] {
-        let end = last_address(target) - 3;
-        let fault = fault_of(alloc, target, (end, UINT), (4096, UINT))?;
-        assert!(rt; fault == None);
-        let fault = fault_of(alloc, target, (4096, UINT), (end, named(alloc)?))?;
-        assert!(rt; fault == Some(HeapFault::Past(1)));
+fn faults_of_tags(rt: HostRuntime) -> Result<(), Fail> {
+    for row in FAULTS.lines() {
+        assert!(rt; is_right(rt.alloc(), row)?, "{row}");
     }
     Ok(())
 }
 
-#[test]
-fn overlapping_tags(rt: HostRuntime) -> Result<(), Fail> {
-    let alloc = rt.alloc();
-    for target in [Target::Ilp32, Target::Lp64] {
-        let end = last_address(target) - 7;
-        for (struct_at, word_at, overlaps) in [
-            (4096, 4092, false),
-            (4096, 4096, true),
-            (4096, 4100, true),
-            (4096, 4104, false),
-            (end, end - 4, false),
-            (end, end + 4, true),
-        ] {
-            let want = overlaps.then_some(HeapFault::Overlap(1));
-            let (first, second) = ((struct_at, named(alloc)?), (word_at, UINT));
-            assert!(rt;
-                fault_of(alloc, target, first, second)? == want,
-                "{word_at}"
-            );
-            let (first, second) = ((word_at, UINT), (struct_at, named(alloc)?));
-            assert!(rt;
-                fault_of(alloc, target, first, second)? == want,
-                "{word_at}"
-            );
-        }
-    }
-    Ok(())
-}
+const PAGES: &str = "\
+pages 2
+words uint 4100 - 8192 8192
+put uint 12288 - 1
+pages 3
+words uint 16384 - 0 0
+pages 3";
+
+// The words 0x04030201 and then 0x08070605, two bytes of each at the end of the space.
+const OVER_THE_END_OF_32_BITS: &str = "\
+words uint 4294967294 - 67305985 0
+pages 2
+put uint 4294967294 - 134678021
+bytes 0 7 8 0 0 0 0 0 0
+bytes 4294967294 5 6
+pages 2";
+
+const OVER_THE_END_OF_64_BITS: &str = "\
+words uint 18446744073709551614 - 67305985 0
+pages 2
+put uint 18446744073709551614 - 134678021
+bytes 0 7 8 0 0 0 0 0 0
+bytes 18446744073709551614 5 6
+pages 2";
+
+const PADDING_OF_A_COPY: &str = "\
+copy p 4104 4096
+bytes 4096 1 170 170 170 2 0 0 0
+bytes 4104 1 187 187 187 2 0 0 0";
+
+const SCENES: [(Start<'static>, &str); 4] = [
+    (
+        Start {
+            target: Target::Ilp32,
+            structs: STRUCTS,
+            ranges: [
+                (4096, [1, 0, 0, 0, 0, 32, 0, 0]),
+                (8192, [9, 0, 0, 0, 0, 0, 0, 0]),
+            ],
+            tags: ["p 4096", "uint 12288"],
+        },
+        PAGES,
+    ),
+    (
+        Start {
+            target: Target::Ilp32,
+            structs: STRUCTS,
+            ranges: [
+                (0, [3, 4, 0, 0, 0, 0, 0, 0]),
+                (4_294_967_288, [0, 0, 0, 0, 0, 0, 1, 2]),
+            ],
+            tags: ["uint 4096", "uint 8192"],
+        },
+        OVER_THE_END_OF_32_BITS,
+    ),
+    (
+        Start {
+            target: Target::Lp64,
+            structs: STRUCTS,
+            ranges: [
+                (0, [3, 4, 0, 0, 0, 0, 0, 0]),
+                (18_446_744_073_709_551_608, [0, 0, 0, 0, 0, 0, 1, 2]),
+            ],
+            tags: ["uint 4096", "uint 8192"],
+        },
+        OVER_THE_END_OF_64_BITS,
+    ),
+    (
+        Start {
+            target: Target::Ilp32,
+            structs: STRUCTS,
+            ranges: [
+                (4096, [1, 0xaa, 0xaa, 0xaa, 2, 0, 0, 0]),
+                (4104, [3, 0xbb, 0xbb, 0xbb, 4, 0, 0, 0]),
+            ],
+            tags: ["p 4096", "p 4104"],
+        },
+        PADDING_OF_A_COPY,
+    ),
+];
 
 #[test]
-fn numbers_of_pages(rt: HostRuntime) -> Result<(), Fail> {
-    let alloc = rt.alloc();
-    let l = layout(alloc, Target::Ilp32)?;
-    let first = (4096, [1, 0, 0, 0, 0, 32, 0, 0]);
-    let second = (8192, [9, 0, 0, 0, 0, 0, 0, 0]);
-    let tags = [(4096, named(alloc)?), (12288, UINT)];
-    let mut h = heap_of(alloc, &l, first, second, tags)?;
-    assert!(rt; h.pages() == 2);
-    assert!(rt; word_at(&h, &l, &UINT, 4100, &[]) == Some(8192));
-    put_word(alloc, &mut h, &l, &UINT, 12288, &[], 1)?;
-    assert!(rt; h.pages() == 3);
-    assert!(rt; word_at(&h, &l, &UINT, 16384, &[]) == Some(0));
-    assert!(rt; h.pages() == 3);
+fn heaps_with_bytes(rt: HostRuntime) -> Result<(), Fail> {
+    for (start, text) in SCENES {
+        let wrong = wrong_line(rt.alloc(), start, text)?;
+        assert!(rt; wrong == None, "{wrong:?}");
+    }
     Ok(())
 }
 
 // What is read after a number was written, and how many pages are then kept.
 fn written(alloc: Global, i: IntType, address: u64, bits: u64) -> Result<(u64, usize), Fail> {
-    let l = layout(alloc, Target::Lp64)?;
+    let l = Layout::build(Target::Lp64, Vec::new(alloc))?;
     let mut h = ByteHeap::new(alloc, &l, &[], &[])?;
     let ty = CType::Int(i);
     put_word(alloc, &mut h, &l, &ty, address, &[], bits)?;
@@ -201,48 +201,22 @@ fn words_of_each_width(rt: HostRuntime) -> Result<(), Fail> {
     Ok(())
 }
 
-#[test]
-fn words_over_the_end_of_the_space(rt: HostRuntime) -> Result<(), Fail> {
-    let alloc = rt.alloc();
-    for target in [Target::Ilp32, Target::Lp64] {
-        let l = layout(alloc, target)?;
-        let last = last_address(target);
-        let first = (0, [3, 4, 0, 0, 0, 0, 0, 0]);
-        let second = (last - 7, [0, 0, 0, 0, 0, 0, 1, 2]);
-        let tags = [(4096, UINT), (8192, UINT)];
-        let mut h = heap_of(alloc, &l, first, second, tags)?;
-        assert!(rt; word_at(&h, &l, &UINT, last - 1, &[]) == Some(0x0403_0201));
-        assert!(rt; h.pages() == 2);
-        put_word(alloc, &mut h, &l, &UINT, last - 1, &[], 0x0807_0605)?;
-        assert!(rt; bytes_at(&h, 0) == [7, 8, 0, 0, 0, 0, 0, 0]);
-        assert!(rt; (h.byte(last - 1), h.byte(last)) == (5, 6));
-        assert!(rt; h.pages() == 2);
+// The first `unsigned` from 4096 on that isn't covered.
+fn first_open(l: &Layout, h: &ByteHeap) -> Option<u64>
+    requires { IsHeap l.now (OnBytes (memory_of h.now)) }
+{
+    for k in 0..20_000u64 {
+        if !covers(h, l, &UINT, 4096 + 4 * k) {
+            return Some(4096 + 4 * k);
+        }
     }
-    Ok(())
-}
-
-#[test]
-fn padding_of_a_copy(rt: HostRuntime) -> Result<(), Fail> {
-    let alloc = rt.alloc();
-    let l = layout(alloc, Target::Ilp32)?;
-    let first = (4096, [1, 0xaa, 0xaa, 0xaa, 2, 0, 0, 0]);
-    let second = (4104, [3, 0xbb, 0xbb, 0xbb, 4, 0, 0, 0]);
-    let tags = [(4096, named(alloc)?), (4104, named(alloc)?)];
-    let mut h = heap_of(alloc, &l, first, second, tags)?;
-    copy_value(alloc, &mut h, &l, &named(alloc)?, 4104, 4096)?;
-    assert!(rt; bytes_at(&h, 4096) == first.1);
-    assert!(rt; bytes_at(&h, 4104) == [1, 0xbb, 0xbb, 0xbb, 2, 0, 0, 0]);
-    Ok(())
+    None
 }
 
 #[test]
 fn ten_thousand_tags(rt: HostRuntime) -> Result<(), Fail> {
-    let l = layout(rt.alloc(), Target::Ilp32)?;
+    let l = Layout::build(Target::Ilp32, Vec::new(rt.alloc()))?;
     let h = heap_of_row(rt.alloc(), &l, 10000)?;
-    assert!(rt; h.tags().len() == 10000);
-    for k in 0..10000u64 {
-        assert!(rt; h.tagged(&l, &UINT, 4096 + 4 * k), "{k}");
-    }
-    assert!(rt; !h.tagged(&l, &UINT, 44096));
+    assert!(rt; h.tags().len() == 10000 && first_open(&l, &h) == Some(44096));
     Ok(())
 }

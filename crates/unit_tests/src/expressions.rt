@@ -1,35 +1,54 @@
 //! Sorts and values of expressions that are known from elsewhere.
 
-ghost use Rattle.std.specs.Prelude.{◌≡◌, true, []};
+ghost use Rattle.std.specs.Prelude.{◌≡◌, true, [], IfOk};
 ghost use Rattle.std.specs.Option.{IsSome};
+ghost use Rattle.c_memory.specs.CodeHeap.{memory_of};
+ghost use Rattle.c_memory.specs.Heap.{IsHeap, OnBytes};
 ghost use Rattle.expression_lang.specs.Sort.{sort_of};
 ghost use Rattle.expression_lang.specs.CodeExpression.{exp_of};
 ghost use Rattle.expression_lang.specs.CodeState.{scope_in};
 
 use c_memory::ByteHeap;
-use c_values::{CType, IntType, Layout, Number, NumberOp, Target, Value, Word};
+use c_values::{Layout, Target, Value};
 use expression_lang::{
     Binder, Env, EvalFault, Exp, Kind, Names, Path, Scalar, Sort, eval, sort_of,
 };
 use std::alloc::{AllocError, Global};
 use std::test::Fail;
+use test_texts::{around, expression};
 
-fn truth(alloc: Global, truth: bool) -> Result<Box<Exp>, AllocError> {
-    Ok(Box::new(alloc, Exp::Truth(truth))?)
-}
+// Expressions without names, each beside another one with its value: sums and products at the limit
+// of numbers, operands that are left open, and indices of any size. The words at 4096 are 7 and 8;
+// 4 * 2^127 is 0 modulo 2^32, and 4 * -(2^127 - 1) is 4.
+const VALUES: &str = "\
+(add 340282366920938463463374607431768211455 0) | 340282366920938463463374607431768211455
+(sub 0 340282366920938463463374607431768211455) | -340282366920938463463374607431768211455
+(mul 18446744073709551616 18446744073709551615) | 340282366920938463444927863358058659840
+(and #f (lt (add 340282366920938463463374607431768211455 1) 0)) | #f
+(or #t (lt (add 340282366920938463463374607431768211455 1) 0)) | #t
+(imp #f (lt (add 340282366920938463463374607431768211455 1) 0)) | #t
+(if #f (lt (add 340282366920938463463374607431768211455 1) 0) #t) | #t
+(load (array uint 2) (w 32 4096) (i 1)) | (w 32 8)
+(at (array uint 2) (w 32 4096) (i 1)) | (w 32 4100)
+(padd uint (w 32 4096) 1) | (w 32 4100)
+(load (array uint 2) (w 32 4096) (i 170141183460469231731687303715884105728)) | (w 32 7)
+(at (array uint 2) (w 32 4096) (i 170141183460469231731687303715884105728)) | (w 32 4096)
+(padd uint (w 32 4096) 170141183460469231731687303715884105728) | (w 32 4096)
+(load (array uint 2) (w 32 4096) (i -170141183460469231731687303715884105728)) | (w 32 7)
+(at (array uint 2) (w 32 4096) (i -170141183460469231731687303715884105728)) | (w 32 4096)
+(padd uint (w 32 4096) -170141183460469231731687303715884105728) | (w 32 4096)
+(load (array uint 2) (w 32 4096) (i -170141183460469231731687303715884105727)) | (w 32 8)
+(at (array uint 2) (w 32 4096) (i -170141183460469231731687303715884105727)) | (w 32 4100)
+(padd uint (w 32 4096) -170141183460469231731687303715884105727) | (w 32 4100)";
 
-fn operation(alloc: Global, op: NumberOp, a: u128, b: u128) -> Result<Box<Exp>, AllocError> {
-    let a = Box::new(alloc, Exp::Number(Number::new(false, a)))?;
-    let b = Box::new(alloc, Exp::Number(Number::new(false, b)))?;
-    Ok(Box::new(alloc, Exp::Arith(op, a, b))?)
-}
-
-// A test that adds two numbers to 2^128.
-fn wide_test(alloc: Global) -> Result<Box<Exp>, AllocError> {
-    let sum = operation(alloc, NumberOp::Add, u128::MAX, 1)?;
-    let zero = Box::new(alloc, Exp::Number(Number::new(false, 0)))?;
-    Ok(Box::new(alloc, Exp::Lt(sum, zero))?)
-}
+// Expressions that need a number past the limit.
+const WIDE: &str = "\
+(add 340282366920938463463374607431768211455 1)
+(mul 18446744073709551616 18446744073709551616)
+(and #t (lt (add 340282366920938463463374607431768211455 1) 0))
+(or #f (lt (add 340282366920938463463374607431768211455 1) 0))
+(imp #t (lt (add 340282366920938463463374607431768211455 1) 0))
+(if #t (lt (add 340282366920938463463374607431768211455 1) 0) #t)";
 
 // Whether an expression without names is well-sorted.
 fn is_sorted(e: &Exp, l: &Layout) -> bool
@@ -39,11 +58,20 @@ fn is_sorted(e: &Exp, l: &Layout) -> bool
     sort_of(e, &names, l, &[]).is_some()
 }
 
-// The value of an expression without names, in a heap whose words at 4096 are 7 and 8.
-fn value_of(alloc: Global, e: &Exp) -> Result<Result<Value, EvalFault>, Fail> {
+// A heap whose words at 4096 are 7 and 8.
+fn two_words(alloc: Global, l: &Layout) -> Result<ByteHeap, Fail>
+    ensures { IfOk result (λ h. IsHeap l.now (OnBytes (memory_of h))) }
+{
+    // Its space has that address.
+    let _ = l.target();
+    let bytes = [(4096, vec![in alloc; 7, 0, 0, 0, 8, 0, 0, 0]?)];
+    Ok(ByteHeap::new(alloc, l, &bytes, &[])?)
+}
+
+// What an expression without names is evaluated to.
+fn evaluated(alloc: Global, e: &Exp) -> Result<Result<Value, EvalFault>, Fail> {
     let l = Layout::build(Target::Ilp32, Vec::new(alloc))?;
-    let words = Vec::from_slice(alloc, &[7, 0, 0, 0, 8, 0, 0, 0])?;
-    let heap = ByteHeap::new(alloc, &l, &[(4096, words)], &[])?;
+    let heap = two_words(alloc, &l)?;
     let env: Env = Vec::new(alloc);
     if is_sorted(e, &l) {
         Ok(eval(alloc, e, &env, &heap, &l, &[], &[]))
@@ -52,171 +80,142 @@ fn value_of(alloc: Global, e: &Exp) -> Result<Result<Value, EvalFault>, Fail> {
     }
 }
 
-fn is_wide(alloc: Global, e: &Exp) -> Result<bool, Fail> {
-    let value = value_of(alloc, e)?;
-    Ok(matches!(value, Err(EvalFault::Wide(_, _, _))))
+// The value of a text.
+fn value(alloc: Global, text: &str) -> Result<Value, Fail> {
+    let e = expression(alloc, text)?;
+    Ok(evaluated(alloc, &e)??)
+}
+
+// Whether the expressions of a row have one value.
+fn are_alike(alloc: Global, row: &str) -> Result<bool, Fail> {
+    let (left, right) = row.split_once(" | ").ok_or("no row")?;
+    Ok(value(alloc, left)? == value(alloc, right)?)
+}
+
+// Whether the value of a text takes a number past the limit.
+fn is_wide(alloc: Global, text: &str) -> Result<bool, Fail> {
+    let e = expression(alloc, text)?;
+    Ok(matches!(evaluated(alloc, &e)?, Err(EvalFault::Wide(_, _, _))))
 }
 
 #[test]
-fn operations_at_the_limit(rt: HostRuntime) -> Result<(), Fail> {
-    let rows = [
-        (NumberOp::Add, u128::MAX, 0, false),
-        (NumberOp::Add, u128::MAX, 1, true),
-        (NumberOp::Sub, 0, u128::MAX, false),
-        (NumberOp::Mul, 1 << 64, u128::from(u64::MAX), false),
-        (NumberOp::Mul, 1 << 64, 1 << 64, true),
-    ];
-    for (op, a, b, wide) in rows {
-        let e = operation(rt.alloc(), op, a, b)?;
-        assert!(rt; is_wide(rt.alloc(), &e)? == wide, "{op:?}");
+fn values_of_expressions(rt: HostRuntime) -> Result<(), Fail> {
+    for row in VALUES.lines() {
+        assert!(rt; are_alike(rt.alloc(), row)?, "{row}");
     }
     Ok(())
 }
 
 #[test]
-fn operands_that_are_left_open(rt: HostRuntime) -> Result<(), Fail> {
-    let alloc = rt.alloc();
-    for left in [false, true] {
-        let and = Exp::And(truth(alloc, left)?, wide_test(alloc)?);
-        assert!(rt; is_wide(alloc, &and)? == left);
-        let or = Exp::Or(truth(alloc, left)?, wide_test(alloc)?);
-        assert!(rt; is_wide(alloc, &or)? == !left);
-        let imp = Exp::Imp(truth(alloc, left)?, wide_test(alloc)?);
-        assert!(rt; is_wide(alloc, &imp)? == left);
-        let choice = Exp::If(truth(alloc, left)?, wide_test(alloc)?, truth(alloc, true)?);
-        assert!(rt; is_wide(alloc, &choice)? == left);
+fn numbers_past_the_limit(rt: HostRuntime) -> Result<(), Fail> {
+    for text in WIDE.lines() {
+        assert!(rt; is_wide(rt.alloc(), text)?, "{text}");
     }
     Ok(())
 }
 
-// An array of two `unsigned`, which are at 4096.
-fn pair(alloc: Global) -> Result<(CType, Box<Exp>), AllocError> {
-    let word = Box::new(alloc, CType::Int(IntType::UInt))?;
-    let pointer = Box::new(alloc, Exp::Word(Word::new(32, 4096)))?;
-    Ok((CType::Array(word, 2), pointer))
-}
-
-// A path to an element.
-fn element(alloc: Global, negative: bool, magnitude: u128) -> Result<Path, AllocError> {
-    let index = Exp::Number(Number::new(negative && magnitude != 0, magnitude));
-    let here = Box::new(alloc, Path::Here)?;
-    Ok(Path::Index(Box::new(alloc, index)?, here))
-}
-
-#[test]
-fn indices_of_any_size(rt: HostRuntime) -> Result<(), Fail> {
-    let alloc = rt.alloc();
-    // 4 * 2^127 is 0 modulo 2^32, and 4 * -(2^127 - 1) is 4.
-    let rows = [
-        (false, 1, 4100, 8),
-        (false, 1 << 127, 4096, 7),
-        (true, 1 << 127, 4096, 7),
-        (true, (1 << 127) - 1, 4100, 8),
-    ];
-    for (negative, magnitude, address, bits) in rows {
-        let (ty, pointer) = pair(alloc)?;
-        let load = Exp::Load(ty, pointer, element(alloc, negative, magnitude)?);
-        let (ty, pointer) = pair(alloc)?;
-        let at = Exp::At(ty, pointer, element(alloc, negative, magnitude)?);
-        let (_, pointer) = pair(alloc)?;
-        let index = Exp::Number(Number::new(negative, magnitude));
-        let padd = Exp::Padd(CType::Int(IntType::UInt), pointer, Box::new(alloc, index)?);
-        for (e, want) in [(&load, bits), (&at, address), (&padd, address)] {
-            let value = value_of(alloc, e)?.ok().ok_or("no value")?;
-            assert!(rt; value == Value::Word(Word::new(32, want)), "{magnitude}");
-        }
-    }
-    Ok(())
+// Whether an expression without names has a sort where addresses have 64 bits.
+fn has_sort(alloc: Global, e: &Exp) -> Result<bool, Fail> {
+    let l = Layout::build(Target::Lp64, Vec::new(alloc))?;
+    Ok(is_sorted(e, &l))
 }
 
 #[test]
 fn types_of_any_size(rt: HostRuntime) -> Result<(), Fail> {
-    let alloc = rt.alloc();
-    let l = Layout::build(Target::Lp64, Vec::new(alloc))?;
-    let mut ty = CType::Int(IntType::UInt);
-    for _ in 0..1000u32 {
-        ty = CType::Array(Box::new(alloc, ty)?, u32::MAX);
-    }
-    let pointer = Box::new(alloc, Exp::Word(Word::new(64, 4096)))?;
-    let e = Exp::PtrOk(ty, pointer);
-    assert!(rt; sort_of(&e, &Names::new(), &l, &[]).is_none());
+    let ty = around(rt.alloc(), "(array ", "uint", " 4294967295)", 1000)?;
+    let text = format!(in rt.alloc(); "(ptrok {ty} (w 64 4096))")?;
+    let e = expression(rt.alloc(), text.as_str())?;
+    assert!(rt; !has_sort(rt.alloc(), &e)?);
     Ok(())
 }
 
 #[test]
 fn names_that_hide_others(rt: HostRuntime) -> Result<(), Fail> {
-    let alloc = rt.alloc();
-    let l = Layout::build(Target::Lp64, Vec::new(alloc))?;
+    let e = expression(rt.alloc(), "x")?;
+    let l = Layout::build(Target::Lp64, Vec::new(rt.alloc()))?;
     let outer = Names::new();
     let outer = outer.push("x", Scalar::Word(8));
     let inner = outer.push("x", Scalar::Truth);
-    let e = Exp::Var(String::from_str(alloc, "x")?);
-    let sort = sort_of(&e, &inner, &l, &[]);
-    assert!(rt; matches!(sort, Some(Sort::Of(Scalar::Truth))));
+    assert!(rt; matches!(sort_of(&e, &inner, &l, &[]), Some(Sort::Of(Scalar::Truth))));
     Ok(())
+}
+
+// A name with its kind.
+fn binder(alloc: Global, name: &str, kind: Kind) -> Result<Binder, AllocError> {
+    let name = String::from_str(alloc, name)?;
+    Ok(Binder { name, kind })
 }
 
 #[test]
 fn names_of_binders(rt: HostRuntime) -> Result<(), Fail> {
     let alloc = rt.alloc();
-    let mut binders = Vec::new(alloc);
-    for (name, kind) in [
-        ("x", Kind::Bool),
-        ("y", Kind::Int(32)),
-        ("x", Kind::Word(16)),
-    ] {
-        let name = String::from_str(alloc, name)?;
-        binders.push(Binder { name, kind })?;
-    }
+    let binders = [
+        binder(alloc, "x", Kind::Bool)?,
+        binder(alloc, "y", Kind::Int(32))?,
+        binder(alloc, "x", Kind::Word(16))?,
+    ];
     let outer = Names::new();
     let outer = outer.push("y", Scalar::Truth);
     let outer = outer.push("z", Scalar::Num);
     let inner = outer.push_all(&binders);
-    assert!(rt; inner.get("x") == Some(Scalar::Word(16)));
-    assert!(rt; inner.get("y") == Some(Scalar::Word(32)));
-    assert!(rt; inner.get("z") == Some(Scalar::Num));
-    assert!(rt; inner.get("w") == None);
+    for (name, scalar) in [
+        ("x", Some(Scalar::Word(16))),
+        ("y", Some(Scalar::Word(32))),
+        ("z", Some(Scalar::Num)),
+        ("w", None),
+    ] {
+        assert!(rt; inner.get(name) == scalar, "{name}");
+    }
     Ok(())
+}
+
+// A path into so many structs, each the first member of the one around it.
+fn long_path(alloc: Global, length: u32) -> Result<Path, AllocError> {
+    let mut path = Path::Here;
+    for _ in 0..length {
+        path = Path::Field(0, Box::new(alloc, path)?);
+    }
+    Ok(path)
 }
 
 #[test]
 fn long_paths(rt: HostRuntime) -> Result<(), Fail> {
-    let alloc = rt.alloc();
-    let mut path = Path::Here;
-    for _ in 0..100000u32 {
-        path = Path::Field(0, Box::new(alloc, path)?);
-    }
-    let e = Exp::Global(String::from_str(alloc, "g")?, path);
-    let copy = e.copy(alloc)?;
-    let l = Layout::build(Target::Lp64, Vec::new(alloc))?;
-    assert!(rt; sort_of(&copy, &Names::new(), &l, &[]).is_none());
+    let path = long_path(rt.alloc(), 100_000)?;
+    let e = Exp::Global(String::from_str(rt.alloc(), "g")?, path);
+    let copy = e.copy(rt.alloc())?;
+    assert!(rt; !has_sort(rt.alloc(), &copy)?);
     Ok(())
+}
+
+// Whether an expression without names is true.
+fn is_true(alloc: Global, e: &Exp) -> Result<bool, Fail> {
+    Ok(evaluated(alloc, e)?? == Value::Truth(true))
 }
 
 #[test]
 fn deep_expressions(rt: HostRuntime) -> Result<(), Fail> {
-    let alloc = rt.alloc();
-    let mut e = truth(alloc, true)?;
-    for _ in 0..4096u32 {
-        e = Box::new(alloc, Exp::Not(e))?;
-    }
-    let copy = e.copy(alloc)?;
-    assert!(rt; copy.same(&e));
-    let value = value_of(alloc, &copy)?.ok().ok_or("no value")?;
-    assert!(rt; value == Value::Truth(true));
+    let text = around(rt.alloc(), "(not ", "#t", ")", 4096)?;
+    let e = expression(rt.alloc(), text.as_str())?;
+    let copy = e.copy(rt.alloc())?;
+    assert!(rt; copy.same(&e) && is_true(rt.alloc(), &copy)?);
     Ok(())
+}
+
+// So many that are false or else true. It is deeper than texts come.
+fn long_disjunction(alloc: Global, length: u32) -> Result<Box<Exp>, AllocError> {
+    let mut e = Box::new(alloc, Exp::Truth(true))?;
+    for _ in 1..length {
+        let first = Box::new(alloc, Exp::Truth(false))?;
+        e = Box::new(alloc, Exp::Or(first, e))?;
+    }
+    Ok(e)
 }
 
 // The test of a switch is such an `or`, and may have as many labels.
 #[test]
 fn long_disjunctions(rt: HostRuntime) -> Result<(), Fail> {
-    let alloc = rt.alloc();
-    let mut e = truth(alloc, true)?;
-    for _ in 1..32768u32 {
-        e = Box::new(alloc, Exp::Or(truth(alloc, false)?, e))?;
-    }
-    let copy = e.copy(alloc)?;
-    let value = value_of(alloc, &copy)?.ok().ok_or("no value")?;
-    assert!(rt; value == Value::Truth(true));
+    let e = long_disjunction(rt.alloc(), 32_768)?;
+    let copy = e.copy(rt.alloc())?;
+    assert!(rt; is_true(rt.alloc(), &copy)?);
     Ok(())
 }

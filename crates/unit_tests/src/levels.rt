@@ -1,36 +1,59 @@
-//! Tests of levels and of reasons.
+//! Tests of levels and of reasons. A unit is a text with a line for each function: its name, and
+//! either `casts` or `calls` and the function that it calls.
 
 ghost use Rattle.std.specs.Prelude.{◌≡◌, IfOk};
 
 use c_lang::tree::{Destination, Expr, Statement, Statements, TypedFn, TypedUnit, Use};
 use c_levels::reasons::reason;
-use c_levels::{Reason, default_modes};
+use c_levels::{Modes, default_modes};
 use c_values::{CType, IntType, Layout, Target};
 use expression_lang::Level;
 use std::alloc::{AllocError, Global};
 use std::test::Fail;
 
-fn text(alloc: Global, text: &str) -> Result<String, AllocError> {
-    String::from_str(alloc, text)
+// A pointer to an integer type.
+fn pointer_to(alloc: Global, ty: IntType) -> Result<CType, AllocError> {
+    Ok(CType::Ptr(Box::new(alloc, CType::Int(ty))?))
 }
 
-fn pointer_to(alloc: Global, ty: CType) -> Result<CType, AllocError> {
-    Ok(CType::Ptr(Box::new(alloc, ty)?))
+// (unsigned char *)p
+fn cast(alloc: Global) -> Result<Expr, AllocError> {
+    let name = String::from_str(alloc, "p")?;
+    let p = Expr::Local(name, pointer_to(alloc, IntType::UInt)?);
+    let p = Box::new(alloc, p)?;
+    Ok(Expr::Convert(pointer_to(alloc, IntType::UChar)?, p))
 }
 
-fn local(alloc: Global, name: &str, ty: CType) -> Result<Expr, AllocError> {
-    Ok(Expr::Local(text(alloc, name)?, ty))
+// c = (unsigned char *)p;
+fn casting(alloc: Global) -> Result<Statement, AllocError> {
+    let name = String::from_str(alloc, "c")?;
+    let c = Destination::ToLocal(name, pointer_to(alloc, IntType::UChar)?);
+    Ok(Statement::Assign(c, cast(alloc)?))
 }
 
-fn next(alloc: Global, first: Statement, rest: Statements) -> Result<Statements, AllocError> {
+// callee();
+fn calling(alloc: Global, callee: &str) -> Result<Statement, AllocError> {
+    let callee = String::from_str(alloc, callee)?;
+    Ok(Statement::Call(1, callee, Vec::new(alloc), Use::NoResult))
+}
+
+// What the function of a line does.
+fn body(alloc: Global, words: &str) -> Result<Statements, AllocError> {
+    let first = match words.strip_prefix("calls ") {
+        Some(callee) => calling(alloc, callee)?,
+        None => casting(alloc)?,
+    };
     let first = Box::new(alloc, first)?;
-    Ok(Statements::Next(first, Box::new(alloc, rest)?))
+    Ok(Statements::Next(first, Box::new(alloc, Statements::None)?))
 }
 
-// A function without result, parameters and locals.
-fn function(alloc: Global, name: &str, body: Statements) -> Result<TypedFn, AllocError> {
+// The function of a line: one without result, parameters and locals.
+fn function(alloc: Global, line: &str) -> Result<TypedFn, Fail> {
+    let (name, words) = line.split_once(' ').ok_or("no function")?;
+    let name = String::from_str(alloc, name)?;
+    let body = body(alloc, words)?;
     Ok(TypedFn {
-        name: text(alloc, name)?,
+        name,
         result: None,
         params: Vec::new(alloc),
         locals: Vec::new(alloc),
@@ -39,108 +62,108 @@ fn function(alloc: Global, name: &str, body: Statements) -> Result<TypedFn, Allo
     })
 }
 
-// A text of these functions, without structs and globals.
-fn unit(alloc: Global, functions: Vec<TypedFn>) -> Result<TypedUnit, Fail>
-    ensures { IfOk result (λ u. u.functions.items ≡ functions.items) }
-{
+// The functions of a text, in their order.
+fn functions(alloc: Global, text: &str) -> Result<Vec<TypedFn>, Fail> {
+    let mut functions = Vec::new(alloc);
+    for line in text.lines() {
+        functions.push(function(alloc, line)?)?;
+    }
+    Ok(functions)
+}
+
+// The unit of a text, without structs and globals.
+fn unit(alloc: Global, text: &str) -> Result<TypedUnit, Fail> {
+    let functions = functions(alloc, text)?;
+    let layout = Layout::build(Target::Ilp32, Vec::new(alloc))?;
     Ok(TypedUnit {
-        layout: Layout::build(Target::Ilp32, Vec::new(alloc))?,
+        layout,
         globals: Vec::new(alloc),
         functions,
     })
 }
 
-// unsigned char *c; c = (unsigned char *)p;
-fn casting(alloc: Global, name: &str) -> Result<TypedFn, AllocError> {
-    let p = local(alloc, "p", pointer_to(alloc, CType::Int(IntType::UInt))?)?;
-    let cast = Expr::Convert(
-        pointer_to(alloc, CType::Int(IntType::UChar))?,
-        Box::new(alloc, p)?,
-    );
-    let target = Destination::ToLocal(
-        text(alloc, "c")?,
-        pointer_to(alloc, CType::Int(IntType::UChar))?,
-    );
-    let body = next(alloc, Statement::Assign(target, cast), Statements::None)?;
-    function(alloc, name, body)
-}
+const CALLS: &str = "\
+b2 calls b1
+b1 calls b0
+b0 casts
+n calls w
+w calls w";
 
-// A call of a function, and nothing else.
-fn calling(alloc: Global, name: &str, callee: &str) -> Result<TypedFn, AllocError> {
-    let call = Statement::Call(1, text(alloc, callee)?, Vec::new(alloc), Use::NoResult);
-    let body = next(alloc, call, Statements::None)?;
-    function(alloc, name, body)
-}
+// Which of these functions are to work on bytes, and which on words; then the level of each, and
+// why it works on bytes.
+const CHOICES: &str = "\
+- | w b0 | Bytes Calls(1), Bytes Calls(2), Bytes Cast, Numbers, Words
+n w | n w | Bytes Calls(1), Bytes Calls(2), Bytes Cast, Bytes Calls(4), Bytes Calls(4)
+n | - | Bytes Calls(1), Bytes Calls(2), Bytes Cast, Bytes Chosen, Numbers";
 
-// b1 calls b0, which casts; b2 calls b1; n calls w, which calls itself.
-fn levels_unit(alloc: Global) -> Result<TypedUnit, Fail> {
-    let mut functions = Vec::new(alloc);
-    functions.push(calling(alloc, "b2", "b1")?)?;
-    functions.push(calling(alloc, "b1", "b0")?)?;
-    functions.push(casting(alloc, "b0")?)?;
-    functions.push(calling(alloc, "n", "w")?)?;
-    functions.push(calling(alloc, "w", "w")?)?;
-    unit(alloc, functions)
-}
-
-#[test]
-fn default_levels_and_reasons(rt: HostRuntime) -> Result<(), Fail> {
-    let alloc = rt.alloc();
-    let u = levels_unit(alloc)?;
-    let mut words = Vec::new(alloc);
-    words.push(text(alloc, "w")?)?;
-    words.push(text(alloc, "b0")?)?;
-    let modes = default_modes(alloc, &u, &[], &words)?;
-    let shown = format!(in alloc; "{:?}", modes.levels)?;
-    assert!(rt; shown.as_str() == "[Bytes, Bytes, Bytes, Numbers, Words]");
-    assert!(rt; u.functions.len() == 5);
-    assert!(rt; reason(&u, &modes, 0) == Reason::Calls(1));
-    assert!(rt; reason(&u, &modes, 1) == Reason::Calls(2));
-    assert!(rt; reason(&u, &modes, 2) == Reason::Cast);
-    Ok(())
-}
-
-#[test]
-fn chosen_levels_and_reasons(rt: HostRuntime) -> Result<(), Fail> {
-    let alloc = rt.alloc();
-    let u = levels_unit(alloc)?;
-    let mut bytes = Vec::new(alloc);
-    bytes.push(text(alloc, "n")?)?;
-    bytes.push(text(alloc, "w")?)?;
-    let modes = default_modes(alloc, &u, &bytes, &bytes)?;
-    let shown = format!(in alloc; "{:?}", modes.levels)?;
-    assert!(rt; shown.as_str() == "[Bytes, Bytes, Bytes, Bytes, Bytes]");
-    assert!(rt; u.functions.len() == 5);
-    assert!(rt; reason(&u, &modes, 3) == Reason::Calls(4));
-    assert!(rt; reason(&u, &modes, 4) == Reason::Calls(4));
-    let mut bytes = Vec::new(alloc);
-    bytes.push(text(alloc, "n")?)?;
-    let modes = default_modes(alloc, &u, &bytes, &[])?;
-    let shown = format!(in alloc; "{:?}", modes.levels)?;
-    assert!(rt; shown.as_str() == "[Bytes, Bytes, Bytes, Bytes, Numbers]");
-    assert!(rt; reason(&u, &modes, 3) == Reason::Chosen);
-    Ok(())
-}
-
-// So many functions, each of which calls the next; the last casts. Or the first does, and each
-// other one calls the one before.
-fn chain(alloc: Global, count: u32, rising: bool) -> Result<TypedUnit, Fail> {
-    let mut functions = Vec::new(alloc);
-    if !rising {
-        functions.push(casting(alloc, "f0")?)?;
+// Names, or `-` for none.
+fn names(alloc: Global, words: &str) -> Result<Vec<String>, AllocError> {
+    let mut names = Vec::new(alloc);
+    if words != "-" {
+        for word in words.split(' ') {
+            names.push(String::from_str(alloc, word)?)?;
+        }
     }
-    for k in 0..count {
-        let own = if rising { k } else { k.saturating_add(1) };
-        let other = if rising { k.saturating_add(1) } else { k };
-        let name = format!(in alloc; "f{own}")?;
-        let callee = format!(in alloc; "f{other}")?;
-        functions.push(calling(alloc, name.as_str(), callee.as_str())?)?;
+    Ok(names)
+}
+
+// The levels of a unit's functions where these are to work on bytes, and those on words.
+fn modes(alloc: Global, u: &TypedUnit, bytes: &str, words: &str) -> Result<Modes, AllocError> {
+    let bytes = names(alloc, bytes)?;
+    let words = names(alloc, words)?;
+    default_modes(alloc, u, &bytes, &words)
+}
+
+// The level of the function at a position, and why it works on bytes.
+fn shown(alloc: Global, u: &TypedUnit, modes: &Modes, f: u32) -> Result<String, Fail> {
+    let level = modes.levels.get(f as usize).ok_or("no level")?;
+    if *level == Level::Bytes && (f as usize) < u.functions.len() {
+        Ok(format!(in alloc; "{level:?} {:?}", reason(u, modes, f))?)
+    } else {
+        Ok(format!(in alloc; "{level:?}")?)
+    }
+}
+
+// Whether the functions of a unit have the levels of a row, for its reasons.
+fn is_so(alloc: Global, u: &TypedUnit, row: &str) -> Result<bool, Fail> {
+    let (bytes, rest) = row.split_once(" | ").ok_or("no words")?;
+    let (words, levels) = rest.split_once(" | ").ok_or("no levels")?;
+    let modes = modes(alloc, u, bytes, words)?;
+    let mut positions = 0..5u32;
+    for level in levels.split(',') {
+        let f = positions.next().ok_or("too many levels")?;
+        if shown(alloc, u, &modes, f)?.as_str() != level.trim() {
+            return Ok(false);
+        }
+    }
+    Ok(positions.next() == None && modes.levels.len() == 5)
+}
+
+#[test]
+fn levels_and_reasons(rt: HostRuntime) -> Result<(), Fail> {
+    let u = unit(rt.alloc(), CALLS)?;
+    for row in CHOICES.lines() {
+        assert!(rt; is_so(rt.alloc(), &u, row)?, "{row}");
+    }
+    Ok(())
+}
+
+// The text of 1,024 functions, each of which calls the next; the last casts. Or the first does, and
+// each other one calls the one before.
+fn chain(alloc: Global, rising: bool) -> Result<String, AllocError> {
+    let mut text = String::new(alloc);
+    if !rising {
+        text.push_str("f0 casts\n")?;
+    }
+    for k in 0..1023u32 {
+        let (own, other) = if rising { (k, k + 1) } else { (k + 1, k) };
+        let line = format!(in alloc; "f{own} calls f{other}\n")?;
+        text.push_str(line.as_str())?;
     }
     if rising {
-        let last = format!(in alloc; "f{count}")?;
-        functions.push(casting(alloc, last.as_str())?)?;
+        text.push_str("f1023 casts\n")?;
     }
-    unit(alloc, functions)
+    Ok(text)
 }
 
 // How many functions work on bytes.
@@ -157,9 +180,10 @@ fn on_bytes(alloc: Global, u: &TypedUnit) -> Result<usize, AllocError> {
 
 #[test]
 fn long_chains_of_callers(rt: HostRuntime) -> Result<(), Fail> {
-    let rising = chain(rt.alloc(), 1023, true)?;
-    assert!(rt; on_bytes(rt.alloc(), &rising)? == 1024);
-    let falling = chain(rt.alloc(), 1023, false)?;
-    assert!(rt; on_bytes(rt.alloc(), &falling)? == 1024);
+    for rising in [true, false] {
+        let text = chain(rt.alloc(), rising)?;
+        let u = unit(rt.alloc(), text.as_str())?;
+        assert!(rt; on_bytes(rt.alloc(), &u)? == 1024, "{rising}");
+    }
     Ok(())
 }

@@ -10,7 +10,11 @@ mod expressions;
 #[cfg(test)]
 mod heaps;
 #[cfg(test)]
+mod layouts;
+#[cfg(test)]
 mod levels;
+#[cfg(test)]
+mod scenes;
 #[cfg(test)]
 mod typed_heaps;
 #[cfg(test)]

@@ -1,317 +1,122 @@
 //! Heaps of bytes and typed heaps with the same tags, written alike.
 
-ghost use Rattle.std.specs.Prelude.{IfOk, IfSome};
-ghost use Rattle.c_memory.specs.CodeHeap.{memory_of};
-ghost use Rattle.c_memory.specs.Heap.{IsHeap, OnBytes};
-ghost use Rattle.typed_heap.specs.CodeCells.{typed_content};
-
-use crate::heaps::{UINT, copy_value, covers, heap_of_row, is_root, put_word, word_at};
-use c_memory::{ByteHeap, HeapFault, Step};
-use c_values::{CType, IntType, Layout, Number, StructDef, Target};
-use std::alloc::{AllocError, Global};
+use crate::heaps::{UINT, heap_of_row, put_word, word_at};
+use crate::layouts::STRUCTS;
+use crate::scenes::{Start, typed, wrong_line};
+use c_values::{Layout, Target};
+use std::alloc::Global;
 use std::test::Fail;
-use typed_heap::{TypedHeap, view};
+use test_texts::around;
 
-const BYTE: CType = CType::Int(IntType::UChar);
-
-// A struct `p` of a byte and an `unsigned`; and a struct `q` of two of them and three bytes.
-fn structs(alloc: Global) -> Result<Vec<StructDef>, AllocError> {
-    let mut small = Vec::new(alloc);
-    small.push((String::from_str(alloc, "a")?, BYTE))?;
-    small.push((String::from_str(alloc, "b")?, UINT))?;
-    let mut large = Vec::new(alloc);
-    let pair = Box::new(alloc, CType::Struct(String::from_str(alloc, "p")?))?;
-    large.push((String::from_str(alloc, "pair")?, CType::Array(pair, 2)))?;
-    let byte = Box::new(alloc, BYTE)?;
-    large.push((String::from_str(alloc, "row")?, CType::Array(byte, 3)))?;
-    let mut structs = Vec::new(alloc);
-    structs.push(StructDef {
-        name: String::from_str(alloc, "p")?,
-        members: small,
-    })?;
-    structs.push(StructDef {
-        name: String::from_str(alloc, "q")?,
-        members: large,
-    })?;
-    Ok(structs)
-}
-
-fn layout(alloc: Global, target: Target) -> Result<Layout, Fail> {
-    let mut l = Layout::build(target, Vec::new(alloc))?;
-    for definition in structs(alloc)? {
-        l.can_follow(&definition).then_some(()).ok_or("no layout")?;
-        l.define(alloc, definition)?;
-    }
-    Ok(l)
-}
-
-// Bytes that are all 0, with two tags. There are none where a type may not be that of a tag.
-fn zero_bytes(
-    alloc: Global,
-    l: &Layout,
-    first: (u64, CType),
-    second: (u64, CType),
-) -> Result<Option<ByteHeap>, HeapFault>
-    ensures { IfOk result (λ o. IfSome o (λ h. IsHeap l.now (OnBytes (memory_of h)))) }
-{
-    let tags = [first, second];
-    if is_root(l, &tags[0].1) && is_root(l, &tags[1].1) {
-        Ok(Some(ByteHeap::new(alloc, l, &[], &tags)?))
-    } else {
-        Ok(None)
+// Bytes that are all 0, with two tags.
+fn zeros<'a>(structs: &'a str, tags: [&'a str; 2]) -> Start<'a> {
+    Start {
+        target: Target::Ilp32,
+        structs,
+        ranges: [(0, [0; 8]), (8, [0; 8])],
+        tags,
     }
 }
 
-// The typed heap of bytes.
-fn typed(alloc: Global, l: &Layout, h: &ByteHeap) -> Result<TypedHeap, AllocError>
-    requires { IsHeap l.now (OnBytes (memory_of h.now)) }
-    ensures { IfOk result (λ cells. IsHeap l.now (typed_content cells)) }
-{
-    let _ = l.target();
-    view(alloc, l, h)
-}
+// An `unsigned` over a byte and padding is no part of a `p`.
+const PADDING: &str = "\
+put uint 4096 - 2863311530
+put uchar 4096 - 1
+put uint 4100 - 2
+put uint 4104 - 3149642683
+put uchar 4104 - 3
+put uint 4108 - 4
+copy p 4104 4096
+words uint 4104 - 3149642497 0
+words p 4096 f0 1 1
+words p 4096 f1 2 2
+words p 4104 f0 1 1
+words p 4104 f1 2 2";
 
-// A heap of bytes and a typed heap with the same tags, which are written alike.
-#[derive(Drop)]
-struct BothHeaps {
-    l: Layout,
-    bytes: ByteHeap,
-    cells: TypedHeap,
-}
+const INDICES: &str = "\
+put q 4096 f0.i0.f1 10
+put q 4096 f0.i1.f1 11
+put uint 4116 - 12
+put uint 4092 - 13
+words q 4096 f0.i0.f1 10 10
+words q 4096 f0.i1.f1 11 11
+words q 4096 f0.i2.f1 12 10
+words q 4096 f0.i-1.f1 13 10
+words q 4096 f0.i170141183460469231731687303715884105728.f1 10 10
+words q 4096 f0.i-170141183460469231731687303715884105728.f1 10 10
+put q 4096 f0.i2.f1 99
+put q 4096 f0.i-1.f1 99
+put q 4096 f0.i170141183460469231731687303715884105728.f1 99
+words uint 4100 - 99 10
+words uint 4108 - 11 11
+words uint 4116 - 99 0
+words uint 4092 - 99 0";
 
-impl BothHeaps {
-    // Both are all zeros.
-    fn new(alloc: Global, first: (u64, CType), second: (u64, CType)) -> Result<BothHeaps, Fail>
-        ensures bytes { IfOk result (λ h. IsHeap h.l (OnBytes (memory_of h.bytes))) }
-        ensures cells { IfOk result (λ h. IsHeap h.l (typed_content h.cells)) }
-    {
-        let l = layout(alloc, Target::Ilp32)?;
-        BothHeaps::with_layout(alloc, l, first, second)
-    }
-
-    // The same, of a layout.
-    fn with_layout(
-        alloc: Global,
-        l: Layout,
-        first: (u64, CType),
-        second: (u64, CType),
-    ) -> Result<BothHeaps, Fail>
-        ensures bytes { IfOk result (λ h. IsHeap h.l (OnBytes (memory_of h.bytes))) }
-        ensures cells { IfOk result (λ h. IsHeap h.l (typed_content h.cells)) }
-    {
-        match zero_bytes(alloc, &l, first, second)? {
-            Some(bytes) => {
-                let cells = typed(alloc, &l, &bytes)?;
-                Ok(BothHeaps { l, bytes, cells })
-            }
-            None => Err(Fail::from("no heap")),
-        }
-    }
-
-    fn put(
-        &mut self,
-        alloc: Global,
-        t: &CType,
-        address: u64,
-        path: &[Step],
-        bits: u64,
-    ) -> Result<(), AllocError>
-        requires bytes { IsHeap self.old.l (OnBytes (memory_of self.old.bytes)) }
-        requires cells { IsHeap self.old.l (typed_content self.old.cells) }
-        ensures bytes { IsHeap self.new.l (OnBytes (memory_of self.new.bytes)) }
-        ensures cells { IsHeap self.new.l (typed_content self.new.cells) }
-    {
-        put_word(alloc, &mut self.bytes, &self.l, t, address, path, bits)?;
-        put_word(alloc, &mut self.cells, &self.l, t, address, path, bits)
-    }
-
-    fn copy(&mut self, alloc: Global, t: &CType, to: u64, from: u64) -> Result<(), AllocError>
-        requires bytes { IsHeap self.old.l (OnBytes (memory_of self.old.bytes)) }
-        requires cells { IsHeap self.old.l (typed_content self.old.cells) }
-        ensures bytes { IsHeap self.new.l (OnBytes (memory_of self.new.bytes)) }
-        ensures cells { IsHeap self.new.l (typed_content self.new.cells) }
-    {
-        copy_value(alloc, &mut self.bytes, &self.l, t, to, from)?;
-        copy_value(alloc, &mut self.cells, &self.l, t, to, from)
-    }
-
-    // The word in the bytes, and in the typed heap.
-    fn words(&self, t: &CType, address: u64, path: &[Step]) -> (Option<u64>, Option<u64>)
-        requires bytes { IsHeap self.now.l (OnBytes (memory_of self.now.bytes)) }
-        requires cells { IsHeap self.now.l (typed_content self.now.cells) }
-    {
-        (
-            word_at(&self.bytes, &self.l, t, address, path),
-            word_at(&self.cells, &self.l, t, address, path),
-        )
-    }
-
-    fn covers(&self, t: &CType, address: u64) -> (bool, bool)
-        requires bytes { IsHeap self.now.l (OnBytes (memory_of self.now.bytes)) }
-        requires cells { IsHeap self.now.l (typed_content self.now.cells) }
-    {
-        (
-            covers(&self.bytes, &self.l, t, address),
-            covers(&self.cells, &self.l, t, address),
-        )
-    }
-}
-
-// An element of `pair` in `q`, and in it the `unsigned`.
-fn element(negative: bool, magnitude: u128) -> [Step; 3] {
-    let index = Number::new(negative && magnitude != 0, magnitude);
-    [Step::Field(0), Step::Index(index), Step::Field(1)]
-}
+const ROOTS: &str = "\
+covered q 4096
+covered p 4096
+covered p 4104
+covered uint 4100
+covered uchar 4114
+open uint 4096
+open uint 4112
+open uchar*3 4112
+open uint 8196
+put uint 4108 - 5
+put p 4104 f0 6
+put uint 8196 - 7
+words q 4096 f0.i1.f1 5 5
+words uchar 4104 - 6 6
+words uint 8196 - 7 0
+words uint 8192 - 0 0";
 
 #[test]
-fn padding_stays(rt: HostRuntime) -> Result<(), Fail> {
-    let alloc = rt.alloc();
-    let p = CType::Struct(String::from_str(alloc, "p")?);
-    let first = CType::Struct(String::from_str(alloc, "p")?);
-    let second = CType::Struct(String::from_str(alloc, "p")?);
-    let mut h = BothHeaps::new(alloc, (4096, first), (4104, second))?;
-    // An `unsigned` over a byte and padding is no part of a `p`.
-    h.put(alloc, &UINT, 4096, &[], 0xaaaa_aaaa)?;
-    h.put(alloc, &BYTE, 4096, &[], 1)?;
-    h.put(alloc, &UINT, 4100, &[], 2)?;
-    h.put(alloc, &UINT, 4104, &[], 0xbbbb_bbbb)?;
-    h.put(alloc, &BYTE, 4104, &[], 3)?;
-    h.put(alloc, &UINT, 4108, &[], 4)?;
-    h.copy(alloc, &p, 4104, 4096)?;
-    assert!(rt; h.words(&UINT, 4104, &[]) == (Some(0xbbbb_bb01), Some(0)));
-    for (address, k, want) in [(4096, 0, 1), (4096, 1, 2), (4104, 0, 1), (4104, 1, 2)] {
-        let words = h.words(&p, address, &[Step::Field(k)]);
-        assert!(rt; words == (Some(want), Some(want)), "{address}");
-    }
-    Ok(())
-}
-
-#[test]
-fn indices_of_elements(rt: HostRuntime) -> Result<(), Fail> {
-    let alloc = rt.alloc();
-    let q = CType::Struct(String::from_str(alloc, "q")?);
-    let tag = CType::Struct(String::from_str(alloc, "q")?);
-    let mut h = BothHeaps::new(alloc, (4096, tag), (8192, UINT))?;
-    h.put(alloc, &q, 4096, &element(false, 0), 10)?;
-    h.put(alloc, &q, 4096, &element(false, 1), 11)?;
-    h.put(alloc, &UINT, 4116, &[], 12)?;
-    h.put(alloc, &UINT, 4092, &[], 13)?;
-    let rows = [
-        (false, 0, 10, 10),
-        (false, 1, 11, 11),
-        (false, 2, 12, 10),
-        (true, 1, 13, 10),
-        (false, 1 << 127, 10, 10),
-        (true, 1 << 127, 10, 10),
-    ];
-    for (negative, magnitude, in_bytes, in_cells) in rows {
-        let words = h.words(&q, 4096, &element(negative, magnitude));
-        assert!(rt; words == (Some(in_bytes), Some(in_cells)), "{magnitude}");
-    }
-    h.put(alloc, &q, 4096, &element(false, 2), 99)?;
-    h.put(alloc, &q, 4096, &element(true, 1), 99)?;
-    h.put(alloc, &q, 4096, &element(false, 1 << 127), 99)?;
-    for (address, in_bytes, in_cells) in [
-        (4100, 99, 10),
-        (4108, 11, 11),
-        (4116, 99, 0),
-        (4092, 99, 0),
+fn both_heaps(rt: HostRuntime) -> Result<(), Fail> {
+    for (tags, text) in [
+        (["p 4096", "p 4104"], PADDING),
+        (["q 4096", "uint 8192"], INDICES),
+        (["q 4096", "uint 8192"], ROOTS),
     ] {
-        let words = h.words(&UINT, address, &[]);
-        assert!(rt; words == (Some(in_bytes), Some(in_cells)), "{address}");
+        let wrong = wrong_line(rt.alloc(), zeros(STRUCTS, tags), text)?;
+        assert!(rt; wrong == None, "{wrong:?}");
     }
     Ok(())
 }
 
+// The struct `d` is an `unsigned` in 80,000 arrays of one element.
 #[test]
-fn roots_of_two_types(rt: HostRuntime) -> Result<(), Fail> {
+fn values_of_deep_types(rt: HostRuntime) -> Result<(), Fail> {
     let alloc = rt.alloc();
-    let p = CType::Struct(String::from_str(alloc, "p")?);
-    let q = CType::Struct(String::from_str(alloc, "q")?);
-    let row = CType::Array(Box::new(alloc, BYTE)?, 3);
-    let tag = CType::Struct(String::from_str(alloc, "q")?);
-    let mut h = BothHeaps::new(alloc, (4096, tag), (8192, UINT))?;
-    let roots = [
-        (&q, 4096, true),
-        (&p, 4096, true),
-        (&p, 4104, true),
-        (&UINT, 4100, true),
-        (&BYTE, 4114, true),
-        (&UINT, 4096, false),
-        (&UINT, 4112, false),
-        (&row, 4112, false),
-        (&UINT, 8196, false),
-    ];
-    for (t, address, want) in roots {
-        assert!(rt; h.covers(t, address) == (want, want), "{address}");
-    }
-    h.put(alloc, &UINT, 4108, &[], 5)?;
-    h.put(alloc, &p, 4104, &[Step::Field(0)], 6)?;
-    h.put(alloc, &UINT, 8196, &[], 7)?;
-    assert!(rt; h.words(&q, 4096, &element(false, 1)) == (Some(5), Some(5)));
-    assert!(rt; h.words(&BYTE, 4104, &[]) == (Some(6), Some(6)));
-    assert!(rt; h.words(&UINT, 8196, &[]) == (Some(7), Some(0)));
-    assert!(rt; h.words(&UINT, 8192, &[]) == (Some(0), Some(0)));
+    let structs = around(alloc, "", "d a:uint", "*1", 80_000)?;
+    let path = around(alloc, "", "f0", ".i0", 80_000)?;
+    let text = format!(in alloc;
+        "put uint 4096 - 7\ncopy d 8192 4096\nwords uint 8192 - 7 7\n\
+         put d 4096 {path} 8\nwords uint 4096 - 8 8\nwords d 8192 {path} 7 7"
+    )?;
+    let start = zeros(structs.as_str(), ["d 4096", "d 8192"]);
+    let wrong = wrong_line(alloc, start, text.as_str())?;
+    assert!(rt; wrong == None, "{wrong:?}");
     Ok(())
+}
+
+// The words at the last of so many tags and behind it, where 7 is put at the last one.
+fn words_at_the_end(alloc: Global, count: u16) -> Result<(Option<u64>, Option<u64>), Fail> {
+    let l = Layout::build(Target::Ilp32, Vec::new(alloc))?;
+    let mut h = heap_of_row(alloc, &l, count)?;
+    let last = 4092 + 4 * u64::from(count);
+    put_word(alloc, &mut h, &l, &UINT, last, &[], 7)?;
+    let cells = typed(alloc, &l, &h)?;
+    Ok((
+        word_at(&cells, &l, &UINT, last, &[]),
+        word_at(&cells, &l, &UINT, last + 4, &[]),
+    ))
 }
 
 #[test]
 fn views_of_many_tags(rt: HostRuntime) -> Result<(), Fail> {
-    let alloc = rt.alloc();
-    let l = layout(alloc, Target::Ilp32)?;
     for count in [100, 1000, 10000] {
-        let mut h = heap_of_row(alloc, &l, count)?;
-        let last = 4092 + 4 * u64::from(count);
-        put_word(alloc, &mut h, &l, &UINT, last, &[], 7)?;
-        let cells = typed(alloc, &l, &h)?;
-        assert!(rt; word_at(&cells, &l, &UINT, last, &[]) == Some(7));
-        assert!(rt; word_at(&cells, &l, &UINT, last + 4, &[]) == Some(0));
+        let words = words_at_the_end(rt.alloc(), count)?;
+        assert!(rt; words == (Some(7), Some(0)), "{count}");
     }
-    Ok(())
-}
-
-// A layout with a struct `d`, whose one member is an `unsigned` in so many arrays of one element.
-fn deep_layout(alloc: Global, depth: u32) -> Result<Layout, Fail> {
-    let mut ty = UINT;
-    for _ in 0..depth {
-        ty = CType::Array(Box::new(alloc, ty)?, 1);
-    }
-    let mut members = Vec::new(alloc);
-    members.push((String::from_str(alloc, "a")?, ty))?;
-    let definition = StructDef {
-        name: String::from_str(alloc, "d")?,
-        members,
-    };
-    let mut l = Layout::build(Target::Ilp32, Vec::new(alloc))?;
-    l.can_follow(&definition).then_some(()).ok_or("no layout")?;
-    l.define(alloc, definition)?;
-    Ok(l)
-}
-
-// The path to the `unsigned` in `d`.
-fn deep_path(alloc: Global, depth: u32) -> Result<Vec<Step>, AllocError> {
-    let mut path = Vec::new(alloc);
-    path.push(Step::Field(0))?;
-    for _ in 0..depth {
-        path.push(Step::Index(Number::new(false, 0)))?;
-    }
-    Ok(path)
-}
-
-#[test]
-fn values_of_deep_types(rt: HostRuntime) -> Result<(), Fail> {
-    let alloc = rt.alloc();
-    let l = deep_layout(alloc, 80_000)?;
-    let path = deep_path(alloc, 80_000)?;
-    let d = CType::Struct(String::from_str(alloc, "d")?);
-    let first = CType::Struct(String::from_str(alloc, "d")?);
-    let second = CType::Struct(String::from_str(alloc, "d")?);
-    let mut h = BothHeaps::with_layout(alloc, l, (4096, first), (8192, second))?;
-    h.put(alloc, &UINT, 4096, &[], 7)?;
-    h.copy(alloc, &d, 8192, 4096)?;
-    assert!(rt; h.words(&UINT, 8192, &[]) == (Some(7), Some(7)));
-    h.put(alloc, &d, 4096, &path, 8)?;
-    assert!(rt; h.words(&UINT, 4096, &[]) == (Some(8), Some(8)));
-    assert!(rt; h.words(&d, 8192, &path) == (Some(7), Some(7)));
     Ok(())
 }
