@@ -28,7 +28,8 @@ use Rattle.rule_trees.specs.RuleTree.{Tree, Trees, node, no_trees, tree, count, 
 use Rattle.rule_word.specs.Rule as R
 use Rattle.rule_word.specs.Rule.{Rule, Context, View, Claim, expression, program}
 use Rattle.rule_word.specs.Scopes.{names_in, with_kinds, words, own}
-use Rattle.rule_word.specs.Table.{truth, views_for, recast, recast_first, recasts, start_exps, table, each as claims}
+use Rattle.rule_word.specs.Table.{truth, views_for, recast, recast_first, recasts, table, each as claims}
+use Rattle.rule_parts.specs.Starts.{start_exps}
 use Rattle.rule_word.specs.Kept.{kinds_taken, kinds_given}
 use Rattle.rule_word.specs.Bases.{among}
 use Rattle.rule_word.specs.WordsAbstracted.{Abstracted, indices}

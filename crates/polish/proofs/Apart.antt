@@ -10,7 +10,8 @@ use Rattle.monad_lang.specs.Program.{Mon, Place, Start}
 use Rattle.monad_lang.specs.Run.{start_names}
 use Rattle.program_facts.specs.Places.{place_children, place_head}
 use Rattle.rule_eq.specs.Rule.{Point}
-use Rattle.rule_eq.specs.Table.{ExpApart, start_exps, within}
+use Rattle.rule_eq.specs.Table.{ExpApart, within}
+use Rattle.rule_parts.specs.Starts.{start_exps}
 use Rattle.expression_steps.specs.Rewritten.{Choice, first_step, path_step, list_step, start_step, place_step}
 use Rattle.polish.specs.Direct.{direct_step}
 use Rattle.polish.proofs.Cases.{first_case, one_case, two_case, three_case}

@@ -11,7 +11,8 @@ use Rattle.monad_lang.specs.Run.{start_names}
 use Rattle.rule_heap.specs.Rule as H
 use Rattle.rule_heap.specs.Rule.{Claim, OfProgram, OfExp}
 use Rattle.rule_heap.specs.Table as Heaps
-use Rattle.rule_heap.specs.Table.{each, start_exps, exp_row}
+use Rattle.rule_heap.specs.Table.{each, exp_row}
+use Rattle.rule_parts.specs.Starts.{start_exps}
 use Rattle.refused_parts.specs.CodeInside.{heap_inside}
 use Rattle.refused_parts.specs.Lefts.{heap_left}
 use Rattle.refused_parts.proofs.Positions.{IsAt, AreBare, no_claims, one_more, of_two, behind_one, two_behind, last_of}

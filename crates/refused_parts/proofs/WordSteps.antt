@@ -14,7 +14,8 @@ use Rattle.rule_word.specs.Rule as W
 use Rattle.rule_word.specs.Rule.{Claim, Context, Point, View, AsIs, Unsigned, Signed, program, expression}
 use Rattle.rule_word.specs.Scopes.{words, width_in}
 use Rattle.rule_word.specs.Table as Words
-use Rattle.rule_word.specs.Table.{each, of_width, expression_row, program_row, call_row, write_row, start_exps, AreMatched, owns, views_for}
+use Rattle.rule_word.specs.Table.{each, of_width, expression_row, program_row, call_row, write_row, AreMatched, owns, views_for}
+use Rattle.rule_parts.specs.Starts.{start_exps}
 use Rattle.refused_parts.specs.CodeInside.{word_inside}
 use Rattle.refused_parts.specs.Lefts.{word_left}
 use Rattle.refused_parts.proofs.Positions.{IsAt, AreBare, no_claims, one_more, of_one, of_two, two_behind, last_of}

@@ -10,7 +10,7 @@ use Rattle.monad_lang.specs.Program as M
 use Rattle.monad_lang.specs.Program.{Mon}
 use Rattle.monad_lang.specs.Names.{is_free, is_captured}
 use Rattle.monad_lang.specs.Run.{start_names}
-use Rattle.rule_eq.specs.Captures.{captures}
+use Rattle.rule_parts.specs.Captures.{captures}
 use Rattle.rule_eq.proofs.PutIn.{unnamed_apart}
 
 -- names of the expression

@@ -14,7 +14,7 @@ use Rattle.monad_lang.specs.Program.{Place, Stored, Written, Global, Start}
 use Rattle.monad_lang.specs.Sorted.{start_scalars, place_sort}
 use Rattle.program_facts.proofs.SortedValues.{program_sort_inv}
 use Rattle.program_facts.specs.Places.{place_children}
-use Rattle.rule_eq.specs.Table.{start_exps}
+use Rattle.rule_parts.specs.Starts.{start_exps}
 
 module _ (g : Scope) where
   one_of : (e : Exp) (o : Option Sort) (r : Option Scalar) (ss : List Scalar) (rest : Option (List Scalar)) → program_sort g e ≡ o → with_scalar (scalar_in o) rest ≡ Some ss → IsSorted g e × ((ds : List Scalar) × (rest ≡ Some ds))

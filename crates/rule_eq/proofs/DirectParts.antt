@@ -14,7 +14,7 @@ use Rattle.monad_lang.specs.Sorted.{Setting, place_sort}
 use Rattle.monad_sorts.specs.CodeTold.{with_names}
 use Rattle.monad_sorts.proofs.ValuesTold.{fits_parts}
 use Rattle.program_facts.proofs.Sorts.{call_parts}
-use Rattle.rule_eq.specs.Table.{start_exps}
+use Rattle.rule_parts.specs.Starts.{start_exps}
 use Rattle.rule_eq.specs.CodeExps.{write_exps, AreSomewhereSorted}
 use Rattle.rule_eq.specs.CodeFits.{IsSorted, IsSomewhereSorted}
 use Rattle.rule_eq.proofs.Direct.{scalars_sorted, starts_are_sorted, truth_sorted, write_sorted}

@@ -21,10 +21,8 @@ pub mod TidyPlaces
 pub mod PutParts
 pub mod PutSays
 pub mod ProgramPutting
-pub mod Capturing
 pub mod Taking
 pub mod Simpler
-pub mod StartNames
 pub mod OneApart
 pub mod RowsSorted
 pub mod Fitting

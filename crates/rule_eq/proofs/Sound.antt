@@ -44,7 +44,8 @@ use Rattle.rule_trees.specs.RuleTree.{Tree, AllHold}
 use Rattle.rule_trees.proofs.Induction.{holds as accepted_holds}
 use Rattle.rule_eq.specs.Rule as R
 use Rattle.rule_eq.specs.Rule.{Rule, Point, Claim, does}
-use Rattle.rule_eq.specs.Table.{point, within, Taken, taken_at, CanStand, with_values, AreTaken, start_exps, OneApart, StepApart, ExpApart, row, table, Takes}
+use Rattle.rule_eq.specs.Table.{point, within, Taken, taken_at, CanStand, with_values, AreTaken, OneApart, StepApart, ExpApart, row, table, Takes}
+use Rattle.rule_parts.specs.Starts.{start_exps}
 use Rattle.program_facts.proofs.Sorts.{fits_parts, call_parts}
 use Rattle.program_facts.proofs.PlacesAgree.{place_as_many, first_of, others_of}
 use Rattle.rule_eq.proofs.Bound.{bound_stays, bound_alike, no_zero, one_less}

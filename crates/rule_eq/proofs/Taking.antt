@@ -9,7 +9,7 @@ use Rattle.monad_lang.specs.Program as M
 use Rattle.monad_lang.specs.Program.{Mon}
 use Rattle.monad_lang.specs.Names.{is_free}
 use Rattle.program_facts.specs.Substituted.{program_substituted}
-use Rattle.rule_eq.specs.Captures.{captures}
+use Rattle.rule_parts.specs.Captures.{captures}
 use Rattle.rule_eq.specs.Table.{Taken, before, taken_at, CanStand, with_values, AreTaken}
 use Rattle.rule_eq.specs.CodeTaken.{without, at_position}
 use Rattle.rule_eq.proofs.Captured.{captured_told, told_captured}

@@ -1,22 +1,16 @@
 -- The expressions that stand in a program directly, as the code goes along them.
-use Rattle.std.specs.Prelude.{◌≡◌, List, [], ◌∷◌, ◌++◌, map}
+use Rattle.std.specs.Prelude.{◌≡◌, List, [], ◌∷◌, ◌++◌}
 use Rattle.expression_lang.specs.Expression.{Exp}
 use Rattle.expression_lang.specs.Sort.{Scope}
 use Rattle.ac_expr.specs.Fact.{Whole}
 use Rattle.ac_expr.specs.CodeApart.{IsSomeSorted}
-use Rattle.ac_expr.specs.CodeHeads.{children_in}
 use Rattle.monad_lang.specs.Program as M
 use Rattle.monad_lang.specs.Program.{Place, Mon, Start}
 use Rattle.monad_lang.specs.Run.{start_names}
-use Rattle.monad_lang.specs.CodeProgram.{start_of}
 use Rattle.program_facts.specs.Places.{place_children}
-use Rattle.rule_eq.specs.declared.exps.Exps as X
 use Rattle.rule_eq.specs.Rule.{Point}
-use Rattle.rule_eq.specs.Table.{start_exps, within, OneApart, StepApart}
-
-abbrev pub exps_in : X.Exps → List Exp
-exps_in (X.TheVariants.Children es) = children_in es
-exps_in (X.TheVariants.Starts xs) = start_exps (map start_of xs.now)
+use Rattle.rule_eq.specs.Table.{within, OneApart, StepApart}
+use Rattle.rule_parts.specs.Starts.{start_exps}
 
 -- what is written, and where
 abbrev pub write_exps : Place → Exp → List Exp

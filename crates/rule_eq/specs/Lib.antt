@@ -4,7 +4,6 @@ pub mod Kept
 pub mod Exact
 pub mod Units
 pub mod Tidy
-pub mod Captures
 pub mod CodeRule
 pub mod CodeVerdict
 pub mod CodeFits

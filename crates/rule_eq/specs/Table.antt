@@ -19,6 +19,7 @@ use Rattle.monad_lang.specs.Sorted.{Setting, setting_with, scalars_given, start_
 use Rattle.program_facts.specs.Flow.{facts_after}
 use Rattle.program_facts.specs.Places.{place_children, place_head}
 use Rattle.rule_trees.specs.RuleTree.{Row, asks, no_row, Table, Tree, Accepts}
+use Rattle.rule_parts.specs.Starts.{start_exps}
 use Rattle.rule_eq.specs.Rule as R
 use Rattle.rule_eq.specs.Rule.{Rule, Point, Claim, does}
 
@@ -76,10 +77,6 @@ AreTaken None m right = ⊥
 AreTaken (Some k) m right = CanStand k m × (right ≡ with_values k.exps k.names (program_substituted k.name k.exp m))
 
 -- Expressions
-
-abbrev pub start_exps : List Start → List Exp
-start_exps [] = []
-start_exps (x ∷ xs) = x.exp ∷ start_exps xs
 
 -- one of the expressions by one step, all under the same facts
 abbrev pub OneApart : Point → List Exp → List Exp → Type 0

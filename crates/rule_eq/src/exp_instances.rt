@@ -1,25 +1,26 @@
 //! Whether two programs are the same but for one place of one expression.
 
-ghost use Rattle.std.specs.Prelude.{◌≡◌, ◌↔◌, [], ◌∷◌, map, string_bytes, IsTrue};
+ghost use Rattle.std.specs.Prelude.{◌≡◌, ◌↔◌, [], ◌∷◌, map, IsTrue};
 ghost use Rattle.expression_lang.specs.CodeExpression.{exp_of};
 ghost use Rattle.ac_expr.specs.Fact.{Whole};
 ghost use Rattle.ac_expr.specs.CodeApart.{IsSomeSorted};
 ghost use Rattle.monad_lang.specs.Program as programs;
-ghost use Rattle.monad_lang.specs.Run.{start_names};
 ghost use Rattle.monad_lang.specs.CodeProgram.{mon_of, start_of, place_of};
-ghost use Rattle.rule_eq.specs.Table.{ExpApart, OneApart, StepApart, start_exps};
+ghost use Rattle.rule_eq.specs.Table.{ExpApart, OneApart, StepApart};
+ghost use Rattle.rule_parts.specs.Starts.{start_exps};
 ghost use Rattle.rule_eq.specs.CodeExps.{write_exps, AreSomewhereSorted, BeginApart, GuardApart, TestApart};
 ghost use Rattle.rule_eq.specs.CodeFits.{Fits, IsSorted};
-ghost use Rattle.rule_eq.specs.CodeRule.{point_in, known_in};
+ghost use Rattle.rule_eq.specs.CodeRule.{point_in};
 ghost use Rattle.rule_eq.specs.CodeSteps.{IsTurn, turn_of};
 
-use crate::exps::{Exps, are_apart, is_apart, same_place_head, write_exps};
+use crate::exps::{are_apart, is_apart, same_place_head, write_exps};
 use crate::instances::same_starts;
 use ac_expr::{Children, Fact, Facts};
 use expression_lang::Exp;
 use monad_lang::{Mon, Place, Start};
 use monad_sorts::{Inside, Setting};
 use program_facts::Parts;
+use rule_parts::{Exps, no_facts, same_start_names};
 
 /// Whether two programs are the same but for one place of one expression that stands in them
 /// directly, which is one step away.
@@ -269,27 +270,6 @@ fn is_apart_before(
     }
 }
 
-// Whether two lists have the same names.
-#[tactic(auto, using(crate::proofs::StartNames::names_end, crate::proofs::StartNames::names_go_on))]
-fn same_start_names(starts: &[Start], others: &[Start]) -> bool
-    ensures { IsTrue result
-        ↔ (start_names (map start_of others.now) ≡ start_names (map start_of starts.now)) }
-{
-    let mut left = starts;
-    let mut right = others;
-    'along: while let Some((first, rest)) = left.split_first() {
-        let Some((other, behind)) = right.split_first() else {
-            return false;
-        };
-        if other.name.as_str() != first.name.as_str() {
-            return false;
-        }
-        left = rest;
-        right = behind;
-    }
-    right.is_empty()
-}
-
 // Whether what the names begin with is the same but for one place.
 fn are_starts_apart(
     starts: &[Start],
@@ -413,20 +393,4 @@ fn are_tests_apart(
     let guarded = no_facts(&*facts).with(&fact);
     let names = (&*inside).pass(setting, turn, 1);
     is_apart(test, other, setting, &guarded, &names)
-}
-
-/// No facts, in the same scope.
-pub(crate) fn no_facts<'a>(facts: &'a Facts<'a, Parts<'a>>) -> &'a Facts<'a, Parts<'a>>
-    ensures { known_in result.now ≡ [] }
-{
-    let mut rest = facts;
-    'links: loop {
-        match rest {
-            Facts::None(_, _, _) => return rest,
-            Facts::With(older, _) => rest = *older,
-            Facts::Bound(older, _, _) => rest = *older,
-            Facts::WithoutReads(older) => rest = *older,
-            Facts::Passed(older, _, _) => rest = *older,
-        }
-    }
 }

@@ -1,48 +1,22 @@
 //! The expressions that stand in a program directly, and whether one of them is one step away.
 
-ghost use Rattle.std.specs.Prelude.{◌≡◌, ◌≢◌, ◌↔◌, [], ◌∷◌, IsTrue, IfSome, IfNone};
+ghost use Rattle.std.specs.Prelude.{◌≡◌, ◌≢◌, ◌↔◌, [], ◌∷◌, IsTrue};
 ghost use Rattle.expression_lang.specs.CodeExpression.{exp_of};
 ghost use Rattle.ac_expr.specs.CodeApart.{IsSomeSorted};
 ghost use Rattle.ac_expr.specs.CodeHeads.{children_in};
 ghost use Rattle.monad_lang.specs.CodeProgram.{place_of};
 ghost use Rattle.program_facts.specs.Places.{place_head};
 ghost use Rattle.rule_eq.specs.Table.{OneApart, StepApart};
-ghost use Rattle.rule_eq.specs.CodeExps.{exps_in, write_exps, AreSomewhereSorted};
+ghost use Rattle.rule_eq.specs.CodeExps.{write_exps, AreSomewhereSorted};
+ghost use Rattle.rule_parts.specs.CodeExps.{exps_in};
 ghost use Rattle.rule_eq.specs.CodeRule.{point_in};
 
 use ac_expr::{Children, Facts, one_step, same_steps};
 use expression_lang::{Exp, equal_types};
-use monad_lang::{Place, Start};
+use monad_lang::Place;
 use monad_sorts::{Inside, Setting};
 use program_facts::Parts;
-
-/// Expressions one after the other.
-#[derive(Clone, Copy)]
-pub(crate) enum Exps<'a> {
-    Children(Children<'a>),
-    /// Those that a loop's names begin with.
-    Starts(&'a [Start]),
-}
-
-impl<'a> Exps<'a> {
-    /// The first, and those behind it.
-    pub(crate) fn next(self) -> Option<(&'a Exp, Exps<'a>)>
-        ensures some { IfSome result (λ (first, rest). exps_in self.entry
-            ≡ exp_of first.now ∷ exps_in rest) }
-        ensures none { IfNone result (exps_in self.entry ≡ []) }
-    {
-        match self {
-            Exps::Children(children) => match children.next() {
-                Some((first, rest)) => Some((first, Exps::Children(rest))),
-                None => None,
-            },
-            Exps::Starts(starts) => match starts.split_first() {
-                Some((first, rest)) => Some((&first.exp, Exps::Starts(rest))),
-                None => None,
-            },
-        }
-    }
-}
+use rule_parts::Exps;
 
 /// What is written, and where.
 pub(crate) fn write_exps<'a>(place: &'a Place, value: &'a Exp) -> Children<'a>

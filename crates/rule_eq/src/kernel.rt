@@ -1,6 +1,6 @@
 //! The kernel of the rules that take programs to programs that mean the same.
 
-ghost use Rattle.std.specs.Prelude.{◌≡◌, ◌≤◌, List, map, IsTrue, IfSome, IfNone, Some, true, false};
+ghost use Rattle.std.specs.Prelude.{◌≡◌, ◌≤◌, List, map, IfSome, IfNone, Some, true, false};
 ghost use Rattle.expression_lang.specs.Expression as plain;
 ghost use Rattle.expression_lang.specs.CodeExpression.{exp_of};
 ghost use Rattle.expression_lang.specs.Sort.{Scalar};
@@ -17,7 +17,6 @@ ghost use Rattle.rule_eq.specs.CodeRule.{rule_of, rule_at, tree_of, point_in};
 ghost use Rattle.rule_eq.specs.CodeSteps.{is_along, is_leaf, first_of, last_of, left_first, right_first, left_behind, right_behind, passes};
 ghost use Rattle.rule_eq.specs.CodeVerdict.{verdict_of};
 
-use crate::exp_instances::no_facts;
 use crate::instances::is_asked;
 use crate::rule::Rule;
 use ac_expr::{Fact, Facts};
@@ -25,6 +24,7 @@ use expression_lang::Exp;
 use monad_lang::{Mon, Start};
 use monad_sorts::{Inside, Setting};
 use program_facts::Parts;
+use rule_parts::no_facts;
 use rule_trees::{At, Tree, both, next, only};
 
 // Whether a rule has two parts of which the last stands at the end of a sequence.

@@ -3,7 +3,6 @@
 //! other.
 #![tactic(auto)]
 
-mod captures;
 mod exp_instances;
 mod exps;
 mod instances;

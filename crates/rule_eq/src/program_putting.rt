@@ -1,10 +1,9 @@
 //! Whether a program is another one with an expression in place of a name. Nothing is built.
 
 ghost use Rattle.std.specs.Prelude.{◌≡◌, ◌↔◌, ◌<◌, ℕ, IsTrue, map};
-ghost use Rattle.c_values.specs.Name.{Name, is_among};
+ghost use Rattle.c_values.specs.Name.{Name};
 ghost use Rattle.expression_lang.specs.Expression as plain;
 ghost use Rattle.expression_lang.specs.CodeExpression.{exp_of, kind_of};
-ghost use Rattle.monad_lang.specs.Run.{start_names};
 ghost use Rattle.monad_lang.specs.declared.program.Mon.{size-Mon};
 ghost use Rattle.monad_lang.specs.CodeProgram.{place_of, start_of, mon_of};
 ghost use Rattle.monad_lang.specs.CodeFront.{IsStep};
@@ -17,6 +16,7 @@ use crate::putting::{are_put, is_put};
 use ac_expr::Children;
 use expression_lang::{Exp, Kind, same_names};
 use monad_lang::{Mon, Place, Start, is_among};
+use rule_parts::is_started;
 
 /// What is known of two programs once all but their last parts are compared.
 #[derive(Clone, Copy)]
@@ -151,20 +151,6 @@ fn are_tests_put(
     } else {
         is_put(name, value, guard, other_guard) && is_put(name, value, test, other_test)
     }
-}
-
-/// Whether one of the starts has the name.
-pub(crate) fn is_started(name: &str, starts: &[Start]) -> bool
-    ensures { result ≡ is_among name.now (start_names (map start_of starts.now)) }
-{
-    let mut rest = starts;
-    'along: while let Some((first, others)) = rest.split_first() {
-        if name == first.name.as_str() {
-            return true;
-        }
-        rest = others;
-    }
-    false
 }
 
 // Whether names and what they begin with are the first ones with the value put in.

@@ -10,10 +10,10 @@ ghost use Rattle.rule_eq.specs.Table.{taken_at, CanStand, with_values, AreTaken}
 ghost use Rattle.rule_eq.specs.CodeTaken.{without, at_position};
 ghost use Rattle.program_facts.specs.Substituted.{program_substituted};
 
-use crate::captures::{captures, is_unnamed};
 use crate::program_putting::is_program_put;
 use expression_lang::{Exp, IsReading, same_exps, same_names};
 use monad_lang::{Mon, is_free, is_in};
+use rule_parts::{captures, is_unnamed};
 
 /// Whether the value at a position may stand in a program in place of its name, and the right side
 /// is the program with it.

@@ -19,7 +19,8 @@ use Rattle.program_facts.specs.Flow.{facts_after}
 use Rattle.rule_trees.specs.RuleTree.{Tree, Trees, node, no_trees, tree, Accepts, AcceptsAll}
 use Rattle.rule_heap.specs.Rule as R
 use Rattle.rule_heap.specs.Rule.{Rule, Claim, OfProgram, OfExp}
-use Rattle.rule_heap.specs.Table.{each, start_exps, table}
+use Rattle.rule_heap.specs.Table.{each, table}
+use Rattle.rule_parts.specs.Starts.{start_exps}
 use Rattle.rule_heap.specs.ExpLifted.{exp_lifted, exp_tree, leaf, over_one, IsReady}
 use Rattle.rule_heap.specs.HeapLifted.{exps_lifted, starts_lifted, place_lifted, is_pair, on_heaps, is_ptrok, is_plain, exp_trees, start_trees, place_tree, bind_tree, same_or, trees_of, AreReady, AreStartsReady, IsPlaceReady, Where, IsHeapReady}
 use Rattle.rule_heap.proofs.ExpForms.{exp_stays, path_stays}

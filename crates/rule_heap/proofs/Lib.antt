@@ -14,7 +14,6 @@ pub mod ExpSorts
 pub mod HeapTaken
 pub mod HeapFormed
 pub mod RangeShapes
-pub mod StartNames
 pub mod Rows
 pub mod Matched
 pub mod Walked

@@ -42,7 +42,8 @@ use Rattle.rule_trees.specs.RuleTree.{Tree, AllHold}
 use Rattle.rule_trees.proofs.Induction.{holds as accepted_holds}
 use Rattle.rule_heap.specs.Rule as R
 use Rattle.rule_heap.specs.Rule.{Rule, Claim, OfProgram, OfExp}
-use Rattle.rule_heap.specs.Table.{each, start_exps, IsPlace, row, table, Takes, TakesExp}
+use Rattle.rule_heap.specs.Table.{each, IsPlace, row, table, Takes, TakesExp}
+use Rattle.rule_parts.specs.Starts.{start_exps}
 use Rattle.rule_heap.specs.Calls.{calls_only}
 use Rattle.rule_heap.proofs.Alike.{AreAlike}
 use Rattle.rule_heap.proofs.InRange.{Leads, leads_there}

@@ -26,7 +26,8 @@ use Rattle.rule_trees.specs.RuleTree.{Tree, AllHold}
 use Rattle.rule_trees.proofs.Induction.{holds as accepted_holds}
 use Rattle.rule_heap.specs.Rule as R
 use Rattle.rule_heap.specs.Rule.{Rule, Claim, OfProgram, OfExp}
-use Rattle.rule_heap.specs.Table.{each, start_exps, IsPlace, row, table, Takes}
+use Rattle.rule_heap.specs.Table.{each, IsPlace, row, table, Takes}
+use Rattle.rule_parts.specs.Starts.{start_exps}
 use Rattle.rule_heap.proofs.InRange.{leads_there}
 
 if_true : (b : Bool) (P : Type 0) → (b ≡ true → P) → IfTrue b P

@@ -1,23 +1,21 @@
 -- The parts of two sides as the code goes along them: first expressions in pairs under what is known at the node, and then what is
 -- under more, or under other facts.
-use Rattle.std.specs.Prelude.{ℕ, zero, suc, Bool, true, false, List, [], ◌∷◌, ◌++◌, map, Option, Some, None}
+use Rattle.std.specs.Prelude.{ℕ, zero, suc, Bool, true, false, List, [], ◌∷◌, ◌++◌, Option, Some, None}
 use Rattle.expression_lang.specs.Expression as E
 use Rattle.expression_lang.specs.Expression.{Exp}
 use Rattle.expression_lang.specs.CodeExpression.{exp_of}
 use Rattle.ac_expr.specs.Fact.{Fact, Whole, NotTrue}
 use Rattle.ac_expr.specs.Passed.{Part}
 use Rattle.ac_expr.specs.Heads.{children, path_children}
-use Rattle.ac_expr.specs.CodeHeads.{children_in}
 use Rattle.monad_lang.specs.Program as M
 use Rattle.monad_lang.specs.Program.{Mon}
-use Rattle.monad_lang.specs.CodeProgram.{mon_of, start_of}
-use Rattle.rule_heap.specs.declared.claims.Exps as X
+use Rattle.monad_lang.specs.CodeProgram.{mon_of}
 use Rattle.rule_heap.specs.declared.claims.Given as G
 use Rattle.rule_heap.specs.declared.claims.Claim as C
 use Rattle.rule_heap.specs.declared.claims.Then as T
 use Rattle.rule_heap.specs.Rule as R
 use Rattle.rule_heap.specs.Rule.{Rule, Claim, OfProgram, OfExp}
-use Rattle.rule_heap.specs.Table.{start_exps}
+use Rattle.rule_parts.specs.Starts.{start_exps}
 
 -- the expressions of a side that go in pairs
 abbrev pub firsts : Exp → List Exp
@@ -115,11 +113,6 @@ is_step R.Bind = true
 is_step R.Pointer = true
 is_step (R.Drop q) = true
 is_step _ = false
-
--- the same of the code
-abbrev pub exps_in : X.Exps → List Exp
-exps_in (X.TheVariants.Children es) = children_in es
-exps_in (X.TheVariants.Starts xs) = start_exps (map start_of xs.now)
 
 abbrev pub given : List Fact → G.Given → List Fact
 given fs G.TheVariants.Nothing = []

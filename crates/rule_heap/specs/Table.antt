@@ -17,6 +17,7 @@ use Rattle.monad_lang.specs.Run.{start_names}
 use Rattle.monad_lang.specs.Form.{is_heaps}
 use Rattle.program_facts.specs.Flow.{facts_after}
 use Rattle.rule_trees.specs.RuleTree.{Row, asks, no_row, Table, Tree, Accepts}
+use Rattle.rule_parts.specs.Starts.{start_exps}
 use Rattle.rule_heap.specs.Rule as R
 use Rattle.rule_heap.specs.Rule.{Rule, Claim, OfProgram, OfExp}
 
@@ -24,10 +25,6 @@ use Rattle.rule_heap.specs.Rule.{Rule, Claim, OfProgram, OfExp}
 abbrev pub each : List Fact → List Exp → List Exp → List Claim
 each fs (a ∷ as') (b ∷ bs) = OfExp fs a b ∷ each fs as' bs
 each fs _ _ = []
-
-abbrev pub start_exps : List Start → List Exp
-start_exps [] = []
-start_exps (x ∷ xs) = x.exp ∷ start_exps xs
 
 abbrev pub InMember : Option Spot → (Shape → Type 0) → Type 0
 InMember None P = ⊥

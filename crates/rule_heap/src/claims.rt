@@ -5,39 +5,13 @@ ghost use Rattle.std.specs.Prelude.{◌≡◌, [], ◌∷◌, List, IfSome, IfNo
 ghost use Rattle.expression_lang.specs.CodeExpression.{exp_of};
 ghost use Rattle.ac_expr.specs.Fact.{Fact};
 ghost use Rattle.monad_lang.specs.CodeProgram.{mon_of};
-ghost use Rattle.rule_heap.specs.CodeParts.{firsts, program_exps, exp_thens, program_thens, exps_in, claim_in, then_in};
+ghost use Rattle.rule_heap.specs.CodeParts.{firsts, program_exps, exp_thens, program_thens, claim_in, then_in};
+ghost use Rattle.rule_parts.specs.CodeExps.{exps_in};
 
 use ac_expr::{Children, children_of};
-use expression_lang::{Exp, Path};
-use monad_lang::{Mon, Place, Start};
-
-/// Expressions one after the other.
-#[derive(Clone, Copy)]
-pub(crate) enum Exps<'a> {
-    Children(Children<'a>),
-    /// Those that a loop's names begin with.
-    Starts(&'a [Start]),
-}
-
-impl<'a> Exps<'a> {
-    /// The first, and those behind it.
-    pub(crate) fn next(self) -> Option<(&'a Exp, Exps<'a>)>
-        ensures some { IfSome result (λ (first, rest). exps_in self.entry
-            ≡ exp_of first.now ∷ exps_in rest) }
-        ensures none { IfNone result (exps_in self.entry ≡ []) }
-    {
-        match self {
-            Exps::Children(children) => match children.next() {
-                Some((first, rest)) => Some((first, Exps::Children(rest))),
-                None => None,
-            },
-            Exps::Starts(starts) => match starts.split_first() {
-                Some((first, rest)) => Some((&first.exp, Exps::Starts(rest))),
-                None => None,
-            },
-        }
-    }
-}
+use expression_lang::Exp;
+use monad_lang::{Mon, Place};
+use rule_parts::Exps;
 
 /// The expressions of a side that go in pairs.
 #[inline(never)]

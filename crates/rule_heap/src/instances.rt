@@ -1,13 +1,12 @@
 //! What a rule asks of two programs. One function for each rule.
 
-ghost use Rattle.std.specs.Prelude.{◌≡◌, ◌↔◌, [], IsTrue, IfSome, IfNone, map};
+ghost use Rattle.std.specs.Prelude.{◌≡◌, ◌↔◌, [], IsTrue, IfSome, IfNone};
 ghost use Rattle.c_values.specs.CodeTypes.{type_of};
 ghost use Rattle.c_values.specs.Types as types;
 ghost use Rattle.expression_lang.specs.Expression as plain;
 ghost use Rattle.expression_lang.specs.CodeExpression.{exp_of, kind_of};
 ghost use Rattle.monad_lang.specs.Program as programs;
-ghost use Rattle.monad_lang.specs.CodeProgram.{mon_of, start_of};
-ghost use Rattle.monad_lang.specs.Run.{start_names};
+ghost use Rattle.monad_lang.specs.CodeProgram.{mon_of};
 ghost use Rattle.rule_heap.specs.Rule as names;
 ghost use Rattle.rule_heap.specs.Table.{row};
 ghost use Rattle.rule_heap.specs.CodeRule.{rule_of, facts_at};
@@ -17,7 +16,8 @@ use crate::rule::{Context, Rule};
 use ac_expr::same_steps;
 use c_values::CType;
 use expression_lang::{Exp, Kind, equal_types, same_names};
-use monad_lang::{Mon, Place, Start};
+use monad_lang::{Mon, Place};
+use rule_parts::same_start_names;
 
 /// Whether what a rule asks of two programs holds.
 #[inline(never)]
@@ -102,27 +102,6 @@ fn is_global(left: &Mon, right: &Mon, context: Context<'_>) -> bool
         },
         _ => false,
     }
-}
-
-// Whether two lists of starts have the same names.
-#[tactic(auto, using(crate::proofs::StartNames::names_end, crate::proofs::StartNames::names_go_on))]
-fn same_start_names(starts: &[Start], others: &[Start]) -> bool
-    ensures { IsTrue result
-        ↔ (start_names (map start_of others.now) ≡ start_names (map start_of starts.now)) }
-{
-    let mut left = starts;
-    let mut right = others;
-    'along: while let Some((first, rest)) = left.split_first() {
-        let Some((other, other_rest)) = right.split_first() else {
-            return false;
-        };
-        if other.name.as_str() != first.name.as_str() {
-            return false;
-        }
-        left = rest;
-        right = other_rest;
-    }
-    right.is_empty()
 }
 
 fn is_loop(left: &Mon, right: &Mon, context: Context<'_>) -> bool

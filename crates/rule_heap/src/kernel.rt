@@ -1,6 +1,6 @@
 //! The kernel of the rules that take programs on bytes to programs on typed heaps.
 
-ghost use Rattle.std.specs.Prelude.{◌≡◌, ◌↔◌, ◌++◌, [], ◌∷◌, List, IsTrue, IfSome, true, false, length};
+ghost use Rattle.std.specs.Prelude.{◌≡◌, ◌↔◌, ◌++◌, [], ◌∷◌, List, IsTrue, true, false, length};
 ghost use Rattle.std.specs.Option.{option_map};
 ghost use Rattle.expression_lang.specs.CodeExpression.{exp_of};
 ghost use Rattle.ac_expr.specs.Fact.{Fact as Known};
@@ -11,17 +11,19 @@ ghost use Rattle.rule_heap.specs.Rule as names;
 ghost use Rattle.rule_heap.specs.Rule.{OfExp, OfProgram};
 ghost use Rattle.rule_heap.specs.CodeVerdict.{verdict_of};
 ghost use Rattle.rule_heap.specs.Table.{each, row};
-ghost use Rattle.rule_heap.specs.CodeParts.{exps_in, then_in, rights, given, given_in, claim_in, claim_here, is_flat, is_step, passes, behind, left_behind, right_behind, first_of, address, step_claim};
-ghost use Rattle.rule_heap.specs.CodeRule.{rule_of, rule_at, tree_of, known_in, facts_at, table_at};
+ghost use Rattle.rule_heap.specs.CodeParts.{then_in, rights, given, given_in, claim_in, claim_here, is_flat, is_step, passes, behind, left_behind, right_behind, first_of, address, step_claim};
+ghost use Rattle.rule_parts.specs.CodeExps.{exps_in};
+ghost use Rattle.rule_heap.specs.CodeRule.{rule_of, rule_at, tree_of, facts_at, table_at};
 
-use crate::claims::{Claim, Exps, Given, Then, exp_thens, firsts, program_exps, program_thens};
+use crate::claims::{Claim, Given, Then, exp_thens, firsts, program_exps, program_thens};
 use crate::exp_instances::is_exp_asked;
 use crate::instances::is_asked;
 use crate::rule::{Context, Rule};
-use ac_expr::{Children, Fact, Facts};
+use ac_expr::{Children, Fact};
 use expression_lang::Exp;
 use monad_lang::Mon;
 use program_facts::Parts;
+use rule_parts::{Exps, no_facts};
 use rule_trees::{At, Tree, both, next};
 
 /// The expressions of the right side that go in pairs, where the rule may have it.
@@ -72,22 +74,6 @@ fn is_matched(parts: &[Tree<Rule>], left: Exps<'_>, right: Exps<'_>, then: Then<
         rest = behind;
         left = more;
         right = others;
-    }
-}
-
-// No facts, in the same scope.
-fn no_facts<'a>(facts: &'a Facts<'a, Parts<'a>>) -> &'a Facts<'a, Parts<'a>>
-    ensures { known_in result.now ≡ [] }
-{
-    let mut rest = facts;
-    'links: loop {
-        match rest {
-            Facts::None(_, _, _) => return rest,
-            Facts::With(older, _) => rest = *older,
-            Facts::Bound(older, _, _) => rest = *older,
-            Facts::WithoutReads(older) => rest = *older,
-            Facts::Passed(older, _, _) => rest = *older,
-        }
     }
 }
 

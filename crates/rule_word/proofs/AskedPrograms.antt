@@ -6,7 +6,8 @@ use Rattle.expression_lang.specs.Signature.{Binder, kinds_of}
 use Rattle.monad_lang.specs.Program.{Start}
 use Rattle.expression_lang.specs.Expression.{Exp, Var}
 use Rattle.expression_lang.specs.Sort.{Kind}
-use Rattle.rule_word.specs.Table.{AreMatched, recast, recasts, recast_first, start_exps}
+use Rattle.rule_word.specs.Table.{AreMatched, recast, recasts, recast_first}
+use Rattle.rule_parts.specs.Starts.{start_exps}
 
 suc_is : {m n : ℕ} → suc m ≡ suc n → m ≡ n
 suc_is h = omega arith

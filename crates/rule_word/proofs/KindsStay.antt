@@ -14,7 +14,8 @@ use Rattle.rule_trees.specs.RuleTree.{Tree, Accepts}
 use Rattle.rule_word.specs.Rule as R
 use Rattle.rule_word.specs.Rule.{Rule, Context, Point, View, AsIs, Unsigned, Signed, Claim, expression, program}
 use Rattle.rule_word.specs.Scopes.{names_in, with_kinds, words}
-use Rattle.rule_word.specs.Table.{each, AreMatched, views_for, start_exps, program_row, table}
+use Rattle.rule_word.specs.Table.{each, AreMatched, views_for, program_row, table}
+use Rattle.rule_parts.specs.Starts.{start_exps}
 use Rattle.rule_word.specs.CodeFits.{Fits, ClaimFits, AllFit}
 use Rattle.rule_word.specs.CodeClaims.{program_pairs, inside}
 use Rattle.rule_word.specs.CodeNames.{are_binders, are_results, is_result}

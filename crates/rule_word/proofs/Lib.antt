@@ -41,7 +41,6 @@ pub mod SteppedOn
 pub mod TypeWidths
 pub mod StepsThere
 pub mod Asked
-pub mod StartNames
 pub mod AskedPrograms
 pub mod PartViews
 pub mod KindsStay

@@ -10,7 +10,7 @@ use Rattle.rule_word.specs.declared.rule.Rule as R
 use Rattle.rule_word.specs.declared.rule.Context as C
 use Rattle.rule_word.specs.declared.rule.Point as P
 use Rattle.rule_word.specs.declared.rule.View as V
-use Rattle.rule_word.specs.declared.claims.Exps as X
+use Rattle.rule_parts.specs.declared.exps.Exps as X
 use Rattle.rule_word.specs.declared.claims.Views as W
 use Rattle.rule_word.specs.declared.claims.Seen as S
 use Rattle.rule_word.specs.Rule.{Point, View, Claim, expression}
@@ -18,7 +18,8 @@ use Rattle.rule_word.specs.Table.{each}
 use Rattle.rule_word.specs.CodeFits.{Fits, AreReady, ClaimFits, AllFit, FitInTurn}
 use Rattle.rule_word.specs.CodeRule.{rule_of, tree_of, context_in, table_at}
 use Rattle.rule_word.specs.CodeKinds.{point_in, scope_at}
-use Rattle.rule_word.specs.CodeParts.{exps_in, seen_in, views_in, looks_at, looks_in, pairs_at}
+use Rattle.rule_word.specs.CodeParts.{seen_in, views_in, looks_at, looks_in, pairs_at}
+use Rattle.rule_parts.specs.CodeExps.{exps_in}
 use Rattle.rule_word.specs.CodeRows.{FitsAt, claim_at}
 use Rattle.rule_word.specs.CodeFront.{IsReady, AreReadyAt, IsBehind, IsLast}
 use Rattle.rule_word.proofs.Walked as walked

@@ -20,7 +20,8 @@ use Rattle.rule_trees.specs.RuleTree.{AllHold}
 use Rattle.rule_word.specs.Rule as R
 use Rattle.rule_word.specs.Rule.{Rule, Context, Point, Claim, expression, program}
 use Rattle.rule_word.specs.Scopes.{with_kinds, words, view_for}
-use Rattle.rule_word.specs.Table.{each, owns, views_for, start_exps, call_row, program_row, table}
+use Rattle.rule_word.specs.Table.{each, owns, views_for, call_row, program_row, table}
+use Rattle.rule_parts.specs.Starts.{start_exps}
 use Rattle.rule_word.proofs.ChildrenSorted.{AreSorted, path_sorted, and_one}
 use Rattle.rule_word.proofs.PartsFit.{Fits, ClaimFits, AllFit, FitInTurn, all_in_turn, looked_at, owns_fit, children_fit}
 use Rattle.rule_word.proofs.ProgramsGive.{GivesThere, each_gives, starts_given, accepted_gives}

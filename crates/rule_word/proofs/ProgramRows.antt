@@ -11,7 +11,8 @@ use Rattle.program_facts.specs.Places.{place_children}
 use Rattle.rule_word.specs.Rule as R
 use Rattle.rule_word.specs.Rule.{Rule, Context, Point, View, AsIs, Claim, expression, program}
 use Rattle.rule_word.specs.Scopes.{words, own}
-use Rattle.rule_word.specs.Table.{each, owns, views_for, start_exps, program_row, call_row}
+use Rattle.rule_word.specs.Table.{each, owns, views_for, program_row, call_row}
+use Rattle.rule_parts.specs.Starts.{start_exps}
 use Rattle.rule_word.specs.CodeFits.{AreSorted, ClaimFits, AllFit, FitInTurn}
 use Rattle.rule_word.specs.CodeClaims.{program_exps, program_looks, program_pairs, inside, program_thens, kinds_taken, is_flat}
 use Rattle.rule_word.proofs.ProgramPartsFit.{parts_fit, looked_at_in, write_fits}

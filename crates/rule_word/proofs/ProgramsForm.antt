@@ -19,7 +19,8 @@ use Rattle.rule_trees.specs.RuleTree.{Trees, node, no_trees}
 use Rattle.rule_word.specs.Rule as R
 use Rattle.rule_word.specs.Rule.{Rule, Context, View}
 use Rattle.rule_word.specs.Scopes.{with_kinds, words, own}
-use Rattle.rule_word.specs.Table.{truth, views_for, recast, recast_first, recasts, start_exps}
+use Rattle.rule_word.specs.Table.{truth, views_for, recast, recast_first, recasts}
+use Rattle.rule_parts.specs.Starts.{start_exps}
 use Rattle.rule_word.specs.Kept.{kinds_taken, kinds_given}
 use Rattle.rule_word.specs.WordsAbstracted.{Abstracted, one, indices}
 use Rattle.rule_word.specs.Bases.{among}

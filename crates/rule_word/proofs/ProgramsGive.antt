@@ -14,7 +14,8 @@ use Rattle.rule_trees.proofs.Induction.{holds as accepted_holds}
 use Rattle.rule_word.specs.Rule as R
 use Rattle.rule_word.specs.Rule.{Rule, Context, Point, View, Claim, expression, program}
 use Rattle.rule_word.specs.Scopes.{words, sort_seen, view_for}
-use Rattle.rule_word.specs.Table.{each, AreMatched, views_for, start_exps, call_row, program_row, table}
+use Rattle.rule_word.specs.Table.{each, AreMatched, views_for, call_row, program_row, table}
+use Rattle.rule_parts.specs.Starts.{start_exps}
 use Rattle.rule_word.proofs.ProgramSorts.{some_is, then_inv, fits_inv, if_inv, call_inv, result_sorts, scalar_first, scalar_there, program_sorted, loop_parts}
 use Rattle.rule_word.proofs.Recasts.{recast_sorts}
 use Rattle.rule_word.proofs.ScopesAfter.{sort_of_view, setting_after}

@@ -21,7 +21,8 @@ use Rattle.rule_trees.specs.RuleTree.{Trees, node, no_trees, tree, Accepts, Acce
 use Rattle.rule_word.specs.Rule as R
 use Rattle.rule_word.specs.Rule.{Rule, Context, Point, View, AsIs, Claim, expression, program}
 use Rattle.rule_word.specs.Scopes.{with_kinds, words, own, view_for, result_as_list, sort_seen}
-use Rattle.rule_word.specs.Table.{truth, each, views_for, AreMatched, start_exps, table, call_row}
+use Rattle.rule_word.specs.Table.{truth, each, views_for, AreMatched, table, call_row}
+use Rattle.rule_parts.specs.Starts.{start_exps}
 use Rattle.rule_word.specs.Kept.{kinds_taken, kinds_given}
 use Rattle.rule_word.specs.Bases.{among}
 use Rattle.rule_word.specs.WordsAbstracted.{Abstracted, one}

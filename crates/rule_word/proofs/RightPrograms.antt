@@ -24,7 +24,8 @@ use Rattle.rule_trees.proofs.Induction.{holds as accepted_holds}
 use Rattle.rule_word.specs.Rule as R
 use Rattle.rule_word.specs.Rule.{Rule, Context, Point, View, AsIs, Claim, expression, program}
 use Rattle.rule_word.specs.Scopes.{names_in, with_kinds, words, numbers, view_for, result_as_list}
-use Rattle.rule_word.specs.Table.{truth, each, owns, AreMatched, views_for, start_exps, recast, recasts, call_row, program_row, table}
+use Rattle.rule_word.specs.Table.{truth, each, owns, AreMatched, views_for, recast, recasts, call_row, program_row, table}
+use Rattle.rule_parts.specs.Starts.{start_exps}
 use Rattle.rule_word.proofs.HeadSorts.{heads_sorted, sorts_in, IsNoName}
 use Rattle.rule_word.proofs.NoParts.{ArePlain, StaysPlain, PlainThere, claim_plain, plain_children, heads_plain}
 use Rattle.rule_word.proofs.PlaceSorts.{looking_at, same_children, heads_looking, place_looked_at, place_plain, plain_there, program_sort_plain}

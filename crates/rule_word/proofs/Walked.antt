@@ -16,7 +16,7 @@ use Rattle.rule_word.specs.declared.rule.Rule as R
 use Rattle.rule_word.specs.declared.rule.Context as C
 use Rattle.rule_word.specs.declared.rule.Point as P
 use Rattle.rule_word.specs.declared.rule.View as V
-use Rattle.rule_word.specs.declared.claims.Exps as X
+use Rattle.rule_parts.specs.declared.exps.Exps as X
 use Rattle.rule_word.specs.declared.claims.Views as W
 use Rattle.rule_word.specs.Rule.{Rule, View, Claim, program}
 use Rattle.rule_word.specs.Scopes.{sort_seen}
@@ -25,7 +25,8 @@ use Rattle.rule_word.specs.CodeFits.{AreReady, ClaimFits, AllFit, FitInTurn}
 use Rattle.rule_word.specs.CodeClaims.{lefts, rights, part_seen, exp_pairs, exp_thens, looks, program_exps, program_views, program_looks, program_pairs, program_thens, inside, is_flat}
 use Rattle.rule_word.specs.CodeRule.{rule_of, rule_at, tree_of, view_at, context_in, table_at}
 use Rattle.rule_word.specs.CodeKinds.{point_in, scope_at}
-use Rattle.rule_word.specs.CodeParts.{exps_in, views_in, looks_in, pairs_at}
+use Rattle.rule_word.specs.CodeParts.{views_in, looks_in, pairs_at}
+use Rattle.rule_parts.specs.CodeExps.{exps_in}
 use Rattle.rule_word.specs.CodeRows.{row_at, program_row_at, FitsAt, claim_at}
 use Rattle.rule_word.specs.CodeFront.{AreReadyAt}
 use Rattle.rule_word.proofs.Rows.{exp_parts, exp_ready, exp_in_turn}

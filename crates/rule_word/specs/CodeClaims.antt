@@ -16,7 +16,8 @@ use Rattle.program_facts.specs.Places.{place_children}
 use Rattle.rule_word.specs.Rule as R
 use Rattle.rule_word.specs.Rule.{Rule, Context, Point, View, AsIs, Unsigned, Signed, Claim, expression, program}
 use Rattle.rule_word.specs.Scopes.{with_kinds, words, view_for, own}
-use Rattle.rule_word.specs.Table.{knowing, each, views_for, start_exps, truth}
+use Rattle.rule_word.specs.Table.{knowing, each, views_for, truth}
+use Rattle.rule_parts.specs.Starts.{start_exps}
 use Rattle.rule_word.specs.LeftWidth.{left_width}
 
 -- a part of what is seen so, of the same sort

@@ -13,7 +13,7 @@ use Rattle.rule_word.specs.declared.rule.Context as C
 use Rattle.rule_word.specs.declared.rule.Point as P
 use Rattle.rule_word.specs.declared.rule.View as V
 use Rattle.rule_word.specs.declared.claims.Seen as S
-use Rattle.rule_word.specs.declared.claims.Exps as X
+use Rattle.rule_parts.specs.declared.exps.Exps as X
 use Rattle.rule_word.specs.declared.claims.Views as W
 use Rattle.rule_word.specs.declared.kernel.Front as F
 use Rattle.rule_word.specs.Rule.{Claim, program}
@@ -22,7 +22,8 @@ use Rattle.rule_word.specs.CodeNames.{are_binders}
 use Rattle.rule_word.specs.CodeClaims.{program_thens, inside}
 use Rattle.rule_word.specs.CodeRule.{rule_of, rule_at, tree_of, view_at, context_in, table_at}
 use Rattle.rule_word.specs.CodeKinds.{point_in, scope_at}
-use Rattle.rule_word.specs.CodeParts.{exps_in, looks_in, pairs_at}
+use Rattle.rule_word.specs.CodeParts.{looks_in, pairs_at}
+use Rattle.rule_parts.specs.CodeExps.{exps_in}
 use Rattle.rule_word.specs.CodeRows.{FitsAt, claim_at}
 
 -- its sort is known, or is to be looked at

@@ -6,9 +6,9 @@ use Rattle.expression_lang.specs.Signature.{kinds_of}
 use Rattle.expression_lang.specs.CodeExpression.{exp_of, kind_of}
 use Rattle.expression_lang.specs.CodeSignature.{binder_of}
 use Rattle.ac_expr.specs.Fact.{Whole, NotTrue}
-use Rattle.ac_expr.specs.CodeHeads.{children_in}
-use Rattle.monad_lang.specs.CodeProgram.{mon_of, start_of}
-use Rattle.rule_word.specs.declared.claims.Exps as X
+use Rattle.monad_lang.specs.CodeProgram.{mon_of}
+use Rattle.rule_parts.specs.declared.exps.Exps as X
+use Rattle.rule_parts.specs.CodeExps.{exps_in}
 use Rattle.rule_word.specs.declared.claims.Seen as S
 use Rattle.rule_word.specs.declared.claims.Views as W
 use Rattle.rule_word.specs.declared.claims.Given as G
@@ -17,12 +17,8 @@ use Rattle.rule_word.specs.declared.claims.Claim as C
 use Rattle.rule_word.specs.declared.claims.Then as T
 use Rattle.rule_word.specs.Rule.{Context, Point, View, Claim, expression, program}
 use Rattle.rule_word.specs.Scopes.{view_for, words}
-use Rattle.rule_word.specs.Table.{knowing, each, views_for, start_exps, truth}
+use Rattle.rule_word.specs.Table.{knowing, each, views_for, truth}
 use Rattle.rule_word.specs.CodeRule.{view_at}
-
-abbrev pub exps_in : X.Exps → List Exp
-exps_in (X.TheVariants.Children es) = children_in es
-exps_in (X.TheVariants.Starts xs) = start_exps (map start_of xs.now)
 
 abbrev pub seen_in : Scope → Exp → S.Seen → View
 seen_in g e (S.TheVariants.As v) = view_at g e v

@@ -19,6 +19,7 @@ use Rattle.monad_lang.specs.Program as M
 use Rattle.monad_lang.specs.Program.{Mon}
 use Rattle.monad_lang.specs.Run.{start_names}
 use Rattle.rule_trees.specs.RuleTree.{Row, asks, no_row, Table, Tree, Accepts}
+use Rattle.rule_parts.specs.Starts.{start_exps}
 use Rattle.rule_word.specs.Rule.{Rule, Ret, Guard, If, Global, Pick, Write, Bind, Loop, Call, PickNat, PickInt, Recast, Var, Const, Nat, Int, Word, Unat, Sint, Add, Sub, Mul, Neg, Udiv, Umod, Sdiv, Smod, Order, Eq, Zext, Sext, Logic, Cond, Op, Context, Point, View, AsIs, Unsigned, Signed, Claim, expression, program}
 use Rattle.rule_word.specs.Scopes.{names_in, with_kinds, words, sort_seen, view_for, own, width_in, result_as_list}
 
@@ -180,10 +181,6 @@ abbrev pub write_row : Scope → Point → M.Place → Exp → M.Place → Exp �
 write_row g at p e p' e' =
     let es = place_children p ++ (e ∷ []) in
     asks (place_head p' ≡ place_head p) (each at es (owns g es) (place_children p' ++ (e' ∷ [])))
-
-abbrev pub start_exps : List M.Start → List Exp
-start_exps [] = []
-start_exps (x ∷ xs) = x.exp ∷ start_exps xs
 
 abbrev pub program_row : Context → Point → Rule → Mon → Mon → List Kind → Row Claim
 program_row ctx at Ret (M.Ret es) (M.Ret es') ks = asks (AreMatched es ks es') (each at es (views_for ks) es')

@@ -11,40 +11,14 @@ ghost use Rattle.rule_word.specs.Rule as names;
 ghost use Rattle.rule_word.specs.Scopes.{words};
 ghost use Rattle.rule_word.specs.CodeClaims.{firsts, lefts, rights, exp_thens, program_exps, program_thens};
 ghost use Rattle.rule_word.specs.CodeRule.{rule_of, view_at};
-ghost use Rattle.rule_word.specs.CodeParts.{exps_in, seen_in, views_in, looks_at, looks_in, claim_in, thens_at};
+ghost use Rattle.rule_word.specs.CodeParts.{seen_in, views_in, looks_at, looks_in, claim_in, thens_at};
+ghost use Rattle.rule_parts.specs.CodeExps.{exps_in};
 
 use crate::rule::{Rule, View};
 use ac_expr::{Children, children_of};
 use expression_lang::{Binder, Exp, Kind};
-use monad_lang::{Mon, Place, Start};
-
-/// Expressions one after the other.
-#[derive(Clone, Copy)]
-pub(crate) enum Exps<'a> {
-    Children(Children<'a>),
-    /// Those that a loop's names begin with.
-    Starts(&'a [Start]),
-}
-
-impl<'a> Exps<'a> {
-    /// The first, and those behind it.
-    pub(crate) fn next(self) -> Option<(&'a Exp, Exps<'a>)>
-        ensures some { IfSome result (λ (first, rest). exps_in self.entry
-            ≡ exp_of first.now ∷ exps_in rest) }
-        ensures none { IfNone result (exps_in self.entry ≡ []) }
-    {
-        match self {
-            Exps::Children(children) => match children.next() {
-                Some((first, rest)) => Some((first, Exps::Children(rest))),
-                None => None,
-            },
-            Exps::Starts(starts) => match starts.split_first() {
-                Some((first, rest)) => Some((&first.exp, Exps::Starts(rest))),
-                None => None,
-            },
-        }
-    }
-}
+use monad_lang::{Mon, Place};
+use rule_parts::Exps;
 
 /// How a part is seen.
 #[derive(Clone, Copy)]

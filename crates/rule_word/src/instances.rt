@@ -9,10 +9,10 @@ ghost use Rattle.expression_lang.specs.Signature.{signature, kinds_of};
 ghost use Rattle.expression_lang.specs.CodeExpression.{exp_of, kind_of};
 ghost use Rattle.expression_lang.specs.CodeSignature.{binder_of};
 ghost use Rattle.monad_lang.specs.CodeProgram.{mon_of, start_of};
-ghost use Rattle.monad_lang.specs.Run.{start_names};
 ghost use Rattle.rule_word.specs.Rule as names;
 ghost use Rattle.rule_word.specs.Scopes.{result_as_list};
-ghost use Rattle.rule_word.specs.Table.{AreMatched, recast, recasts, start_exps, call_row};
+ghost use Rattle.rule_word.specs.Table.{AreMatched, recast, recasts, call_row};
+ghost use Rattle.rule_parts.specs.Starts.{start_exps};
 ghost use Rattle.rule_word.specs.CodeRule.{rule_of, context_in};
 ghost use Rattle.rule_word.specs.CodeKinds.{point_in};
 ghost use Rattle.rule_word.specs.CodeRows.{program_row_at};
@@ -22,6 +22,7 @@ use ac_expr::same_steps;
 use expression_lang::{Binder, Exp, Kind, are_distinct, equal_types, same_names};
 use monad_lang::{Mon, Place, Start};
 use program_sorts::signature;
+use rule_parts::same_start_names;
 
 /// Whether what a rule asks of two programs holds.
 #[inline(never)]
@@ -262,27 +263,6 @@ fn is_bind(
         },
         _ => false,
     }
-}
-
-// Whether two lists of starts have the same names.
-#[tactic(auto, using(crate::proofs::StartNames::names_end, crate::proofs::StartNames::names_go_on))]
-fn same_start_names(starts: &[Start], others: &[Start]) -> bool
-    ensures { IsTrue result
-        ↔ (start_names (map start_of others.now) ≡ start_names (map start_of starts.now)) }
-{
-    let mut left = starts;
-    let mut right = others;
-    'along: while let Some((first, rest)) = left.split_first() {
-        let Some((other, other_rest)) = right.split_first() else {
-            return false;
-        };
-        if other.name.as_str() != first.name.as_str() {
-            return false;
-        }
-        left = rest;
-        right = other_rest;
-    }
-    right.is_empty()
 }
 
 // Whether two lists of kinds are the same.

@@ -17,7 +17,7 @@ ghost use Rattle.rule_word.specs.Table.{knowing};
 ghost use Rattle.rule_word.specs.CodeFits.{Fits, ClaimFits, FitInTurn};
 ghost use Rattle.rule_word.specs.CodeNames.{are_binders, are_results};
 ghost use Rattle.rule_word.specs.CodeClaims.{inside, is_flat, is_bind, is_and, first_of, behind};
-ghost use Rattle.rule_word.specs.CodeRule.{rule_of, rule_at, tree_of, view_at, known_in, context_in, table_at};
+ghost use Rattle.rule_word.specs.CodeRule.{rule_of, rule_at, tree_of, view_at, context_in, table_at};
 ghost use Rattle.rule_word.specs.CodeKinds.{binders_in, point_in, scope_at};
 ghost use Rattle.rule_word.specs.CodeParts.{seen_in, sight_in, given_at, given_in, pairs_at, claim_in, claim_here, thens_at};
 ghost use Rattle.rule_word.specs.CodeRows.{FitsAt, HasKinds, claim_at};
@@ -25,8 +25,7 @@ ghost use Rattle.rule_word.specs.CodeFront.{IsReady, AreReadyAt, Leaves, RowLeav
 ghost use Rattle.rule_word.specs.CodeVerdict.{verdict_of};
 
 use crate::claims::{
-    Claim, Exps, Given, Seen, Sight, Then, Views, exp_then, lefts, program_exps, program_then,
-    rights,
+    Claim, Given, Seen, Sight, Then, Views, exp_then, lefts, program_exps, program_then, rights,
 };
 use crate::exp_instances::is_exp_asked;
 use crate::instances::is_asked;
@@ -38,10 +37,11 @@ use crate::rule::{Context, Point, Rule, View};
 use crate::sorts::is_of_kind;
 use crate::stretch::Stretch;
 use crate::views::{exp_views, program_views, view_of_kind};
-use ac_expr::{Fact, Facts};
+use ac_expr::Fact;
 use expression_lang::{Exp, Kind};
 use monad_lang::Mon;
 use program_facts::Parts;
+use rule_parts::{Exps, no_facts};
 use rule_trees::{At, Tree, both, next, only};
 
 /// What is left after the pairs.
@@ -101,22 +101,6 @@ fn is_matched(
         left = lefts;
         views = others;
         right = rights;
-    }
-}
-
-// No facts, in the same scope.
-fn no_facts<'a>(facts: &'a Facts<'a, Passed<'a>>) -> &'a Facts<'a, Passed<'a>>
-    ensures { known_in result.now ≡ [] }
-{
-    let mut rest = facts;
-    'links: loop {
-        match rest {
-            Facts::None(_, _, _) => return rest,
-            Facts::With(older, _) => rest = *older,
-            Facts::Bound(older, _, _) => rest = *older,
-            Facts::WithoutReads(older) => rest = *older,
-            Facts::Passed(older, _, _) => rest = *older,
-        }
     }
 }
 

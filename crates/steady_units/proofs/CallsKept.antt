@@ -13,6 +13,7 @@ use Rattle.monad_lang.specs.Program as M
 use Rattle.monad_lang.specs.Program.{Mon}
 use Rattle.monad_lang.specs.Run.{start_names}
 use Rattle.program_facts.specs.Substituted.{starts_substituted, program_substituted}
+use Rattle.rule_parts.specs.Starts.{start_exps}
 use Rattle.rule_trees.specs.RuleTree.{Tree, Accepts, AllHold}
 use Rattle.rule_trees.proofs.Induction.{holds as accepted_holds}
 use Rattle.rule_heap.specs.Calls.{calls_only}
@@ -77,7 +78,7 @@ module _ (test : Name → Bool) where
     heap_row fs H.Global (M.Write (M.Global x path) v) (M.Write (M.Global y way) v') e s =
         no_calls (M.Write (M.Global x path) v) (M.Write (M.Global y way) v') refl
     heap_row fs H.Loop (M.Loop starts g t m) (M.Loop starts' g' t' m') e s =
-        let each = Heaps.each fs (Heaps.start_exps starts) (Heaps.start_exps starts') in
+        let each = Heaps.each fs (start_exps starts) (start_exps starts') in
         record { calls = (behind HeapsKeep each _ s).1.1.0.calls }
     heap_row fs H.Call (M.Call f es) (M.Call g es') e s = same_function f g es es' e.0
     heap_row fs H.Pick (M.Pick k) (M.Pick j) e s = no_calls (M.Pick k) (M.Pick j) refl
@@ -129,8 +130,8 @@ module _ (test : Name → Bool) where
     word_row at (W.Bind js) (M.Bind m xs n) (M.Bind m' xs' n') ks e s =
         in_bind m n m' n' xs xs' s.0 s.1.0
     word_row at (W.Loop js) (M.Loop starts g t m) (M.Loop starts' g' t' m') ks e s =
-        let es = Words.start_exps starts in
-        let each = Words.each at es (Words.views_for js) (Words.start_exps starts') in
+        let es = start_exps starts in
+        let each = Words.each at es (Words.views_for js) (start_exps starts') in
         record { calls = (behind WordsKeep each _ s).1.1.0.calls }
     word_row at W.Call (M.Call f es) (M.Call g es') ks e s = same_function f g es es' e.0
     word_row at (W.Recast js) m (M.Bind m' ys (M.Ret es)) ks e s =

@@ -1,4 +1,3 @@
-pub mod Capturing
 pub mod Lists
 pub mod Parts
 pub mod Putting

@@ -10,7 +10,7 @@ use Rattle.monad_lang.specs.Program.{Mon}
 use Rattle.monad_lang.specs.Names.{is_free, is_captured}
 use Rattle.monad_lang.specs.Run.{start_names}
 use Rattle.monad_lang.specs.Form.{can_be_put}
-use Rattle.value_putting.specs.Captures.{captures}
+use Rattle.rule_parts.specs.Captures.{captures}
 
 same_turned : (x y : Name) → same_name x y ≡ same_name y x
 same_turned x y = by (same_name x y) refl (same_name y x) refl

@@ -5,9 +5,9 @@ ghost use Rattle.expression_lang.specs.CodeExpression.{exp_of};
 ghost use Rattle.monad_lang.specs.CodeProgram.{mon_of};
 ghost use Rattle.monad_lang.specs.Form.{all_kept, can_be_put};
 
-use crate::captured_names::captures;
 use expression_lang::Exp;
 use monad_lang::{Mon, is_among, is_free};
+use rule_parts::captures;
 
 /// Whether a value can stand in a program in place of its name, which is bound with the names before
 /// it and after it: a constant always, a variable where it is none of these and isn't captured.

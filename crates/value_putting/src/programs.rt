@@ -6,16 +6,16 @@ ghost use Rattle.expression_lang.specs.Expression as plain;
 ghost use Rattle.expression_lang.specs.CodeExpression.{exp_of};
 ghost use Rattle.monad_lang.specs.Program as programs;
 ghost use Rattle.monad_lang.specs.declared.program.Mon.{size-Mon};
-ghost use Rattle.monad_lang.specs.CodeProgram.{place_of, start_of, mon_of};
+ghost use Rattle.monad_lang.specs.CodeProgram.{start_of, mon_of};
 ghost use Rattle.monad_lang.specs.CodeFront.{IsStep, with_front, with_fronts};
 ghost use Rattle.program_facts.specs.Substituted.{program_substituted};
 ghost use Rattle.value_putting.specs.Parts.{exp_behind, program_behind, header_behind};
 ghost use Rattle.value_putting.specs.CodeOpening.{becomes, LastIsSmaller};
 
-use crate::captured_names::is_started;
 use crate::expressions::{in_each, in_exp, in_place, in_starts};
 use expression_lang::{Exp, copy_names};
 use monad_lang::{Front, Mon, Start, boxed, is_among, whole};
+use rule_parts::is_started;
 use std::alloc::{AllocError, Global};
 
 /// A program with the value in place of the name, where the name is free. It goes along the last

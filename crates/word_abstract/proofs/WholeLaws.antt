@@ -14,7 +14,8 @@ use Rattle.rule_trees.specs.RuleTree.{Tree, Trees, node, no_trees, tree}
 use Rattle.rule_word.specs.Rule as R
 use Rattle.rule_word.specs.Rule.{Rule, Context}
 use Rattle.rule_word.specs.Scopes.{with_kinds, words}
-use Rattle.rule_word.specs.Table.{truth, views_for, start_exps}
+use Rattle.rule_word.specs.Table.{truth, views_for}
+use Rattle.rule_parts.specs.Starts.{start_exps}
 use Rattle.rule_word.specs.WordsAbstracted.{Abstracted}
 use Rattle.rule_word.specs.ProgramsAbstracted.{AbstractedProgram, rights, trees_before, restarted, kinds_for, scalars_there, exp_at, guard_at, all_at, program_abstracted}
 use Rattle.word_abstract.specs.CodeWholes.{tested, looped, bound}

@@ -1,15 +1,14 @@
 //! What is known where an expression stands.
 
-ghost use Rattle.std.specs.Prelude.{◌≡◌, ◌&&◌, ◌∷◌, [], map, string_bytes, IfOk, List, Bool};
+ghost use Rattle.std.specs.Prelude.{◌≡◌, ◌&&◌, ◌∷◌, [], map, string_bytes, IfOk, List};
 ghost use Rattle.expression_lang.specs.CodeExpression.{exp_of};
 ghost use Rattle.ac_expr.specs.Fact.{Fact as Plain, stands_for};
 ghost use Rattle.ac_expr.specs.Passed.{without_names, where_unchanged};
-ghost use Rattle.ac_expr.specs.Lasting.{is_unnamed};
-ghost use Rattle.expression_lang.specs.Mentions.{reads};
 ghost use Rattle.word_abstract.specs.CodeKnown.{newest_first, lasts};
 ghost use Rattle.word_abstract.specs.CodeFacts.{fact_in, whole, known_in};
 
-use expression_lang::{Exp, IsName, IsReading};
+use expression_lang::{Exp, IsReading};
+use rule_parts::is_unnamed;
 use std::alloc::{AllocError, Global};
 
 /// That an expression holds, or that it doesn't.
@@ -34,25 +33,11 @@ pub(crate) enum Conditions<'a> {
     With(&'a Conditions<'a>, Fact<'a>),
 }
 
-/// Whether an expression has none of the names.
-pub(crate) fn is_unnamed(e: &Exp, names: &[String]) -> bool
-    ensures { result ≡ is_unnamed (map string_bytes names.now) (exp_of e.now) }
-{
-    let mut rest = names;
-    'along: while let Some((name, others)) = rest.split_first() {
-        if e.any(&IsName { name }) {
-            return false;
-        }
-        rest = others;
-    }
-    true
-}
-
 /// Whether a fact of an expression lasts where the names are bound, and where the state may change.
 fn lasts(e: &Exp, names: &[String], changes: bool) -> bool
     ensures { result ≡ lasts (map string_bytes names.now) changes (exp_of e.now) }
 {
-    is_unnamed(e, names) && !(changes && e.any(&IsReading))
+    is_unnamed(names, e) && !(changes && e.any(&IsReading))
 }
 
 // Whether a fact does.

@@ -15,12 +15,13 @@ ghost use Rattle.word_abstract.specs.CodePassing.{facts_passed, names_passed};
 ghost use Rattle.word_abstract.specs.CodeFronts.{with_front, with_fronts};
 ghost use Rattle.word_abstract.specs.CodeTranslated.{translated_in};
 
-use crate::facts::{Fact, Known, is_unnamed, lasting, lasting_guards};
+use crate::facts::{Fact, Known, lasting, lasting_guards};
 use crate::translated::{Translated, made};
 use crate::trees::{alone, and_then};
 use expression_lang::{Binder, Exp, Kind};
 use monad_lang::Mon;
 use program_facts::changes_state;
+use rule_parts::is_unnamed;
 use rule_trees::Tree;
 use rule_word::Rule;
 use std::alloc::{AllocError, Global};
@@ -109,7 +110,7 @@ fn guarded(
 {
     let mut guards = guards;
     if let Mon::Guard(condition) = m {
-        if is_unnamed(condition, names) {
+        if is_unnamed(names, condition) {
             guards.push(condition.copy(alloc)?)?;
         }
     }

@@ -2,7 +2,7 @@
 use Rattle.std.proofs.Common.{rules, ◌≡◌, ◌≢◌, ◌∷◌}
 use Rattle.expression_lang.specs.CodeExpression.{exp_of}
 use Rattle.ac_expr.proofs.ApartThere.{never}
-use Rattle.rule_eq.specs.CodeExps.{exps_in}
+use Rattle.rule_parts.specs.CodeExps.{exps_in}
 use Rattle.rule_eq.specs.CodeRule.{point_in}
 use Rattle.rule_eq.proofs.OneApart.{found, goes_on, rest_differs}
 use Rattle.rule_eq.proofs.RowsSorted.{rest_sorted}

@@ -1,7 +1,8 @@
 -- All that was passed is the same.
 use Rattle.std.proofs.Common.{◌≢◌, ◌↔◌, length}
 use Rattle.rule_eq.specs.Table.{OneApart}
-use Rattle.rule_eq.specs.CodeExps.{exps_in, AreSomewhereSorted}
+use Rattle.rule_eq.specs.CodeExps.{AreSomewhereSorted}
+use Rattle.rule_parts.specs.CodeExps.{exps_in}
 use Rattle.rule_eq.specs.CodeRule.{point_in}
 use Rattle.rule_eq.proofs.exps.is_one_apart.Given as goal
 

@@ -1,6 +1,6 @@
 -- What is left of both is the same where they are.
 use Rattle.std.proofs.Common.{◌≡◌, ◌↔◌, length}
-use Rattle.rule_eq.specs.CodeExps.{exps_in}
+use Rattle.rule_parts.specs.CodeExps.{exps_in}
 use Rattle.rule_eq.proofs.exps.same_exps.Given as goal
 
 abbrev pub invariant-along : goal.invariant-along

@@ -10,7 +10,8 @@ use Rattle.rule_trees.specs.RuleTree.{Checked}
 use Rattle.rule_heap.specs.Rule as R
 use Rattle.rule_heap.specs.Rule.{Claim, OfExp, OfProgram}
 use Rattle.rule_heap.specs.Table.{table, row}
-use Rattle.rule_heap.specs.CodeParts.{exps_in, then_in, step_claim, address}
+use Rattle.rule_heap.specs.CodeParts.{then_in, step_claim, address}
+use Rattle.rule_parts.specs.CodeExps.{exps_in}
 use Rattle.rule_heap.specs.CodeRule.{rule_of, rule_at, tree_of, known_in, facts_at}
 use Rattle.rule_heap.proofs.Walked as walked
 use Rattle.rule_heap.proofs.Along as along

@@ -9,7 +9,8 @@ use Rattle.rule_trees.specs.CodeTree.{trees_in}
 use Rattle.rule_trees.specs.CodeNodes.{nodes, nodes_in}
 use Rattle.rule_heap.specs.Rule.{OfProgram}
 use Rattle.rule_heap.specs.Table.{each}
-use Rattle.rule_heap.specs.CodeParts.{exps_in, then_in, rest_of}
+use Rattle.rule_heap.specs.CodeParts.{then_in, rest_of}
+use Rattle.rule_parts.specs.CodeExps.{exps_in}
 use Rattle.rule_heap.specs.CodeRule.{rule_of, tree_of, facts_at, table_at}
 use Rattle.rule_heap.proofs.kernel.+checking.Given as goal
 

@@ -2,7 +2,8 @@
 use Rattle.std.proofs.Common.{◌≡◌, ◌↔◌, List, ◌++◌, length}
 use Rattle.ac_expr.specs.Fact.{Fact}
 use Rattle.rule_heap.specs.Table.{each}
-use Rattle.rule_heap.specs.CodeParts.{exps_in, then_in}
+use Rattle.rule_heap.specs.CodeParts.{then_in}
+use Rattle.rule_parts.specs.CodeExps.{exps_in}
 use Rattle.rule_heap.proofs.kernel.is_matched.Given as goal
 
 abbrev pub invariant-pairs : goal.invariant-pairs

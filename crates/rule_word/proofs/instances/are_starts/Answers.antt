@@ -2,7 +2,7 @@
 use Rattle.std.proofs.Common.{map, length, ◌∙◌}
 use Rattle.expression_lang.specs.CodeExpression.{kind_of}
 use Rattle.monad_lang.specs.CodeProgram.{start_of}
-use Rattle.rule_word.specs.Table.{start_exps}
+use Rattle.rule_parts.specs.Starts.{start_exps}
 use Rattle.rule_word.proofs.AskedPrograms.{as_many, others, map_count, start_count}
 use Rattle.rule_word.proofs.instances.are_starts.Goals as goal
 

@@ -4,7 +4,8 @@ use Rattle.expression_lang.specs.CodeExpression.{kind_of}
 use Rattle.monad_lang.specs.CodeProgram.{start_of}
 use Rattle.rule_trees.specs.RuleTree.{Trees}
 use Rattle.rule_word.specs.Rule.{Rule}
-use Rattle.rule_word.specs.Table.{views_for, start_exps}
+use Rattle.rule_word.specs.Table.{views_for}
+use Rattle.rule_parts.specs.Starts.{start_exps}
 use Rattle.rule_word.specs.ProgramsAbstracted.{rights, trees_before, restarted}
 use Rattle.word_abstract.specs.CodeTrees.{with_trees}
 use Rattle.word_abstract.specs.CodeScenes.{all_there}

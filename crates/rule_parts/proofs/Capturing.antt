@@ -9,7 +9,7 @@ use Rattle.monad_lang.specs.Program as M
 use Rattle.monad_lang.specs.Program.{Mon, Start}
 use Rattle.monad_lang.specs.Names.{is_free, is_in_start}
 use Rattle.monad_lang.specs.Run.{start_names}
-use Rattle.value_putting.specs.Captures.{captures}
+use Rattle.rule_parts.specs.Captures.{captures}
 
 -- behind a binder that may bind the name
 bound_none : (among named free inner : Bool) → (not among && free) ≡ false → (free ≡ false → inner ≡ false) →

@@ -3,8 +3,8 @@ use Rattle.std.proofs.Common.{◌≡◌, ◌≤◌}
 use Rattle.expression_lang.specs.CodeExpression.{exp_of}
 use Rattle.monad_lang.specs.declared.program.Mon.{size-Mon}
 use Rattle.monad_lang.specs.CodeProgram.{mon_of}
-use Rattle.value_putting.specs.Captures.{captures}
-use Rattle.value_putting.proofs.captured_names.+captures.Given as goal
+use Rattle.rule_parts.specs.Captures.{captures}
+use Rattle.rule_parts.proofs.captured.+captures.Given as goal
 
 abbrev pub invariant-along : goal.invariant-along
 invariant-along l = record {

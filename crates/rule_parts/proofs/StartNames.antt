@@ -4,7 +4,8 @@ use Rattle.monad_lang.specs.declared.program.Start as S
 use Rattle.monad_lang.specs.CodeProgram.{start_of}
 use Rattle.monad_lang.specs.Run.{start_names}
 
-pub names_end : (xs ys : List S.Start) → length xs ≡ 0 → ((length ys == 0) ≡ true) ↔ (start_names (map start_of ys) ≡ start_names (map start_of xs))
+pub names_end : (xs ys : List S.Start) → length xs ≡ 0 →
+    ((length ys == 0) ≡ true) ↔ (start_names (map start_of ys) ≡ start_names (map start_of xs))
 names_end [] [] h = ((λ e. refl), (λ e. refl))
 names_end [] (y ∷ ys) h = (
   (λ e. let clash : suc (length ys) ≡ 0 = eqb-true (suc (length ys)) 0 e in absurd (omega arith)),
@@ -13,5 +14,9 @@ names_end [] (y ∷ ys) h = (
 names_end (x ∷ xs) ys h = absurd (omega arith)
 
 pub names_go_on : (x y : S.Start) (xs ys : List S.Start) → string_bytes y.name ≡ string_bytes x.name →
-    (start_names (map start_of ys) ≡ start_names (map start_of xs)) ↔ (start_names (map start_of (y ∷ ys)) ≡ start_names (map start_of (x ∷ xs)))
-names_go_on x y xs ys h = ((λ e. ap₂ (λ a b. a ∷ b) h e), (λ e. let same : string_bytes y.name ∷ start_names (map start_of ys) ≡ string_bytes x.name ∷ start_names (map start_of xs) = e in cc))
+    (start_names (map start_of ys) ≡ start_names (map start_of xs))
+    ↔ (start_names (map start_of (y ∷ ys)) ≡ start_names (map start_of (x ∷ xs)))
+names_go_on x y xs ys h = (
+  (λ e. ap₂ (λ a b. a ∷ b) h e),
+  (λ e. let same : string_bytes y.name ∷ start_names (map start_of ys) ≡ string_bytes x.name ∷ start_names (map start_of xs) = e in cc),
+)

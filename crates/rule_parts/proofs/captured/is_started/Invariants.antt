@@ -3,7 +3,7 @@ use Rattle.std.proofs.Common.{◌≡◌, map, length}
 use Rattle.c_values.specs.Name.{is_among}
 use Rattle.monad_lang.specs.Run.{start_names}
 use Rattle.monad_lang.specs.CodeProgram.{start_of}
-use Rattle.value_putting.proofs.captured_names.is_started.Given as goal
+use Rattle.rule_parts.proofs.captured.is_started.Given as goal
 
 abbrev pub invariant-along : goal.invariant-along
 invariant-along l = is_among l.name (start_names (map start_of l.rest)) ≡ is_among l.name (start_names (map start_of l.starts))

@@ -8,9 +8,9 @@ use Rattle.monad_lang.specs.Program as M
 use Rattle.monad_lang.specs.Names.{is_free}
 use Rattle.monad_lang.specs.Run.{start_names}
 use Rattle.monad_lang.specs.CodeProgram.{start_of, mon_of}
-use Rattle.value_putting.specs.Captures.{captures}
-use Rattle.value_putting.proofs.Capturing.{turn_captures}
-use Rattle.value_putting.proofs.captured_names.+captures.Goals as goal
+use Rattle.rule_parts.specs.Captures.{captures}
+use Rattle.rule_parts.proofs.Capturing.{turn_captures}
+use Rattle.rule_parts.proofs.captured.+captures.Goals as goal
 
 pub returns-then-not-is_start_unnamed : goal.returns-then-not-is_start_unnamed
 returns-then-not-is_start_unnamed t c =

@@ -4,7 +4,7 @@ use Rattle.expression_lang.specs.CodeExpression.{exp_of}
 use Rattle.ac_expr.specs.Lasting.{is_unnamed}
 use Rattle.monad_lang.specs.Run.{start_names}
 use Rattle.monad_lang.specs.CodeProgram.{start_of}
-use Rattle.value_putting.proofs.captured_names.is_start_unnamed.Given as goal
+use Rattle.rule_parts.proofs.captured.is_start_unnamed.Given as goal
 
 abbrev pub invariant-along : goal.invariant-along
 invariant-along l =

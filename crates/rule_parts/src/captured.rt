@@ -1,20 +1,34 @@
 //! Whether a program captures a name of an expression that is put in for a name.
 
 ghost use Rattle.std.specs.Prelude.{◌≡◌, ◌||◌, map, string_bytes};
+ghost use Rattle.c_values.specs.Name.{is_among};
 ghost use Rattle.expression_lang.specs.CodeExpression.{exp_of};
 ghost use Rattle.expression_lang.specs.Mentions.{names};
 ghost use Rattle.ac_expr.specs.Lasting.{is_unnamed};
 ghost use Rattle.monad_lang.specs.Names.{is_free};
 ghost use Rattle.monad_lang.specs.Run.{start_names};
 ghost use Rattle.monad_lang.specs.CodeProgram.{start_of, mon_of};
-ghost use Rattle.rule_eq.specs.Captures.{captures};
+ghost use Rattle.rule_parts.specs.Captures.{captures};
 
-use crate::program_putting::is_started;
 use expression_lang::Exp;
 use monad_lang::{Mon, Start, is_among, is_free, is_in};
 
+/// Whether one of the starts has the name.
+pub fn is_started(name: &str, starts: &[Start]) -> bool
+    ensures { result ≡ is_among name.now (start_names (map start_of starts.now)) }
+{
+    let mut rest = starts;
+    'along: while let Some((first, others)) = rest.split_first() {
+        if name == first.name.as_str() {
+            return true;
+        }
+        rest = others;
+    }
+    false
+}
+
 /// Whether an expression has none of the names.
-pub(crate) fn is_unnamed(names: &[String], e: &Exp) -> bool
+pub fn is_unnamed(names: &[String], e: &Exp) -> bool
     ensures { result ≡ is_unnamed (map string_bytes names.now) (exp_of e.now) }
 {
     let mut rest = names;
@@ -49,11 +63,11 @@ fn is_free_inside(name: &str, guard: &Exp, test: &Exp, body: &Mon) -> bool
     is_in(name, guard) || is_in(name, test) || is_free(name, body)
 }
 
-/// Whether a binder of a name of the expression stands above a free place of the name. It goes
-/// along the last parts by a loop. Behind a binder of a name of the expression it asks once whether
-/// the name is free: where it isn't, nothing is captured there.
+/// Whether a binder of a name of the expression stands above a free place of the name. It goes along
+/// the last parts by a loop. Behind a binder of a name of the expression it asks once whether the
+/// name is free: where it isn't, nothing is captured there.
 #[tactic(auto, using(crate::proofs::Capturing::bind_captures, crate::proofs::Capturing::turn_captures))]
-pub(crate) fn captures(e: &Exp, name: &str, m: &Mon) -> bool
+pub fn captures(e: &Exp, name: &str, m: &Mon) -> bool
     ensures { result ≡ captures (exp_of e.now) name.now (mon_of m.now) }
 {
     let mut rest = m;
