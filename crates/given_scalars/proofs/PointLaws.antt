@@ -14,3 +14,9 @@ names_also n s (x ∷ xs) ys others = names_also n s xs ys (with_name (n x) (Som
 pub names_push : {A : Type 0} (n : A → Name) (s : A → Scalar) (xs : List A) (x : A) (others : Name → Option Scalar) →
     names_with (map n (xs ++ x ∷ [])) (map s (xs ++ x ∷ [])) others ≡ with_name (n x) (Some (s x)) (names_with (map n xs) (map s xs) others)
 names_push n s xs x others = names_also n s xs (x ∷ []) others
+
+-- of names with their scalars, the last counts
+pub last_bound : {A : Type 0} (n : A → Name) (s : A → Scalar) (xs : List A) (x : A) (others : Name → Option Scalar) (y : Name) →
+    names_with (map n (xs ++ x ∷ [])) (map s (xs ++ x ∷ [])) others y ≡ cond (same_name (n x) y) (Some (s x)) (names_with (map n xs) (map s xs) others y)
+last_bound n s [] x others y = refl
+last_bound n s (a ∷ xs) x others y = last_bound n s xs x (with_name (n a) (Some (s a)) others) y

@@ -1,8 +1,11 @@
-//! The scalars of what programs give, where names are on a stack.
+//! The scalars of what programs give, whatever names are around them.
 #![tactic(auto)]
 
+mod around;
+mod sequences;
 mod sorted;
 mod unit;
 
+pub use sequences::{Sequence, split};
 pub use sorted::scalars_given;
 pub use unit::Unit;

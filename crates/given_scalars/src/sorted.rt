@@ -1,31 +1,31 @@
 //! What a program gives, by the scalars of its values.
 
-ghost use Rattle.std.specs.Prelude.{◌≡◌, ◌<◌, ◌&&◌, ◌∷◌, [], map, string_bytes, IfOk, IfSome, IfNone, Option, Some};
+ghost use Rattle.std.specs.Prelude.{◌≡◌, ◌<◌, ◌&&◌, ◌∷◌, [], map, string_bytes, IfOk, Option, Some};
 ghost use Rattle.std.specs.Option.{option_map};
-ghost use Rattle.c_values.specs.Name.{Name, are_distinct, is_among};
+ghost use Rattle.c_values.specs.Name.{Name, are_distinct};
 ghost use Rattle.expression_lang.specs.Sort as plain;
 ghost use Rattle.expression_lang.specs.Sort.{sort_of_kind, is_kind, is_truth};
 ghost use Rattle.expression_lang.specs.Sorted.{names_with, same_scalars, scalar_in, program_sort, scalars_of, fits_place, call_scalars, result_scalars};
 ghost use Rattle.expression_lang.specs.Signature.{signature};
 ghost use Rattle.expression_lang.specs.CodeExpression.{exp_of, kind_of};
-ghost use Rattle.expression_lang.specs.CodeSignature.{signature_of};
 ghost use Rattle.expression_lang.specs.CodeSort.{scalar_of};
-ghost use Rattle.monad_lang.specs.declared.program.Mon.{size-Mon};
-ghost use Rattle.monad_lang.specs.Program as programs;
 ghost use Rattle.monad_lang.specs.CodeProgram.{mon_of, place_of, start_of};
 ghost use Rattle.monad_lang.specs.Run.{start_names};
 ghost use Rattle.monad_lang.specs.Sorted.{scalars_given, start_scalars, place_sort, where_fits, are_scalars, one_for_each};
 ghost use Rattle.program_sorts.specs.CodeSorts.{sort_for};
 ghost use Rattle.expression_steps.specs.CodePoint.{names_of, scalars_of as bound_scalars};
-ghost use Rattle.given_scalars.specs.CodeScalars.{scalars_in, setting_in, setting_also, IsNoBind};
+ghost use Rattle.given_scalars.specs.CodeScalars.{scalars_in, setting_over, setting_around, setting_within, IsNoBind};
 
+use crate::around::Around;
+use crate::sequences::split;
 use crate::unit::Unit;
-use expression_lang::{Exp, Kind, Scalar, Sort, are_distinct};
-use expression_steps::{Binding, Scoped};
+use expression_lang::{Exp, Kind, Scalar, Scope, Sort, are_distinct};
+use expression_steps::Binding;
 use monad_lang::{Mon, Place, Start};
 use program_sorts::{
     Phase, fits_global, fits_object, is_kind, is_test, may_take, program_sort, signature,
 };
+use rule_parts::is_started;
 use std::alloc::{AllocError, Global};
 
 // The names with more, each with its scalar.
@@ -58,9 +58,10 @@ fn bindings_also(
 }
 
 // The scalar of an expression.
-fn scalar_of(e: &Exp, names: &Scoped<'_>, unit: Unit<'_>) -> Option<Scalar>
+fn scalar_of<N: Scope>(e: &Exp, names: &Around<'_, N>, unit: Unit<'_>) -> Option<Scalar>
     ensures { option_map scalar_of result
-        ≡ scalar_in (program_sort (setting_in names.now unit.entry).scope (exp_of e.now)) }
+        ≡ scalar_in (program_sort (setting_around (N.scalars) names.now unit.entry).scope
+        (exp_of e.now)) }
 {
     match program_sort(e, names, unit.layout, unit.globals) {
         Some(Sort::Of(scalar)) => Some(scalar),
@@ -70,14 +71,15 @@ fn scalar_of(e: &Exp, names: &Scoped<'_>, unit: Unit<'_>) -> Option<Scalar>
 
 // The scalars of expressions.
 #[tactic(auto, using(crate::proofs::ScalarLaws::one_more, crate::proofs::ScalarLaws::none_there, crate::proofs::ScalarLaws::all_listed))]
-fn scalars_of(
+fn scalars_of<N: Scope>(
     alloc: Global,
     exps: &[Exp],
-    names: &Scoped<'_>,
+    names: &Around<'_, N>,
     unit: Unit<'_>,
 ) -> Result<Option<Vec<Scalar>>, AllocError>
     ensures { IfOk result (λ found. option_map scalars_in found
-        ≡ scalars_of (setting_in names.now unit.entry).scope (map exp_of exps.now)) }
+        ≡ scalars_of (setting_around (N.scalars) names.now unit.entry).scope
+        (map exp_of exps.now)) }
 {
     let mut scalars = Vec::new(alloc);
     let mut rest = exps;
@@ -93,14 +95,15 @@ fn scalars_of(
 
 // The scalars that names begin with.
 #[tactic(auto, using(crate::proofs::ScalarLaws::one_more, crate::proofs::ScalarLaws::none_there, crate::proofs::ScalarLaws::all_listed))]
-fn start_scalars(
+fn start_scalars<N: Scope>(
     alloc: Global,
     starts: &[Start],
-    names: &Scoped<'_>,
+    names: &Around<'_, N>,
     unit: Unit<'_>,
 ) -> Result<Option<Vec<Scalar>>, AllocError>
     ensures { IfOk result (λ found. option_map scalars_in found
-        ≡ start_scalars (setting_in names.now unit.entry).scope (map start_of starts.now)) }
+        ≡ start_scalars (setting_around (N.scalars) names.now unit.entry).scope
+        (map start_of starts.now)) }
 {
     let mut scalars = Vec::new(alloc);
     let mut rest = starts;
@@ -151,8 +154,8 @@ fn none_where(alloc: Global, holds: bool) -> Option<Vec<Scalar>>
     if holds { Some(Vec::new(alloc)) } else { None }
 }
 
-fn fits(place: &Place, value: &Exp, names: &Scoped<'_>, unit: Unit<'_>) -> bool
-    ensures { let g = (setting_in names.now unit.entry).scope in
+fn fits<N: Scope>(place: &Place, value: &Exp, names: &Around<'_, N>, unit: Unit<'_>) -> bool
+    ensures { let g = (setting_around (N.scalars) names.now unit.entry).scope in
         result
         ≡ fits_place (place_sort g (place_of place.now)) (program_sort g (exp_of value.now)) }
 {
@@ -170,14 +173,14 @@ fn fits(place: &Place, value: &Exp, names: &Scoped<'_>, unit: Unit<'_>) -> bool
 }
 
 // What a call gives.
-fn called(
+fn called<N: Scope>(
     alloc: Global,
     function: &str,
     arguments: &[Exp],
-    names: &Scoped<'_>,
+    names: &Around<'_, N>,
     unit: Unit<'_>,
 ) -> Result<Option<Vec<Scalar>>, AllocError>
-    ensures { IfOk result (λ found. let t = setting_in names.now unit.entry in
+    ensures { IfOk result (λ found. let t = setting_around (N.scalars) names.now unit.entry in
         option_map scalars_in found
         ≡ call_scalars t.sort_for (signature t.functions function.now) (scalars_of t.scope
         (map exp_of arguments.now))) }
@@ -226,45 +229,33 @@ fn picked(alloc: Global, kind: Kind) -> Result<Option<Vec<Scalar>>, AllocError>
     Ok(Some(scalars))
 }
 
-// A first part with the names of its values, and what comes behind it.
-#[derive(Clone, Copy)]
-struct Sequence<'a> {
-    first: &'a Mon,
-    names: &'a [String],
-    last: &'a Mon,
-}
-
-// The first part of a program and what comes behind it, where it is a sequence.
-fn split(m: &Mon) -> Option<Sequence<'_>>
-    ensures some { IfSome result (λ it. mon_of m.now
-        ≡ programs.Bind (mon_of it.first.now) (map string_bytes it.names.now)
-        (mon_of it.last.now)) }
-    ensures first { IfSome result (λ it. size-Mon it.first.now < size-Mon m.now) }
-    ensures last { IfSome result (λ it. size-Mon it.last.now < size-Mon m.now) }
-    ensures none { IfNone result (IsNoBind (mon_of m.now)) }
-{
-    match m {
-        Mon::Bind(first, names, last) => Some(Sequence {
-            first: &**first,
-            names,
-            last: &**last,
-        }),
-        _ => None,
-    }
-}
-
-/// The scalars of what a well-sorted program gives; none where it isn't well-sorted. It goes along
-/// the last programs by a loop, since a text may have long sequences.
-#[cycle(sorted)]
-#[tactic(auto, using(crate::proofs::SortedLaws::bind_none))]
-pub fn scalars_given(
+/// The scalars of what a well-sorted program gives, with these names around it; none where it isn't
+/// well-sorted.
+pub fn scalars_given<N: Scope>(
     alloc: Global,
     m: &Mon,
-    names: &Scoped<'_>,
+    names: &N,
     unit: Unit<'_>,
 ) -> Result<Option<Vec<Scalar>>, AllocError>
     ensures { IfOk result (λ found. option_map scalars_in found
-        ≡ scalars_given (setting_in names.now unit.entry) (mon_of m.now)) }
+        ≡ scalars_given (setting_over unit.entry (N.scalars names.now)) (mon_of m.now)) }
+{
+    let around = Around::Outer(names);
+    scalars_around(alloc, m, &around, unit)
+}
+
+// The same, where some names are the program's own. It goes along the last programs by a loop,
+// since a text may have long sequences.
+#[cycle(sorted)]
+#[tactic(auto, using(crate::proofs::SortedLaws::bind_none))]
+fn scalars_around<N: Scope>(
+    alloc: Global,
+    m: &Mon,
+    names: &Around<'_, N>,
+    unit: Unit<'_>,
+) -> Result<Option<Vec<Scalar>>, AllocError>
+    ensures { IfOk result (λ found. option_map scalars_in found
+        ≡ scalars_given (setting_around (N.scalars) names.now unit.entry) (mon_of m.now)) }
 {
     let mut bound = Vec::new(alloc);
     let mut rest = m;
@@ -285,47 +276,49 @@ pub fn scalars_given(
 
 // The same where more names are in scope.
 #[cycle(sorted)]
-fn given_behind<'x>(
+fn given_behind<'x, N: Scope>(
     alloc: Global,
     m: &Mon,
-    names: &'x Scoped<'x>,
+    names: &'x Around<'x, N>,
     bound: &'x [Binding],
     unit: Unit<'_>,
 ) -> Result<Option<Vec<Scalar>>, AllocError>
     ensures { IfOk result (λ found. option_map scalars_in found
-        ≡ scalars_given (setting_also names.now bound.now unit.entry) (mon_of m.now)) }
+        ≡ scalars_given (setting_within (N.scalars) names.now bound.now unit.entry)
+        (mon_of m.now)) }
 {
-    let inner = Scoped::Within(names, bound);
-    scalars_given(alloc, m, &inner, unit)
+    let inner = Around::Within(names, bound);
+    scalars_around(alloc, m, &inner, unit)
 }
 
 #[cycle(sorted)]
-fn last_behind<'x>(
+fn last_behind<'x, N: Scope>(
     alloc: Global,
     m: &Mon,
-    names: &'x Scoped<'x>,
+    names: &'x Around<'x, N>,
     bound: &'x [Binding],
     unit: Unit<'_>,
 ) -> Result<Option<Vec<Scalar>>, AllocError>
     requires { IsNoBind (mon_of m.now) }
     ensures { IfOk result (λ found. option_map scalars_in found
-        ≡ scalars_given (setting_also names.now bound.now unit.entry) (mon_of m.now)) }
+        ≡ scalars_given (setting_within (N.scalars) names.now bound.now unit.entry)
+        (mon_of m.now)) }
 {
-    let inner = Scoped::Within(names, bound);
+    let inner = Around::Within(names, bound);
     last_given(alloc, m, &inner, unit)
 }
 
 // The same of a program that isn't a sequence.
 #[cycle(sorted)]
-fn last_given(
+fn last_given<N: Scope>(
     alloc: Global,
     m: &Mon,
-    names: &Scoped<'_>,
+    names: &Around<'_, N>,
     unit: Unit<'_>,
 ) -> Result<Option<Vec<Scalar>>, AllocError>
     requires { IsNoBind (mon_of m.now) }
     ensures { IfOk result (λ found. option_map scalars_in found
-        ≡ scalars_given (setting_in names.now unit.entry) (mon_of m.now)) }
+        ≡ scalars_given (setting_around (N.scalars) names.now unit.entry) (mon_of m.now)) }
 {
     match m {
         Mon::Ret(values) => scalars_of(alloc, values, names, unit),
@@ -337,13 +330,13 @@ fn last_given(
         Mon::Call(function, arguments) => called(alloc, function.as_str(), arguments, names, unit),
         Mon::Pick(kind) => picked(alloc, *kind),
         Mon::If(test, first, last) => {
-            let Some(scalars) = scalars_given(alloc, first, names, unit)? else {
+            let Some(scalars) = scalars_around(alloc, first, names, unit)? else {
                 return Ok(None);
             };
             if !is_test(test, names, unit.layout, unit.globals) {
                 return Ok(None);
             }
-            match scalars_given(alloc, last, names, unit)? {
+            match scalars_around(alloc, last, names, unit)? {
                 Some(others) if same_scalars(&scalars, &others) => Ok(Some(scalars)),
                 _ => Ok(None),
             }
@@ -398,8 +391,14 @@ fn bound_starts(
 }
 
 // Whether the names are distinct, and the guard and the test are tests.
-fn is_turn(starts: &[Start], guard: &Exp, test: &Exp, names: &Scoped<'_>, unit: Unit<'_>) -> bool
-    ensures { let g = (setting_in names.now unit.entry).scope in
+fn is_turn<N: Scope>(
+    starts: &[Start],
+    guard: &Exp,
+    test: &Exp,
+    names: &Around<'_, N>,
+    unit: Unit<'_>,
+) -> bool
+    ensures { let g = (setting_around (N.scalars) names.now unit.entry).scope in
         result
         ≡ (are_distinct (start_names (map start_of starts.now))
         && is_truth (program_sort g (exp_of guard.now))
@@ -410,21 +409,21 @@ fn is_turn(starts: &[Start], guard: &Exp, test: &Exp, names: &Scoped<'_>, unit: 
         && is_test(test, names, unit.layout, unit.globals)
 }
 
-fn is_turn_behind<'x>(
+fn is_turn_behind<'x, N: Scope>(
     starts: &[Start],
     guard: &Exp,
     test: &Exp,
-    names: &'x Scoped<'x>,
+    names: &'x Around<'x, N>,
     bound: &'x [Binding],
     unit: Unit<'_>,
 ) -> bool
-    ensures { let g = (setting_also names.now bound.now unit.entry).scope in
+    ensures { let g = (setting_within (N.scalars) names.now bound.now unit.entry).scope in
         result
         ≡ (are_distinct (start_names (map start_of starts.now))
         && is_truth (program_sort g (exp_of guard.now))
         && is_truth (program_sort g (exp_of test.now))) }
 {
-    let inner = Scoped::Within(names, bound);
+    let inner = Around::Within(names, bound);
     is_turn(starts, guard, test, &inner, unit)
 }
 
@@ -434,23 +433,10 @@ fn are_distinct_starts(starts: &[Start]) -> bool
 {
     let mut rest = starts;
     'starts: while let Some((first, others)) = rest.split_first() {
-        if is_started(others, first.name.as_str()) {
+        if is_started(first.name.as_str(), others) {
             return false;
         }
         rest = others;
     }
     true
-}
-
-fn is_started(starts: &[Start], name: &str) -> bool
-    ensures { result ≡ is_among name.now (start_names (map start_of starts.now)) }
-{
-    let mut rest = starts;
-    'starts: while let Some((first, others)) = rest.split_first() {
-        if first.name.as_str() == name {
-            return true;
-        }
-        rest = others;
-    }
-    false
 }

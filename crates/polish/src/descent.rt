@@ -14,10 +14,9 @@ ghost use Rattle.polish.specs.SeenFollowed.{stage};
 ghost use Rattle.polish.specs.CodeDescent.{setting_past, kept_names, given_names, IsKept, IsDeeper};
 ghost use Rattle.rule_walks.specs.CodeWalks.{walk_in, before_in};
 
-use crate::sequences::Sequence;
 use expression_lang::{Scalar, copy_names};
 use expression_steps::{PassedPart, Scoped};
-use given_scalars::{Unit, scalars_given};
+use given_scalars::{Sequence, Unit, scalars_given};
 use monad_lang::{Mon, boxed};
 use rule_eq::Rule;
 use rule_walks::{Ahead, Walk, in_both, leaf, led, one};

@@ -12,10 +12,10 @@ ghost use Rattle.polish.specs.CodeNextView.{next_in};
 ghost use Rattle.polish.specs.SeenFollowed.{turns};
 
 use crate::putting::first_constant;
-use crate::sequences::{Sequence, split};
 use crate::settling::is_bind_ret;
 use ac_expr::Facts;
 use expression_steps::{Passed, PassedPart, facts_behind, holds};
+use given_scalars::{Sequence, split};
 use monad_lang::Mon;
 use std::alloc::AllocError;
 use value_putting::all_kept;

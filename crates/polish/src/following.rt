@@ -15,10 +15,9 @@ ghost use Rattle.polish.specs.Followed.{LeadsOn, IsBottom};
 
 use crate::descent::{Descent, Parted, led_to, parted_at, turned_level, with_part};
 use crate::entering::{Next, next_behind, to_turn};
-use crate::sequences::Sequence;
 use ac_expr::Facts;
 use expression_steps::{Passed, Scoped};
-use given_scalars::Unit;
+use given_scalars::{Sequence, Unit};
 use monad_lang::Mon;
 use rule_eq::Rule;
 use rule_walks::{Ahead, Walk, Walked, at_once, in_both, joined, leaf, led, one};

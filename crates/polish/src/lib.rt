@@ -9,7 +9,6 @@ mod laws;
 mod polishing;
 mod putting;
 mod rewriting;
-mod sequences;
 mod settling;
 mod translation;
 mod turning;

@@ -12,9 +12,8 @@ ghost use Rattle.polish.specs.Followed.{IsTurned};
 
 use crate::descent::{Descent, assoc_level, with_part};
 use crate::entering::to_turn;
-use crate::sequences::Sequence;
 use expression_steps::Scoped;
-use given_scalars::Unit;
+use given_scalars::{Sequence, Unit};
 use monad_lang::Mon;
 use rule_walks::Ahead;
 use std::alloc::{AllocError, Global};

@@ -4,8 +4,6 @@ pub mod KnownLaws
 pub mod RangeLaws
 pub mod Powers
 pub mod StandingShape
-pub mod PointLaws
-pub mod ScalarLaws
 pub mod PassingLaws
 pub mod Seeing
 pub mod GuardLaws
@@ -14,7 +12,6 @@ pub mod WholeLaws
 pub mod BoundLaws
 pub mod FrontLaws
 pub mod TakenThere
-pub mod SortedLaws
 pub mod OkLaws
 pub mod Mapped
 pub mod TreeLists

@@ -14,7 +14,6 @@ pub mod CodePaths
 pub mod CodePoints
 pub mod CodeRanges
 pub mod CodeRecasting
-pub mod CodeScalars
 pub mod CodeScenes
 pub mod CodeStanding
 pub mod CodeTranslated

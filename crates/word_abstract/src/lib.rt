@@ -13,8 +13,6 @@ mod paths;
 mod points;
 mod programs;
 mod ranges;
-mod sequences;
-mod sorted;
 mod standing;
 mod steps;
 mod translated;

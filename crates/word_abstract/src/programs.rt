@@ -7,7 +7,7 @@ ghost use Rattle.monad_lang.specs.CodeProgram.{mon_of, start_of};
 ghost use Rattle.rule_word.specs.ProgramsAbstracted.{kinds_for, scalars_there};
 ghost use Rattle.monad_lang.specs.Sorted.{scalars_given};
 ghost use Rattle.rule_word.specs.Scopes.{words};
-ghost use Rattle.word_abstract.specs.CodeScalars.{IsNoBind};
+ghost use Rattle.given_scalars.specs.CodeScalars.{IsNoBind};
 ghost use Rattle.word_abstract.specs.CodeFrontsAt.{IsFrontAt};
 ghost use Rattle.word_abstract.specs.CodeTrees.{with_trees};
 ghost use Rattle.word_abstract.specs.CodeAbstracted.{abstracted_in};
@@ -21,14 +21,13 @@ use crate::kinds::{copy_kinds, kinds_for};
 use crate::lists::{AbstractedStarts, guard_at, starts_at, test_at};
 use crate::passing::{Front, closed, none_passed, pass};
 use crate::points::Scene;
-use crate::sequences::split;
-use crate::sorted::{Scalars, scalars_given};
 use crate::steps::step;
 use crate::translated::{Translated, made};
 use crate::trees::{alone, and_then};
 use expression_lang::{Exp, Kind, copy_names};
+use given_scalars::{Unit, scalars_given, split};
 use monad_lang::{Mon, Start};
-use rule_trees::Tree;
+use program_sorts::Phase;
 use rule_word::Rule;
 use std::alloc::{AllocError, Global};
 
@@ -44,9 +43,15 @@ fn kinds_there(
         (scalars_there (scalars_given (words (context_at at.now) (binders_at at.now))
         (mon_of m.now)))) }
 {
-    let words = Scalars::Words(at.names);
     let setting = at.setting;
-    match scalars_given(alloc, m, &words, setting.context)? {
+    let context = setting.context;
+    let unit = Unit {
+        layout: context.layout,
+        globals: context.globals,
+        functions: context.functions,
+        phase: Phase::OnWords,
+    };
+    match scalars_given(alloc, m, at.names, unit)? {
         Some(scalars) => kinds_for(alloc, setting.locals, names, &scalars),
         None => kinds_for(alloc, setting.locals, names, &[]),
     }
