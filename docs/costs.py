@@ -44,8 +44,12 @@ def kind_of(words):
     """The crate that a check is of, and what of it; None for any other process."""
     if not os.path.basename(words[0]) == "rattle" or "--crate-name" not in words[:-1]:
         return None
-    kind = "edits" if "check" in words[1:2] else "tests" if "--test" in words else "proof"
-    return words[words.index("--crate-name") + 1], kind
+    crate = words[words.index("--crate-name") + 1]
+    if "--test" in words:
+        return crate, "tests"
+    # A library is built where it is proved. What is checked alone is an edit's crate, or a program.
+    has_edits = os.path.isdir(f"{TOP}/crates/{crate}/must-fail")
+    return crate, "edits" if "check" in words[1:2] and has_edits else "proof"
 
 
 def measure(command):
