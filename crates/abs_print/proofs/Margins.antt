@@ -92,9 +92,3 @@ step_written margin out with_margin with_names written whole new m xs n so_far e
     ∙ append_assoc out margin (names_text xs ++ (going_on margin (as_step m (lines m)) ++ at_margin margin (lines n)))
     ∙ ap (λ t. out ++ t) (sym (margin_bind margin m xs n))
     ∙ so_far
-
--- the last step of a sequence is written
-pub last_written : (margin out with_margin written whole : Text) (m : Mon) → IsStep m → out ++ at_margin margin (lines m) ≡ whole →
-    with_margin ≡ out ++ margin → written ≡ with_margin ++ going_on margin (lines m) → written ≡ whole
-last_written margin out with_margin written whole m h so_far e f =
-    f ∙ ap (λ t. t ++ going_on margin (lines m)) e ∙ append_assoc out margin (going_on margin (lines m)) ∙ ap (λ t. out ++ t) (sym (margin_step margin m h)) ∙ so_far

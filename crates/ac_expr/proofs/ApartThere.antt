@@ -310,31 +310,9 @@ module _ (g : Scope) (fs : List Fact) (a b : Exp) (no_shorter : IsStep g fs a b 
       OneStepApart g gs x y ↔ OneStepApart g fs a b
   by_child gs x y e h = (λ k. is_apart g fs a b (inr (inr (e, h.1 k))), λ k. h.0 (within k).1)
 
--- a head that no other expression has
-pub and_there : (e a b : Exp) → head e ≡ head (And a b) → ((c d : Exp) → e ≡ And c d → ⊥) → ⊥
-and_there (And c d) a b h k = k c d refl
-and_there e a b h k = cc
-
-pub or_there : (e a b : Exp) → head e ≡ head (Or a b) → ((c d : Exp) → e ≡ Or c d → ⊥) → ⊥
-or_there (Or c d) a b h k = k c d refl
-or_there e a b h k = cc
-
-pub imp_there : (e a b : Exp) → head e ≡ head (Imp a b) → ((c d : Exp) → e ≡ Imp c d → ⊥) → ⊥
-imp_there (Imp c d) a b h k = k c d refl
-imp_there e a b h k = cc
-
 pub if_there : (e c a b : Exp) → head e ≡ head (If c a b) → ((d x y : Exp) → e ≡ If d x y → ⊥) → ⊥
 if_there (If d x y) c a b h k = k d x y refl
 if_there e c a b h k = cc
-
--- facts at the children of other heads
-pub plain_facts : (fs : List Fact) (e : Exp) → ((a b : Exp) → e ≡ And a b → ⊥) → ((a b : Exp) → e ≡ Or a b → ⊥) → ((a b : Exp) → e ≡ Imp a b → ⊥) →
-    ((c a b : Exp) → e ≡ If c a b → ⊥) → child_facts fs e ≡ at_each fs (children e)
-plain_facts fs (And a b) h i j k = absurd (h a b refl)
-plain_facts fs (Or a b) h i j k = absurd (i a b refl)
-plain_facts fs (Imp a b) h i j k = absurd (j a b refl)
-plain_facts fs (If c a b) h i j k = absurd (k c a b refl)
-plain_facts fs e h i j k = refl
 
 -- an expression and itself
 

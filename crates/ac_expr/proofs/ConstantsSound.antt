@@ -140,9 +140,6 @@ module _ (l : Layout) where
     pub constants : has test e ≡ false
     pub value : at e ≡ v
 
-  not_wide : (e : Exp) (w v : Value) → w ≡ v → is_wide v ≡ false → is_wide w ≡ false
-  not_wide e w v h k = ap is_wide h ∙ k
-
   -- a value of an expression of constants isn't wide
   pub itself_not_wide : (e : Exp) → has test e ≡ false → is_wide (at e) ≡ false
   itself_not_wide e h = by (test e) refl

@@ -1,5 +1,5 @@
 -- What first sides tell of two expressions.
-use Rattle.std.proofs.Common.{◌≡◌, Option, Some, None, sym, ap, ◌∙◌}
+use Rattle.std.proofs.Common.{◌≡◌, Some, None, sym, ap, ◌∙◌}
 use Rattle.expression_lang.specs.Expression.{Exp}
 use Rattle.ac_expr.specs.CodeFirstSides.{first_side}
 

@@ -2,7 +2,7 @@
 use Rattle.std.proofs.Common.{◌≡◌, List, [], ◌∷◌, inl, inr, refl, sym, subst}
 use Rattle.expression_lang.specs.Expression.{Exp, Between, And, Imp}
 use Rattle.ac_expr.specs.Fact.{Fact, stands_for}
-use Rattle.ac_expr.specs.Known.{SomeFact, GivesAtOnce, Gives, IsKnown}
+use Rattle.ac_expr.specs.Known.{SomeFact, GivesAtOnce, Gives}
 
 -- given by a fact; and by one without an implication
 abbrev pub IsGiven : List Fact → Exp → Type 0
@@ -28,10 +28,6 @@ gives_more f fs x e h = h
 
 pub given_more : (f : Fact) (fs : List Fact) (e : Exp) → IsGiven fs e → IsGiven (f ∷ fs) e
 given_more f fs e h = inr (some_map (λ x. Gives fs x e) (λ x. Gives (f ∷ fs) x e) (λ x k. gives_more f fs x e k) fs h)
-
-pub known_more : (f : Fact) (fs : List Fact) (e : Exp) → IsKnown fs e → IsKnown (f ∷ fs) e
-known_more f fs e (inl h) = inl h
-known_more f fs e (inr h) = inr (given_more f fs e h)
 
 -- an expression gives itself
 gives_itself : (fs : List Fact) (e : Exp) → Gives fs e e

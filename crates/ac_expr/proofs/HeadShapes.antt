@@ -1,7 +1,7 @@
 -- Heads and children by shape.
-use Rattle.std.proofs.Common.{◌≡◌, ◌↔◌, IsTrue, Bool, refl, sym, ap, ◌∙◌}
+use Rattle.std.proofs.Common.{◌≡◌, refl, sym, ap, ◌∙◌}
 use Rattle.expression_lang.specs.Expression.{Exp, Var, WordLit, NumberLit, TruthLit, WordBinary, WordShift, WordUnary, WordCompare, Cast, ToNat, ToInt, ToWord, Arith, Negate, Lt, Le, Between, Eq, And, Or, Imp, Not, If, Padd, At, Load, Read, Tagged, PtrOk, Global, Sel, Upd}
-use Rattle.expression_lang.specs.CodeShape.{Shape, shape_of, whole}
+use Rattle.expression_lang.specs.CodeShape.{shape_of, whole}
 use Rattle.expression_lang.proofs.ShapeLaws.{whole_shape}
 use Rattle.ac_expr.specs.Heads.{children, head}
 use Rattle.ac_expr.specs.CodeHeads.{bare, shape_children}

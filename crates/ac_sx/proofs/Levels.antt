@@ -62,9 +62,6 @@ low_acted b c low within = by (c == opening) (c == closing) within
     by false true le = low_left b.parts b.around low.0 low.1
     by false false le = low
 
-opening_behind : (n : ℕ) → lists_behind opening n ≡ n + 1
-opening_behind n = omega arith
-
 atom_behind : (b n : ℕ) → is_atom_byte b ≡ true → lists_behind b n ≡ n
 atom_behind b n e = cond-false (b == opening) (suc n) (if b == closing then n - 1 else n) (atom_byte_is b e).0 ∙ cond-false (b == closing) (n - 1) n (atom_byte_is b e).1
 
@@ -178,6 +175,3 @@ put_low old new e (inr put) low here = λ i t at. by i t (slice_get_pushed (tree
     by : (i : ℕ) (t : Tree) → (slice_get (trees_of old) i ≡ Some t) ⊎ (tree_among (trees_of old) e ≡ t) → depth t ≤ deepest
     by i t (inl before) = low i t before
     by i t (inr same) = subst (λ u. depth u ≤ deepest) same here
-
-pub some_around : (b : Building) (ts : Trees) (outer : List Trees) → IsLow b → b.around ≡ ts ∷ outer → depth (Node b.parts) ≤ deepest
-some_around b ts outer low e = let here = low.0 in let long = ap length e in omega (arith, here, long)

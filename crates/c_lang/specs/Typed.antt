@@ -1,11 +1,10 @@
 -- Typed units as plain trees (C99 6.3, 6.5, 6.8). Conversions, promotions, the decay of array places and the operation of a
 -- compound assignment are explicit; locals have names of their own, so that no scope is left; calls, switches and
 -- do-whiles have numbers from 1 on, each in the order of the text of its function.
-use Rattle.std.specs.Prelude.{ℕ, ℤ, Bool, List, [], ◌∷◌, Option, Some, None, if◌then◌else◌}
-use Rattle.c_values.specs.Name.{Name, same_name}
+use Rattle.std.specs.Prelude.{ℕ, ℤ, Bool, List, [], ◌∷◌, Option}
+use Rattle.c_values.specs.Name.{Name}
 use Rattle.c_values.specs.Types.{IntType, Int, CType, Integer, Ptr}
 use Rattle.c_values.specs.Program.{Program, function_named}
-use Rattle.c_values.specs.Layout.{Layout, GlobalVar}
 
 pub data Arithmetic : Type 0 where
   Add : Arithmetic

@@ -1,5 +1,5 @@
 -- The first reason that holds.
-use Rattle.std.proofs.Common.{◌≡◌, ℕ, zero, suc, min, true, false, cond, List, [], ◌∷◌, get_or, map, Option, Some, None, refl, sym, ap, ◌∙◌, subst}
+use Rattle.std.proofs.Common.{◌≡◌, ℕ, zero, suc, min, true, false, List, [], ◌∷◌, get_or, map, Option, Some, None, refl, sym, ap, ◌∙◌, subst}
 use Rattle.std.specs.List.{list_all}
 use Rattle.std.proofs.lemmas.Bool.{cond-true, cond-false}
 use Rattle.c_values.specs.Name.{Name, is_among}

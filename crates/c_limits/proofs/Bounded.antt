@@ -13,7 +13,7 @@ use Rattle.c_limits.specs.declared.limits.role.Role.{Role}
 use Rattle.c_limits.specs.declared.limits.role.Role.TheVariants as roles
 use Rattle.c_limits.specs.declared.limits.bounds.Bounds.{Bounds}
 use Rattle.c_limits.specs.Limits as limits
-use Rattle.c_limits.specs.Limits.{Measure, Fault, nothing, beside, leftmost, most, past, earlier, unit, first_limit}
+use Rattle.c_limits.specs.Limits.{Measure, nothing, past, earlier, unit, first_limit}
 use Rattle.c_limits.specs.CodeRoles.{arity, role_of}
 use Rattle.c_limits.specs.CodeMeasure.{Part, empty, gathered, made, pushed, reduced}
 use Rattle.c_limits.specs.CodeBounds.{none, apart, behind, deepest, is_within, nested, stay_within}

@@ -1,5 +1,5 @@
 -- The steps of the code on its stack of depths, against those of the list of them.
-use Rattle.std.proofs.Common.{ℕ, ◌≡◌, ◌∙◌, ◌<◌, ◌≤◌, ◌+◌, ◌-◌, ◌++◌, max, List, [], ◌∷◌, zero, suc, reverse, refl, ap, sym, arith}
+use Rattle.std.proofs.Common.{ℕ, ◌≡◌, ◌∙◌, ◌<◌, ◌+◌, ◌-◌, ◌++◌, max, List, [], ◌∷◌, suc, reverse, ap, sym, arith}
 use Rattle.std.proofs.lemmas.List.{reverse-append}
 use Rattle.c_limits.specs.CodeBounds.{deepest}
 
@@ -14,12 +14,3 @@ deepest_more count i xs ys x depth next h popped made_next =
     let left : count - i ≡ suc (count - (i + 1)) = omega arith in
     ap (λ d. deepest (count - (i + 1)) (reverse ys) d) made_next
     ∙ sym (ap (λ n. deepest n (reverse xs) depth) left ∙ ap (λ ds. deepest (suc (count - (i + 1))) ds depth) (depth_pushed ys xs x popped))
-
--- all depths have been taken
-pub deepest_all : (count i : ℕ) (ds : List ℕ) (depth : ℕ) → count ≤ i → deepest (count - i) ds depth ≡ (depth, ds)
-deepest_all count i ds depth h = let none : count - i ≡ 0 = omega arith in ap (λ n. deepest n ds depth) none
-
--- no depth is left
-pub deepest_none : (n depth : ℕ) → deepest n [] depth ≡ (depth, [])
-deepest_none zero depth = refl
-deepest_none (suc n) depth = refl

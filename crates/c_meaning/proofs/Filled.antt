@@ -1,5 +1,5 @@
 -- What a C statement does under a fill number it may do under any choice.
-use Rattle.std.proofs.Common.{ℕ, Option, Some, None, List, ◌⊎◌, ℤ, inl, inr, Bool, true, false}
+use Rattle.std.proofs.Common.{ℕ, Option, Some, None, List, ◌⊎◌, ℤ, Bool}
 use Rattle.correspondence.specs.Outcome.{Ends}
 use Rattle.correspondence.specs.Included.{Included, AllIncluded}
 use Rattle.correspondence.proofs.Included.{included_itself, then_included, choose_included, loop_included, called_included, below_included}

@@ -6,7 +6,7 @@ use Rattle.std.proofs.lemmas.Bool.{false≢true}
 use Rattle.c_values.specs.Word.{Word}
 use Rattle.c_values.specs.declared.values.Value as V
 use Rattle.c_values.specs.Types.{CType, Integer, Void, Ptr, Struct, Array}
-use Rattle.c_values.specs.Value.{Value, Values, Bits, Number, Truth, Parts, no_values, more}
+use Rattle.c_values.specs.Value.{Value, Bits, Number, Truth, Parts, no_values, more}
 use Rattle.c_values.specs.Layout.{Layout, IsLayout, Shape, Incomplete, Scalar, Record, Row, Fields, no_fields, field, size, type_of, is_scalar, is_object, shape_of, size_of}
 use Rattle.c_values.specs.Path.{Field, step_spot}
 use Rattle.c_values.specs.CodeValue.{value_of}
@@ -39,9 +39,6 @@ last_values [] zero h = refl
 last_values [] (suc k) h = refl
 last_values (w ∷ ws) zero h = absurd cc
 last_values (w ∷ ws) (suc k) h = last_values ws k h
-
-no_members : (space : ℕ) (a : ℕ) (vs : Values) (bytes : ℕ → ℕ) → stored_members space no_fields a vs bytes ≡ bytes
-no_members space a vs bytes = refl
 
 no_parts : (space : ℕ) (fs : Fields) (a : ℕ) (bytes : ℕ → ℕ) → stored_members space fs a no_values bytes ≡ bytes
 no_parts space no_fields a bytes = refl
@@ -112,14 +109,6 @@ module _ (space : ℕ) (a : ℕ) (vs : List V.Value) where
       sym (no_elements (λ b v bs. store space e b v bs) (size e) (a + i * size e) (n - i) old)
       ∙ sym (ap (λ ws. stored_elements (λ b v bs. store space e b v bs) (size e) (a + i * size e) (n - i) ws old) (last_values vs i none))
       ∙ before
-
-  pub elements_ended : (e : Shape) (n i : ℕ) (old first : ℕ → ℕ) → n ≤ i →
-      stored_elements (λ b v bs. store space e b v bs) (size e) (a + i * size e) (n - i) (values_in (drop i vs)) old
-      ≡ stored_elements (λ b v bs. store space e b v bs) (size e) a n (values_in vs) first →
-      old ≡ stored_elements (λ b v bs. store space e b v bs) (size e) a n (values_in vs) first
-  elements_ended e n i old first le before =
-      let zero_left : n - i ≡ 0 = omega arith in
-      sym (ap (λ m. stored_elements (λ b v bs. store space e b v bs) (size e) (a + i * size e) m (values_in (drop i vs)) old) zero_left) ∙ before
 
 pub member_within : (l : Layout) (x : _) (k o : ℕ) (u : CType) → IsLayout l → is_object l (Struct x) ≡ true →
     step_spot (shape_of l (Struct x)) (Field k) ≡ Some (record { offset = pos o; shape = shape_of l u }) → o + size_of l u ≤ size_of l (Struct x)

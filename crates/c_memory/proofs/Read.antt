@@ -2,11 +2,10 @@
 use Rattle.std.proofs.Common.{◌≡◌, ℕ, true, List, false, Option, Some, None, is_some, IfSome, IfNone, ap, sym, ◌∙◌}
 use Rattle.std.specs.Prelude.{IsSomeAnd}
 use Rattle.c_values.specs.Types.{CType}
-use Rattle.c_values.specs.Value.{Value}
 use Rattle.c_values.specs.Layout.{Layout, shape_of, space, is_scalar, is_object, IsLayout, type_of}
 use Rattle.c_values.specs.Path.{Spot}
-use Rattle.c_memory.specs.Memory.{Tag, load, load_spot, store, store_spot}
-use Rattle.c_memory.specs.CodePlace.{Place, place_of, place_from}
+use Rattle.c_memory.specs.Memory.{Tag}
+use Rattle.c_memory.specs.CodePlace.{place_of, place_from}
 use Rattle.c_values.proofs.Laid.{shape_type}
 use Rattle.c_memory.specs.Tags.{is_covered}
 use Rattle.c_memory.specs.CodeTagIndex.{Covers}
@@ -15,15 +14,6 @@ use Rattle.c_memory.proofs.Neighbours.{covered_at}
 
 some_same : {A : Type 0} {a b : A} → ◌≡◌ {A = Option A} (Some a) (Some b) → a ≡ b
 some_same h = cc
-
--- what is loaded at the place of a spot
-pub place_loaded : (space : ℕ) (bytes : ℕ → ℕ) (a : ℕ) (o : Option Spot) (p : Place) → Some p ≡ place_from space a o → load_spot space bytes a o ≡ load space bytes p.shape p.address
-place_loaded space bytes a None p h = absurd cc
-place_loaded space bytes a (Some q) p h = let e = some_same h in sym (ap (λ r. load space bytes r.shape r.address) e)
-
-pub place_stored : (space : ℕ) (bytes : ℕ → ℕ) (a : ℕ) (o : Option Spot) (p : Place) (v : Value) → Some p ≡ place_from space a o → store_spot space a o v bytes ≡ store space p.shape p.address v bytes
-place_stored space bytes a None p v h = absurd cc
-place_stored space bytes a (Some q) p v h = let e = some_same h in sym (ap (λ r. store space r.shape r.address v bytes) e)
 
 -- at a place of a scalar lies a scalar
 pub scalar_place : (l : Layout) (a : ℕ) (o : Option Spot) (b : ℕ) (u : CType) → IsLayout l → is_object l u ≡ true → Some (place_of l b u) ≡ place_from (space l) a o →

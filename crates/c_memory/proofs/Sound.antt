@@ -1,5 +1,5 @@
 -- A tag without a fault is a tag beside the earlier ones.
-use Rattle.std.proofs.Common.{◌≡◌, ℕ, zero, suc, ◌+◌, ◌%◌, ◌<◌, nat_eq, nat_lt, nat_le, ◌⊎◌, inl, inr, Bool, true, false, not, ◌&&◌, ◌||◌, cond, List, [], ◌∷◌, ◌++◌, Option, Some, None, slice_get, refl, ap, ◌∙◌, subst, arith}
+use Rattle.std.proofs.Common.{◌≡◌, ℕ, zero, suc, ◌+◌, ◌%◌, ◌<◌, nat_eq, nat_lt, nat_le, ◌⊎◌, inl, inr, Bool, true, false, not, ◌&&◌, ◌||◌, cond, List, [], ◌∷◌, ◌++◌, Option, Some, None, slice_get, refl, subst, arith}
 use Rattle.std.proofs.lemmas.Bool.{and_parts, leb-true}
 use Rattle.std.proofs.lemmas.Bool.Decides.{nat_tests}
 use Rattle.c_memory.specs.declared.faults.HeapFault.{HeapFault}
@@ -9,7 +9,7 @@ use Rattle.c_values.proofs.Formed.{formed_alignment, some_bytes}
 use Rattle.c_values.proofs.Laid.{shape_good}
 use Rattle.c_memory.specs.Memory.{Tag}
 use Rattle.c_memory.specs.Tags.{IsTag, AreApart, ApartFrom, AreTags}
-use Rattle.c_memory.specs.TagFault.{are_apart, is_apart, tag_fault, or_else, first_fault, IsRoot}
+use Rattle.c_memory.specs.TagFault.{are_apart, is_apart, tag_fault, IsRoot}
 use Rattle.c_memory.proofs.Objects.{object_complete}
 use Rattle.c_memory.proofs.Rows.{object_some}
 
@@ -91,13 +91,3 @@ sound_address l (v ∷ vs) t h tags some apart (suc j) u e =
 pub fault_address : (l : Layout) (ts : List Tag) (k : ℕ) (t : Tag) → IsLayout l → AreTags l ts → is_object l t.type ≡ true → tag_fault l ts k t ≡ None →
     (j : ℕ) (u : Tag) → slice_get ts j ≡ Some u → u.address ≡ t.address → ⊥
 fault_address l ts k t h tags object e = sound_address l ts t h tags (object_some l t.type h object) (parts l ts k t e).apart
-
--- after one tag without a fault
-pub next_fault : (l : Layout) (ts : List Tag) (k : ℕ) (t : Tag) (us : List Tag) → tag_fault l ts k t ≡ None → first_fault l ts k (t ∷ us) ≡ first_fault l (ts ++ t ∷ []) (k + 1) us
-next_fault l ts k t us e =
-    let one : suc k ≡ k + 1 = omega arith in
-    ap (λ o. or_else o (first_fault l (ts ++ t ∷ []) (suc k) us)) e ∙ ap (λ n. first_fault l (ts ++ t ∷ []) n us) one
-
--- at one that has a fault
-pub this_fault : (l : Layout) (ts : List Tag) (k : ℕ) (t : Tag) (us : List Tag) (f : HeapFault) → tag_fault l ts k t ≡ Some f → first_fault l ts k (t ∷ us) ≡ Some f
-this_fault l ts k t us f e = ap (λ o. or_else o (first_fault l (ts ++ t ∷ []) (suc k) us)) e

@@ -81,9 +81,6 @@ follows l d h =
 pub complete_members : (l : Layout) (d : StructDef) → can_follow l d ≡ true → all_members_complete (shape_of l) d.members ≡ true
 complete_members l d h = (follows l d h).complete
 
-layout_at : Target → List D.StructDef → Layout
-layout_at t ds = record { target = t; structs = map struct_def_of ds }
-
 -- the table of the longer list
 pub tabled_more : (t : Target) (ds : List D.StructDef) (d : D.StructDef) (old new : Table) (e : P.Places) → IsTabled t ds old →
     can_follow (record { target = t; structs = map struct_def_of ds }) (struct_def_of d) ≡ true →

@@ -35,13 +35,6 @@ member_placed f at (m' ∷ items) (suc k) o m h e e' =
     let s = f (type_of m'.1) in
     member_placed f (aligned at (alignment s) + size s) items k o m (omega arith) e e'
 
--- nothing is known by the name, or the struct has fewer members
-pub no_struct : (s : Shape) (k : ℕ) → DescribesShape None s → step_spot s (Field k) ≡ None
-no_struct Incomplete k h = refl
-no_struct (Scalar u w) k h = absurd h
-no_struct (Record x n align fs) k h = absurd h
-no_struct (Row e n) k h = absurd h
-
 pub no_member : (e : P.Places) (s : Shape) (k : ℕ) → DescribesShape (Some e) s → length e.offsets.items ≤ k → step_spot s (Field k) ≡ None
 no_member e Incomplete k h past = absurd h
 no_member e (Scalar u w) k h past = absurd h

@@ -1,6 +1,6 @@
 -- How an array type is narrowed to its element.
 use Rattle.std.proofs.Common.{◌≡◌, ℕ, zero, suc, ◌*◌, ◌<◌, ◌≤◌, ◌⊎◌, inl, inr, min, Bool, true, false, ◌&&◌, ltb, refl, sym, ap, ◌∙◌, arith}
-use Rattle.std.proofs.Math.Nat.{min-eq_left, min-eq_right, mul_comm, mul_assoc}
+use Rattle.std.proofs.Math.Nat.{min-eq_left, min-eq_right, mul_assoc}
 use Rattle.std.proofs.lemmas.Bool.{cases_lt}
 use Rattle.c_values.specs.Layout.{Shape, Row, size, alignment, is_complete}
 
@@ -19,17 +19,11 @@ min-mul x z m = by_cases (cases_lt m x)
     by_cases (inl c) = ap (λ n. min (n * z) m) (min-eq_right (omega arith)) ∙ by_factor z c
     by_cases (inr c) = ap (λ n. min (n * z) m) (min-eq_left c)
 
-pub mul-min : (x z m : ℕ) → min (x * min z m) m ≡ min (x * z) m
-mul-min x z m = ap (λ n. min n m) (mul_comm x (min z m)) ∙ min-mul z x m ∙ ap (λ n. min n m) (mul_comm z x)
-
 -- so many of a shape take what the whole takes
 pub record Narrows (some : Bool) (count : ℕ) (s whole : Shape) : Type 0 where
   pub complete : (some && is_complete s) ≡ is_complete whole
   pub size : min (count * size s) 65537 ≡ min (size whole) 65537
   pub alignment : alignment s ≡ alignment whole
-
-pub narrows_self : (s : Shape) → Narrows true 1 s s
-narrows_self s = record { complete = refl; size = ap (λ n. min n 65537) (omega arith); alignment = refl }
 
 more_complete : (some n' c : Bool) → ((some && n') && c) ≡ (some && (n' && c))
 more_complete true n' c = refl

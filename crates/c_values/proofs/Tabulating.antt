@@ -26,9 +26,6 @@ pub record Tabulating (t : Target) (all : List StructDef) (i : ℕ) (structs : N
   pub small : (rest : List StructDef) → are_small t none (take i all ++ rest) ≡ are_small t structs rest
   pub shapes : (rest : List StructDef) → shapes_after t none (take i all ++ rest) ≡ shapes_after t structs rest
 
-pub tabulating_start : (t : Target) (all : List StructDef) → are_built t none [] all ≡ true → Tabulating t all 0 none
-tabulating_start t all h = record { names = []; built = h; small = λ rest. refl; shapes = λ rest. refl }
-
 module _ (t : Target) (all : List StructDef) (i : ℕ) (structs : Name → Shape) (d : StructDef) (within : i < length all) (here : d ≡ get_or all i d) (h : Tabulating t all i structs) where
   abbrev pub after : Name → Shape
   after = with_name d.name (struct_shape (shape_from t structs) d) structs

@@ -1,6 +1,5 @@
 -- The entries of functions, one after the other.
 use Rattle.std.proofs.Common.{◌≡◌, ℕ, ◌+◌, List, [], ◌∷◌, ◌++◌, length, map, Ok, Err, refl, ap, ap₂, sym, subst, ◌∙◌, append_assoc}
-use Rattle.std.proofs.lemmas.List.{append-nil}
 use Rattle.ac_sx.specs.declared.spans.SxPart.{SxPart}
 use Rattle.ac_sx.specs.Tree.{Tree, Trees, no_trees, more, spelling}
 use Rattle.expression_text.specs.declared.fault.TextFault.{TextFault}
@@ -13,7 +12,7 @@ use Rattle.acceptance.specs.Certificate.{Steps}
 use Rattle.certificate_text.specs.declared.index.FunEntry.{FunEntry}
 use Rattle.certificate_text.specs.CertificateText.{function_tree, Version, Certificate}
 use Rattle.certificate_text.specs.CertificateReading.{function_at}
-use Rattle.certificate_text.specs.CertificateIndex.{Entry, entry_at, entries_from, front, index_of}
+use Rattle.certificate_text.specs.CertificateIndex.{Entry, entry_at, entries_from}
 use Rattle.certificate_text.specs.CodeIndex.{entry_of}
 use Rattle.certificate_text.specs.TextParts.{IsAt, AreAt}
 use Rattle.certificate_text.proofs.FunctionLaws.{function_spells}
@@ -119,24 +118,6 @@ entries_refused text before parts others p here (F.Shape n) whole split bad so_f
     ∙ ap (λ x. made (λ ys. map entry_of before ++ ys) (made (entries_from at) (list_at function_at here x))) is_more
     ∙ ap (λ r. made (λ ys. map entry_of before ++ ys) (made (entries_from at) (r >>= λ x. list_at function_at x.1 us >>= λ y. Ok (x.0 ∷ y.0, y.1)))) read
 
-pub entries_done : (text : List ℕ) (before : List FunEntry) (parts : List SxPart) (here : ℕ) (whole : Read (List Entry)) → parts ≡ [] → AreSoFar text before parts here whole → whole ≡ Ok (map entry_of before, here)
-entries_done text before parts here whole none so_far =
-    let (at, ts, there, same) = so_far in
-    sym same
-    ∙ ap (λ x. made (λ ys. map entry_of before ++ ys) (made (entries_from at) (list_at function_at here x))) (none_left text at parts ts none there)
-    ∙ ap (λ ys. Ok (ys, here)) (append-nil (map entry_of before))
-
 -- a version before the entries
 abbrev with_version : Version → List Steps → Certificate
 with_version v cs = record { version = v; functions = cs }
-
-pub index_made : (v : Version) (r : Read (List Steps)) (es : List Entry) (n : ℕ) → made (entries_from (length (front v))) r ≡ Ok (es, n) → made index_of (r >>= λ x. Ok (with_version v x.0, x.1)) ≡ Ok (record { version = v; functions = es }, n)
-index_made v r es n made_is =
-    let (cs, read, same) = made_ok (entries_from (length (front v))) r es n made_is in
-    ap (λ x. made index_of (x >>= λ y. Ok (with_version v y.0, y.1))) read ∙ ap (λ ys. Ok (record { version = v; functions = ys }, n)) same
-
-pub index_refused : (v : Version) (r : Read (List Steps)) (fault : TextFault) → Fails fault (made (entries_from (length (front v))) r) → Fails fault (made index_of (r >>= λ x. Ok (with_version v x.0, x.1)))
-index_refused v r (F.Shape n) bad = ap (λ x. made index_of (x >>= λ y. Ok (with_version v y.0, y.1))) (made_err (entries_from (length (front v))) r n bad)
-index_refused v r F.Memory bad = tt
-index_refused v r F.NotText bad = bad
-index_refused v r F.Deep bad = bad

@@ -1,8 +1,6 @@
 -- The lines of functions, one after the other: those so far, and of the functions that are left.
-use Rattle.std.proofs.Common.{◌≡◌, ℕ, zero, suc, ◌+◌, ◌<◌, ◌≤◌, ◌^◌, min, List, [], ◌∷◌, ◌++◌, map, length, ◌⊎◌, inl, inr, sym, ap, subst, ◌∙◌, arith, append_assoc}
-use Rattle.std.specs.Prelude.{slice_index_or, codes, if◌then◌else◌}
-use Rattle.std.proofs.lemmas.Bool.{cases_lt}
-use Rattle.std.proofs.lemmas.List.{get_or_past}
+use Rattle.std.proofs.Common.{◌≡◌, ℕ, zero, suc, ◌+◌, List, [], ◌∷◌, ◌++◌, map, length, ◌⊎◌, inl, inr, sym, ap, subst, ◌∙◌, arith, append_assoc}
+use Rattle.std.specs.Prelude.{codes, if◌then◌else◌}
 use Rattle.c_values.specs.Name.{Name}
 use Rattle.expression_lang.specs.Sort.{Level}
 use Rattle.expression_lang.specs.CodeExpression.{level_of}
@@ -64,17 +62,6 @@ module _ (levels : Name → Level) (all : List TypedFn) (f : TypedFn) (rest : Li
         ap (λ x. x ++ function_lines levels rest) e ∙ append_assoc lines (function_line levels f) (function_lines levels rest)
         ∙ h.whole;
   }
-
--- a position that saturates is that of the same name, where there are fewer
-pub name_told : (names : List Name) (j k : ℕ) (x : Name) → length names < 2 ^ 32 → j ≡ min k 4294967295 → slice_index_or names k [] ≡ x →
-    slice_index_or names j [] ≡ x
-name_told names j k x few e h = by (cases_lt 4294967295 k)
-  where
-    by : (4294967295 < k) ⊎ (k ≤ 4294967295) → slice_index_or names j [] ≡ x
-    by (inr le) = let same : j ≡ k = omega (arith, e, le) in ap (λ i. slice_index_or names i []) same ∙ h
-    by (inl gt) =
-        let last : j ≡ 4294967295 = omega (arith, e, gt) in
-        get_or_past names j [] (omega (arith, few, last)) ∙ sym (get_or_past names k [] (omega (arith, few, gt))) ∙ h
 
 -- A function's line, piece by piece.
 

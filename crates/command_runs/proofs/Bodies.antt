@@ -17,7 +17,7 @@ use Rattle.expression_lang.specs.Sorted.{result_scalars}
 use Rattle.expression_lang.specs.CodeSignature.{binder_of, signature_of}
 use Rattle.expression_lang.specs.CodeState.{Bindings, env_of}
 use Rattle.simpl_lang.specs.declared.units.SimplFn as F
-use Rattle.simpl_lang.specs.Command.{Simpl, SimplFn, SimplUnit, simpl_fn}
+use Rattle.simpl_lang.specs.Command.{SimplFn, SimplUnit}
 use Rattle.simpl_lang.specs.Command as K
 use Rattle.simpl_lang.specs.Exec.{execs, ended, functions_below, simpl_runs, function_runs, result_into, result_local, result_of, zero_locals}
 use Rattle.simpl_lang.specs.Sorted.{fits_target, is_sorted, scope_among, holds_result}

@@ -12,7 +12,7 @@ use Rattle.c_values.specs.CodeTypes.{type_of}
 use Rattle.c_values.specs.CodeValue.{value_of, global_of}
 use Rattle.expression_lang.specs.Expression.{Exp, Path}
 use Rattle.expression_lang.specs.Sort as S
-use Rattle.expression_lang.specs.Sort.{Sort, Scope, Of, WordSort, NumberSort, TruthSort, sort_of, word_sort_of, shape_along}
+use Rattle.expression_lang.specs.Sort.{Sort, WordSort, NumberSort, TruthSort, sort_of, word_sort_of}
 use Rattle.expression_lang.specs.Evaluation.{Env, value}
 use Rattle.expression_lang.specs.States.{IsOfSort, IsEnvironment, IsState}
 use Rattle.expression_lang.specs.Signature.{Binder, no_env}

@@ -67,14 +67,6 @@ put_env x v (p ∷ ps) env h k =
     ap (λ t. env_from t env) (where_false (same_name p.0 x) ((p.0, v) ∷ ps) (p ∷ put_in x v ps) e)
     ∙ put_env x v ps (with_name p.0 p.1 env) q.1 (other_among x p.0 (names_in ps) (other_name p.0 x e) k))
 
-pub put_names : (x : Name) (v : Value) (ps : Table) → names_in (put_in x v ps) ≡ names_in ps
-put_names x v [] = refl
-put_names x v (p ∷ ps) = at (same_name p.0 x) (put_names x v ps)
-  where
-    at : (b : Bool) → names_in (put_in x v ps) ≡ names_in ps → names_in (cond b ((p.0, v) ∷ ps) (p ∷ put_in x v ps)) ≡ names_in (p ∷ ps)
-    at true e = refl
-    at false e = ap (λ ns. p.0 ∷ ns) e
-
 some_is : {A : Type 0} {a b : A} → Some a ≡ Some b → a ≡ b
 some_is h = cc
 

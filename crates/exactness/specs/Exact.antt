@@ -2,7 +2,7 @@
 -- otherwise the C hits nothing at all and both have the same results. (AutoCorres has one half of this, its refinement
 -- theorem.) A bound is a number of turns and a limit of nested calls, or none. C trees stand against sets of results; nothing
 -- between them is mentioned.
-use Rattle.std.specs.Prelude.{◌≡◌, ℕ, Bool, true, false, List, [], ◌∷◌, Option, Some, None}
+use Rattle.std.specs.Prelude.{◌≡◌, ℕ, true, List, [], ◌∷◌, Option, Some, None}
 use Rattle.correspondence.specs.Outcome.{Done, Failed, Ends}
 use Rattle.c_values.specs.Name.{Name}
 use Rattle.c_values.specs.Types.{Target}
@@ -13,7 +13,7 @@ use Rattle.c_memory.specs.Memory.{Memory}
 use Rattle.c_memory.specs.Tags.{IsWellTagged}
 use Rattle.c_memory.specs.Footprint.{KeepsMemory}
 use Rattle.c_memory.specs.TypedHeap.{view}
-use Rattle.c_memory.specs.Heap.{Heap, OnBytes, OnTypes}
+use Rattle.c_memory.specs.Heap.{Heap, OnBytes}
 use Rattle.expression_lang.specs.Sort.{Level, Kind, is_lifted}
 use Rattle.expression_lang.specs.States.{AreGlobals, state_with}
 use Rattle.expression_lang.specs.View.{view_at, views_at}

@@ -1,5 +1,5 @@
 -- One condition more.
-use Rattle.std.proofs.Common.{◌≡◌, List, [], ◌∷◌, ◌++◌, map, refl, ap, ap₂}
+use Rattle.std.proofs.Common.{◌≡◌, List, [], ◌∷◌, ◌++◌, map, ap, ap₂}
 use Rattle.simpl_lang.specs.Command.{Condition}
 use Rattle.rule_exn.specs.Table.{asked_unless_thrown, unless_thrown}
 

@@ -1,5 +1,5 @@
 -- What is known of a command once exceptions are taken out of it.
-use Rattle.std.specs.Prelude.{◌≡◌, Bool, true, false, ◌&&◌, ◌||◌, List}
+use Rattle.std.specs.Prelude.{◌≡◌, Bool, true, ◌&&◌, ◌||◌, List}
 use Rattle.expression_lang.specs.Expression.{Exp}
 use Rattle.simpl_lang.specs.Command as C
 use Rattle.simpl_lang.specs.Command.{Simpl}
@@ -7,7 +7,7 @@ use Rattle.simpl_lang.specs.CodeCommand.{simpl_of}
 use Rattle.rule_exn.specs.Quiet.{quiet}
 use Rattle.rule_exn.specs.Rule.{Rule, Cond, Guard}
 use Rattle.rule_exn.specs.CodeRule.{tree_of}
-use Rattle.rule_exn.specs.Eliminated.{Eliminated, leaf, over_one, over_two, in_sequence, caught, caught_by_test, repeated, exceptions_eliminated}
+use Rattle.rule_exn.specs.Eliminated.{Eliminated, leaf, over_one, over_two, in_sequence, caught_by_test, repeated, exceptions_eliminated}
 use Rattle.exception_elim.specs.declared.eliminated.Eliminated as E
 
 pub record Done : Type 0 where

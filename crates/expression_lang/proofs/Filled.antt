@@ -1,7 +1,7 @@
 -- What a fill number picks is among what may be picked.
-use Rattle.std.proofs.Common.{◌≡◌, ℕ, ◌-◌, ◌%◌, ◌^◌, ◌<◌, ℤ, pos, negsuc, false, refl, sym, subst, arith}
+use Rattle.std.proofs.Common.{ℕ, ◌-◌, ◌%◌, ◌^◌, ◌<◌, ℤ, pos, negsuc, false, refl, sym, subst, arith}
 use Rattle.std.proofs.lemmas.Nat.{pow_pos, mod_below}
-use Rattle.correspondence.specs.Outcome.{Outcome, Done, Failed, Stopped, done, any, Then}
+use Rattle.correspondence.specs.Outcome.{Outcome, Done, Failed, Stopped, done, any}
 use Rattle.correspondence.specs.Included.{Included}
 use Rattle.correspondence.proofs.Included.{included_itself, then_included}
 use Rattle.c_values.specs.Word.{Word, IsWord, word}

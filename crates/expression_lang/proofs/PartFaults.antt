@@ -72,11 +72,6 @@ module _ (l : Layout) (env : Env) (s : State) where
   part_fault (Global x path) f is h = h
   part_fault _ f is h = absurd cc
 
-  -- of an update, and in what it puts in
-  pub update_fault : (e : Exp) (f : F.EvalFault) → arity_of e ≡ Update → wide l env s (first_part e) ≡ None → IsFault f (wide_in l env s (path_part e)) → IsFault f (wide l env s e)
-  update_fault (Upd e path v) f is none h = met_first f _ _ (met_second f _ _ none h)
-  update_fault _ f is none h = absurd cc
-
   pub put_fault : (e : Exp) (f : F.EvalFault) → arity_of e ≡ Update → wide l env s (first_part e) ≡ None → wide_in l env s (path_part e) ≡ None → IsFault f (wide l env s (second_part e)) → IsFault f (wide l env s e)
   put_fault (Upd e path v) f is first none h = met_second f _ _ (met_none _ _ first none) h
   put_fault _ f is first none h = absurd cc

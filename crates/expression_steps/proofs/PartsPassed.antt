@@ -1,5 +1,5 @@
 -- What is known behind all of the parts that were passed.
-use Rattle.std.proofs.Common.{◌≡◌, ℕ, suc, List, [], ◌∷◌, length, map, string_bytes, refl}
+use Rattle.std.proofs.Common.{◌≡◌, List, [], ◌∷◌, length, map, string_bytes, refl}
 use Rattle.ac_expr.specs.Fact.{Fact}
 use Rattle.ac_expr.specs.Passed.{passed}
 use Rattle.monad_lang.specs.CodeProgram.{mon_of}

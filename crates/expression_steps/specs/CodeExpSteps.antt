@@ -1,7 +1,7 @@
 -- The first step in an expression, at its shape.
-use Rattle.std.specs.Prelude.{List, ◌∷◌, Option, Some, None}
+use Rattle.std.specs.Prelude.{List, ◌∷◌, Option, None}
 use Rattle.expression_lang.specs.Expression.{Exp, Between, If, Padd, Global}
-use Rattle.expression_lang.specs.CodeShape.{Two, BinaryTwo, ShiftTwo, CompareTwo, ArithTwo, LtTwo, LeTwo, EqTwo, AndTwo, OrTwo, ImpTwo, Shape, LeafShape, OneShape, TwoShape, BetweenShape, IfShape, PaddShape, RootShape, PlaceShape, GlobalShape, SelShape, UpdShape, whole_one, whole_two, whole_root, whole_place}
+use Rattle.expression_lang.specs.CodeShape.{Two, AndTwo, OrTwo, ImpTwo, Shape, LeafShape, OneShape, TwoShape, BetweenShape, IfShape, PaddShape, RootShape, PlaceShape, GlobalShape, SelShape, UpdShape, whole_one, whole_two, whole_root, whole_place}
 use Rattle.ac_expr.specs.Fact.{Fact, Whole, NotTrue}
 use Rattle.expression_steps.specs.Rewritten.{Choice, in_one, in_two, in_three, first_step, path_step}
 

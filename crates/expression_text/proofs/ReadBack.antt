@@ -1,5 +1,5 @@
 -- What the answers of the reader say of a tree.
-use Rattle.std.proofs.Common.{◌≡◌, ℕ, Result, Ok, Err, ◌⊎◌, inl, inr, refl, ap, sym, ◌∙◌}
+use Rattle.std.proofs.Common.{◌≡◌, ℕ, Ok, Err, refl, ap, sym, ◌∙◌}
 use Rattle.ac_sx.specs.Tree.{Tree}
 use Rattle.expression_lang.specs.Expression.{Exp}
 use Rattle.expression_text.specs.declared.fault.TextFault.{TextFault}
@@ -27,15 +27,6 @@ refused_only f t (F.Shape at) bad is = absurd (let read = sym bad ∙ reads f t 
 refused_only f t F.Memory bad is = refl
 refused_only f t F.NotText bad is = absurd bad
 refused_only f t F.Deep bad is = absurd bad
-
-pub refused_at : {A : Type 0} (read : Read A) (fault : TextFault) (at : ℕ) → Fails fault read → read ≡ Err at → (fault ≡ F.Shape at) ⊎ (fault ≡ F.Memory)
-refused_at {A} read (F.Shape n) at bad is = let same = sym bad ∙ is in inl (shape_same n at same)
-  where
-    shape_same : (m k : ℕ) → ◌≡◌ {A = Result (A × ℕ) ℕ} (Err m) (Err k) → F.Shape m ≡ F.Shape k
-    shape_same m k e = let h : m ≡ k = cc in ap F.Shape h
-refused_at read F.Memory at bad is = inr refl
-refused_at read F.NotText at bad is = absurd bad
-refused_at read F.Deep at bad is = absurd bad
 
 pub not_refused : {A : Type 0} {x : A} {n : ℕ} (read : Read A) (at : ℕ) → read ≡ Ok (x, n) → read ≡ Err at → ⊥
 not_refused read at good bad = let both = sym good ∙ bad in cc

@@ -1,7 +1,7 @@
 -- Words and the numbers that they are at a type: a word of a width is the word of its number, and words are the same where
 -- their numbers are.
-use Rattle.std.proofs.Common.{◌≡◌, ℕ, zero, suc, ◌-◌, ◌%◌, ◌^◌, ◌<◌, ◌≤◌, ◌==◌, Bool, true, false, cond, ℤ, pos, negsuc, neg_ℤ, int_eq, refl, sym, ap, ap₂, ◌∙◌, arith, eq-eqb, eqb-true, lit≤}
-use Rattle.std.proofs.lemmas.Nat.{pow_pos, mod_below}
+use Rattle.std.proofs.Common.{◌≡◌, ℕ, zero, suc, ◌-◌, ◌^◌, ◌<◌, ◌≤◌, ◌==◌, Bool, true, false, cond, ℤ, pos, neg_ℤ, int_eq, refl, sym, ap, ap₂, ◌∙◌, arith, eq-eqb, eqb-true, lit≤}
+use Rattle.std.proofs.lemmas.Nat.{pow_pos}
 use Rattle.std.proofs.lemmas.Bool.{and_parts, and_from}
 use Rattle.std.proofs.lemmas.Bool.Decides.{Decides-int_eq, same_from_decides}
 use Rattle.std.specs.Prelude.{Decides}

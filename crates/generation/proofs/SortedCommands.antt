@@ -9,7 +9,7 @@ use Rattle.c_values.proofs.Laid.{IsLaid, structs_of}
 use Rattle.expression_lang.specs.Expression as E
 use Rattle.expression_lang.specs.Form.{path_has, is_part_of_value}
 use Rattle.expression_lang.specs.Sort as S
-use Rattle.expression_lang.specs.Sort.{Level, Bytes, Words, Numbers, Kind, WordKind, NatKind, IntKind, BoolKind, Of, WordSort, NumberSort, TruthSort, word_sort_of, same_scalar, is_truth, is_word_of, word_sort, scalar_sort, sort_at, shape_along}
+use Rattle.expression_lang.specs.Sort.{Level, Bytes, Words, Numbers, NatKind, IntKind, BoolKind, Of, WordSort, NumberSort, TruthSort, word_sort_of, same_scalar, is_word_of, scalar_sort, sort_at, shape_along}
 use Rattle.expression_lang.specs.Signature.{Binder, Signature, signature, kinds_of, kind_at, result_kind, binder}
 use Rattle.expression_lang.specs.Sorted.{program_sort, part_place, global_place, fits_place, sort_in, scalars_of, scalar_in, with_scalar, same_scalars, call_scalars, result_scalars}
 use Rattle.simpl_lang.specs.Command.{Condition, Simpl, Skip, Throw, Set, SetGlobal, Store, Pick, Seq, Cond, Catch, While, Call}
@@ -24,9 +24,9 @@ use Rattle.generation.specs.Generate.{exception_local, call_local, switch_local,
 use Rattle.generation.proofs.ExactTests.{by_test, none_is_none, all_of_three}
 use Rattle.generation.proofs.ExactMachines.{is_declared, declared_scalar}
 use Rattle.generation.proofs.SortedRows as R
-use Rattle.generation.proofs.SortedRows.{first, second, Has, HasWord, HasTruth, HasPath, Truths, none, more, in_program, truth_in_program, conditions_sorted, truths_append, resorted}
+use Rattle.generation.proofs.SortedRows.{first, second, Has, HasWord, HasTruth, HasPath, Truths, none, more, in_program, truth_in_program, conditions_sorted, truths_append}
 use Rattle.generation.proofs.SortedExpressions as X
-use Rattle.generation.proofs.SortedExpressions.{IsScope, simpl_scope, scalar_wide, type_word, conversion_sorted, expression_sorted, accesses_sorted, guards_sorted, place_guards_sorted}
+use Rattle.generation.proofs.SortedExpressions.{IsScope, simpl_scope, scalar_wide, conversion_sorted, expression_sorted, accesses_sorted, guards_sorted, place_guards_sorted}
 
 -- kinds of scalar types
 

@@ -1,13 +1,13 @@
 -- Generation, for statements, functions and units (after Norrish's C parser): the Simpl program of a typed unit at the levels
 -- of its functions. The conditions of a statement's own expressions stand around its command, the first outermost; break,
 -- continue and return are exceptions that `$exn` tells apart.
-use Rattle.std.specs.Prelude.{ℕ, Bool, true, false, List, [], ◌∷◌, ◌++◌, map, Option, Some, None, ℤ, pos, codes, if◌then◌else◌}
+use Rattle.std.specs.Prelude.{ℕ, Bool, true, false, List, [], ◌∷◌, ◌++◌, map, Option, Some, None, ℤ, pos, codes}
 use Rattle.std.specs.Fmt.{decimal}
 use Rattle.c_values.specs.Name.{Name}
-use Rattle.c_values.specs.Types.{Target, IntType, CType, Integer, width_of, is_signed}
-use Rattle.c_values.specs.Layout.{Layout, scalar_width}
+use Rattle.c_values.specs.Types.{Target, IntType, CType, Integer}
+use Rattle.c_values.specs.Layout.{Layout}
 use Rattle.expression_lang.specs.Expression as E
-use Rattle.expression_lang.specs.Sort.{Level, Numbers, Kind, WordKind, NatKind, IntKind, BoolKind}
+use Rattle.expression_lang.specs.Sort.{Level, WordKind, BoolKind}
 use Rattle.expression_lang.specs.Signature.{Binder, Signature, kind_at, binder, result_kind}
 use Rattle.c_meaning.specs.Kinds.{variables}
 use Rattle.expression_lang.specs.GuardKind as K

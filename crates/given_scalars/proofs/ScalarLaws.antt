@@ -1,7 +1,6 @@
 -- Scalars one after the other, and of what calls give.
-use Rattle.std.proofs.Common.{◌≡◌, Bool, true, false, cond, List, [], ◌∷◌, ◌++◌, map, Option, Some, None, refl, sym, ap, ◌∙◌}
-use Rattle.c_values.specs.Name.{Name, same_name, is_among, are_distinct}
-use Rattle.expression_lang.specs.Sort.{Scalar, Kind}
+use Rattle.std.proofs.Common.{◌≡◌, List, [], ◌∷◌, ◌++◌, map, Option, Some, None, refl, sym, ap, ◌∙◌}
+use Rattle.expression_lang.specs.Sort.{Scalar}
 use Rattle.expression_lang.specs.Sorted.{with_scalar}
 use Rattle.given_scalars.specs.CodeScalars.{scalars_before}
 

@@ -1,11 +1,9 @@
 -- What programs give, by what their parts give.
-use Rattle.std.proofs.Common.{◌≡◌, ◌==◌, ℕ, Bool, true, false, ◌&&◌, List, [], ◌∷◌, ◌++◌, length, map, Option, Some, None, refl, sym, ap, ap₂, ◌∙◌, arith, eq-eqb}
-use Rattle.std.proofs.lemmas.Bool.{false≢true}
+use Rattle.std.proofs.Common.{◌≡◌, Bool, true, false, ◌&&◌, List, [], ◌∷◌, ◌++◌, length, Option, Some, None, refl, sym, ap, ap₂, ◌∙◌, arith, eq-eqb}
 use Rattle.c_values.specs.Name.{Name, are_distinct, with_name}
 use Rattle.expression_lang.specs.Expression.{Exp}
-use Rattle.expression_lang.specs.Sort.{Scalar, Kind, is_truth}
-use Rattle.expression_lang.specs.Sorted.{names_with, program_sort, same_scalars, call_scalars, result_scalars}
-use Rattle.expression_lang.specs.Signature.{Signature, kinds_of}
+use Rattle.expression_lang.specs.Sort.{Scalar, is_truth}
+use Rattle.expression_lang.specs.Sorted.{names_with, program_sort}
 use Rattle.monad_lang.specs.Program as M
 use Rattle.monad_lang.specs.Program.{Mon, Start}
 use Rattle.monad_lang.specs.Run.{start_names}
@@ -27,23 +25,6 @@ bind_given t m xs n ss h l d =
 pub bind_none : (t : Setting) (m : Mon) (xs : List Name) (n : Mon) → scalars_given t m ≡ None → scalars_given t (M.Bind m xs n) ≡ None
 bind_none t m xs n h = ap (λ o. and_then_scalars o (λ ss. where_fits (one_for_each xs ss && are_distinct xs) (scalars_given (setting_with xs ss t) n))) h
 
-fits_none : (a : Bool) (o : Option (List Scalar)) → where_fits (a && false) o ≡ None
-fits_none true o = refl
-fits_none false o = refl
-
-pub bind_twice : (t : Setting) (m : Mon) (xs : List Name) (n : Mon) (ss : List Scalar) → scalars_given t m ≡ Some ss → are_distinct xs ≡ false → scalars_given t (M.Bind m xs n) ≡ None
-bind_twice t m xs n ss h d =
-    ap (λ o. and_then_scalars o (λ ss. where_fits (one_for_each xs ss && are_distinct xs) (scalars_given (setting_with xs ss t) n))) h
-    ∙ ap (λ b. where_fits (one_for_each xs ss && b) (scalars_given (setting_with xs ss t) n)) d ∙ fits_none (one_for_each xs ss) (scalars_given (setting_with xs ss t) n)
-
-pub bind_uneven : (t : Setting) (m : Mon) (xs : List Name) (n : Mon) (ss : List Scalar) → scalars_given t m ≡ Some ss → (length xs ≡ length ss → ⊥) → scalars_given t (M.Bind m xs n) ≡ None
-bind_uneven t m xs n ss h u =
-    ap (λ o. and_then_scalars o (λ ss. where_fits (one_for_each xs ss && are_distinct xs) (scalars_given (setting_with xs ss t) n))) h
-    ∙ ap (λ b. where_fits (b && are_distinct xs) (scalars_given (setting_with xs ss t) n)) (uneven (length xs) (length ss) u)
-  where
-    uneven : (a b : ℕ) → (a ≡ b → ⊥) → (a == b) ≡ false
-    uneven a b n = grind (arith, n)
-
 module _ (t : Setting) (starts : List Start) (guard test : Exp) (m : Mon) where
   abbrev inner : List Scalar → Setting
   inner ss = setting_with (start_names starts) ss t
@@ -53,9 +34,6 @@ module _ (t : Setting) (starts : List Start) (guard test : Exp) (m : Mon) where
 
   whole : List Scalar → Bool → Option (List Scalar) → Option (List Scalar)
   whole ss b o = where_fits (b && are_scalars ss o) (Some ss)
-
-  pub loop_none : start_scalars t.scope starts ≡ None → scalars_given t (M.Loop starts guard test m) ≡ None
-  loop_none h = ap (λ o. and_then_scalars o (λ ss. where_fits (is_turn_in (inner ss) && are_scalars ss (scalars_given (inner ss) m)) (Some ss))) h
 
   pub loop_given : (ss : List Scalar) (s : Setting) (b : Bool) (o : Option (List Scalar)) → start_scalars t.scope starts ≡ Some ss → s ≡ setting_with (start_names starts) ss t →
       b ≡ is_turn_in s → o ≡ scalars_given s m → where_fits (b && are_scalars ss o) (Some ss) ≡ scalars_given t (M.Loop starts guard test m)

@@ -1,5 +1,5 @@
 -- A global takes a value.
-use Rattle.std.proofs.Common.{◌≡◌, ℕ, zero, suc, ◌+◌, ◌<◌, ◌≤◌, Bool, true, false, cond, List, [], ◌∷◌, length, get_or, set, map, Option, Some, None, refl, sym, ap, ap₂, ◌∙◌, subst, arith}
+use Rattle.std.proofs.Common.{◌≡◌, ℕ, zero, suc, ◌<◌, ◌≤◌, Bool, true, false, cond, List, [], ◌∷◌, length, get_or, set, map, Option, Some, None, refl, sym, ap, ap₂, ◌∙◌, subst, arith}
 use Rattle.std.proofs.Math.Path.{fun_ext}
 use Rattle.std.proofs.lemmas.Bool.{false≢true}
 use Rattle.std.specs.Option.{option_map}
@@ -29,28 +29,6 @@ by_test true f g = f refl
 by_test false f g = g refl
 
 -- where a global stands
-
-pub position_found : (x : Name) (all : Option ℕ) (k : ℕ) (g : GlobalVar) (gs rest : List GlobalVar) → all ≡ option_map (λ j. k + j) (position_of x rest) → rest ≡ g ∷ gs → same_name g.name x ≡ true → Some k ≡ all
-position_found x all k g gs rest h e here =
-    sym (h ∙ ap (λ r. option_map (λ j. k + j) (position_of x r)) e ∙ ap (option_map (λ j. k + j)) (where_true (same_name g.name x) (Some 0) (option_map suc (position_of x gs)) here) ∙ ap Some (add_none k))
-  where
-    add_none : (n : ℕ) → n + 0 ≡ n
-    add_none n = omega arith
-
-after_one : (k : ℕ) (o : Option ℕ) → option_map (λ j. k + j) (option_map suc o) ≡ option_map (λ j. (k + 1) + j) o
-after_one k None = refl
-after_one k (Some j) = ap Some (more k j)
-  where
-    more : (n i : ℕ) → n + suc i ≡ (n + 1) + i
-    more n i = omega arith
-
-pub position_passed : (x : Name) (all : Option ℕ) (k : ℕ) (g : GlobalVar) (gs rest : List GlobalVar) → all ≡ option_map (λ j. k + j) (position_of x rest) → rest ≡ g ∷ gs → same_name g.name x ≡ false →
-    all ≡ option_map (λ j. (k + 1) + j) (position_of x gs)
-position_passed x all k g gs rest h e other =
-    h ∙ ap (λ r. option_map (λ j. k + j) (position_of x r)) e ∙ ap (option_map (λ j. k + j)) (where_false (same_name g.name x) (Some 0) (option_map suc (position_of x gs)) other) ∙ after_one k (position_of x gs)
-
-pub position_none : (x : Name) (all : Option ℕ) (k : ℕ) (rest : List GlobalVar) → all ≡ option_map (λ j. k + j) (position_of x rest) → rest ≡ [] → None ≡ all
-position_none x all k rest h e = sym (h ∙ ap (λ r. option_map (λ j. k + j) (position_of x r)) e)
 
 -- the list where it is changed
 

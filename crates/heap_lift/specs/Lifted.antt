@@ -4,7 +4,7 @@ use Rattle.std.specs.Prelude.{Bool, false, not, ◌&&◌, List, [], if◌then◌
 use Rattle.c_values.specs.Name.{Name}
 use Rattle.c_values.specs.Types.{CType}
 use Rattle.expression_lang.specs.Expression as E
-use Rattle.expression_lang.specs.Expression.{Exp, Path}
+use Rattle.expression_lang.specs.Expression.{Exp}
 use Rattle.expression_lang.specs.Form.{has, is_load}
 use Rattle.expression_lang.specs.CodeShape.{Two, AndTwo, OrTwo, ImpTwo, RootTest, TaggedRoot, PtrOkRoot, PlaceHead, AtPlace, LoadPlace, ReadPlace}
 use Rattle.monad_lang.specs.Program as M

@@ -4,7 +4,7 @@ use Rattle.c_values.specs.Name.{Name}
 use Rattle.expression_lang.specs.declared.signatures.Binder as B
 use Rattle.simpl_lang.specs.Command.{Simpl, Seq}
 use Rattle.rule_local.specs.Assigned.{assigns}
-use Rattle.local_lift.specs.Live.{none, live}
+use Rattle.local_lift.specs.Live.{live}
 use Rattle.local_lift.specs.LiftedByLive.{among, carried}
 use Rattle.local_lift.specs.CodeNames.{names}
 use Rattle.local_lift.specs.CodePlan.{IsAssigned, AssignedBeside}
@@ -51,9 +51,6 @@ assigned_either bs a b whole row other all w e h k =
 pub assigned_whole : (bs : List B.Binder) (part whole : Simpl) (row other all : List Bool) → all ≡ either_row row other → AssignedBeside bs part whole row → IsAssigned bs part other → IsAssigned bs whole all
 assigned_whole bs part whole row other all e h k =
     e ∙ ap₂ either_row h.marked k ∙ either_marks h.beside (λ y. assigns y part) bs ∙ marks_same (λ y. h.beside y || assigns y part) (λ y. assigns y whole) bs h.all
-
-pub beside_nothing : (bs : List B.Binder) (a : Simpl) (row : List Bool) → row ≡ marks none bs → AssignedBeside bs a a row
-beside_nothing bs a row h = record { beside = none; marked = h; all = λ y. refl }
 
 pub beside_first : (bs : List B.Binder) (a b whole : Simpl) (row other all : List Bool) → all ≡ either_row row other → AssignedBeside bs (Seq a b) whole row → IsAssigned bs a other → AssignedBeside bs b whole all
 beside_first bs a b whole row other all e h k = record {

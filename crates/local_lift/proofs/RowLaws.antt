@@ -187,10 +187,6 @@ way_taken bs k x w row way r t e i n p m =
     e ∙ ap₂ either_row m n ∙ either_marks p w bs
     ∙ marks_same (λ y. p y || w y) (by_way x w p) bs (λ y. ap (λ b. p y || (b && w y)) (sym (sym (i p) ∙ ap (λ r. get_or r k false) (sym m) ∙ t)))
 
-pub way_not_taken : (bs : List B.Binder) (k : ℕ) (x : Name) (w : Name → Bool) (row : List Bool) → get_or row k false ≡ false → IsAt k bs x → RowMoves bs (by_way x w) row row
-way_not_taken bs k x w row t i p m =
-    m ∙ marks_same p (by_way x w p) bs (λ y. sym (or_none (p y)) ∙ ap (λ b. p y || (b && w y)) (sym (sym (i p) ∙ ap (λ r. get_or r k false) (sym m) ∙ t)))
-
 pub meant_marks : (bs : List B.Binder) (leads : Name → Name → Bool) (from : Name → Bool) (ls : List B.Binder) (rs : List Row) (all : List Bool) (acc : Name → Bool) → Matrix bs leads ls rs → all ≡ marks acc bs →
     with_meant (marks from ls) rs all ≡ marks (λ y. acc y || some_of (λ z. from z && leads z y) (names ls)) bs
 meant_marks bs leads from [] [] all acc h e = e ∙ marks_same acc (λ y. acc y || false) bs (λ y. sym (or_none (acc y)))
@@ -216,15 +212,3 @@ spread_row bs leads g reached own row from all e k h n p m =
 -- a row more, and then the rest
 pub rows_more : (P : List Row → Type 0) (rs all : List Row) (r : Row) (others : List Row) → all ≡ rs ++ r ∷ [] → P (rs ++ r ∷ others) → P (all ++ others)
 rows_more P rs all r others e h = subst P (sym (ap (λ xs. xs ++ others) e ∙ append_assoc rs (r ∷ []) others)) h
-
--- the only row
-pub only_moves : (bs : List B.Binder) (t : Change) (r : Row) (ss xs : List Row) (x : Row) → Moves bs t (r ∷ []) ss → ss ≡ xs ++ x ∷ [] → RowMoves bs t r.flags.items x.flags.items
-only_moves bs t r [] xs x h e = absurd h
-only_moves bs t r (s ∷ []) [] x h e = let same : s ∷ [] ≡ x ∷ [] = e in let first : s ≡ x = cc in subst (λ (z : Row). RowMoves bs t r.flags.items z.flags.items) first h.0
-only_moves bs t r (s ∷ []) (y ∷ []) x h e = let clash : s ∷ [] ≡ y ∷ x ∷ [] = e in cc
-only_moves bs t r (s ∷ []) (y ∷ z ∷ ys) x h e = let clash : s ∷ [] ≡ y ∷ z ∷ (ys ++ x ∷ []) = e in cc
-only_moves bs t r (s ∷ q ∷ ss) xs x h e = absurd h.1
-
-pub no_moves : (bs : List B.Binder) (t : Change) (r : Row) (ss : List Row) → Moves bs t (r ∷ []) ss → ss ≡ [] → ⊥
-no_moves bs t r [] h e = h
-no_moves bs t r (s ∷ ss) h e = let clash : s ∷ ss ≡ [] = e in cc

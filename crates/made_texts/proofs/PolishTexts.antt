@@ -67,9 +67,6 @@ bind_fits m xs n h k l = record {
 
 -- Trees
 
-refl_text : is_tree (leaf R.Refl) ≡ true
-refl_text = refl
-
 pair_text : (rule : Rule) (t u : Tree Rule) → fits (arity rule) 2 && has_text rule ≡ true → is_tree t ≡ true →
     is_tree u ≡ true → is_tree (node rule (tree t (tree u no_trees))) ≡ true
 pair_text rule t u f h k = and_from _ _ f (and_from (is_tree t) _ h (and_from (is_tree u) true k refl))

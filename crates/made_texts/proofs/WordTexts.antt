@@ -41,7 +41,7 @@ use Rattle.rule_word.proofs.ScopesAfter.{setting_after}
 use Rattle.rule_text.specs.WordText.{is_tree}
 use Rattle.made_texts.specs.Few.{most_names, binds_few}
 use Rattle.made_texts.proofs.WordExpTexts as E
-use Rattle.made_texts.proofs.WordExpTexts.{are_trees, least, by_one, by_two}
+use Rattle.made_texts.proofs.WordExpTexts.{are_trees, least, by_two}
 
 pub record HaveTexts (x : AbstractedProgram) : Type 0 where
   pub program : is_mon x.right ≡ true

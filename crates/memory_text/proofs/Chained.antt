@@ -1,9 +1,7 @@
 -- One part more of a list in which each is read by what the one before has left.
 use Rattle.std.proofs.Common.{◌≡◌, ℕ, List, [], ◌∷◌, ◌++◌, map, Ok, Err, refl, ap, sym, ◌∙◌, append_assoc}
 use Rattle.ac_sx.specs.Tree.{Tree, Trees, no_trees, more}
-use Rattle.expression_text.specs.declared.fault.TextFault.{TextFault}
 use Rattle.expression_text.specs.declared.fault.TextFault.TheVariants as F
-use Rattle.expression_text.specs.CodeFault.{Fails}
 use Rattle.expression_text.specs.Reading.{Read, ◌>>=◌, made}
 use Rattle.memory_text.specs.MemoryReading.{chained_at}
 
@@ -36,13 +34,3 @@ module _ {S A X : Type 0} (view : X → A) (read : S → ℕ → Tree → Read (
   -- no part is left
   pub chain_ended : (xs : List X) (s : S) (at : ℕ) (ts : Trees) (whole : Read (List A)) → ts ≡ no_trees → so_far xs s at ts ≡ whole → whole ≡ Ok (map view xs, at)
   chain_ended xs s at ts whole none is = sym is ∙ ap (so_far xs s at) none ∙ ap (λ ys. Ok (ys, at)) (append_nothing (map view xs))
-
-  -- a part is refused, and with it the whole
-  pub chain_refused : (xs : List X) (s : S) (fault : TextFault) (at : ℕ) (ts us : Trees) (t : Tree) (whole : Read (List A)) → ts ≡ more t us → Fails fault (read s at t) → so_far xs s at ts ≡ whole → Fails fault whole
-  chain_refused xs s (F.Shape n) at ts us t whole there bad is =
-      sym is
-      ∙ ap (so_far xs s at) there
-      ∙ ap (λ q. made (λ ys. map view xs ++ ys) (q >>= λ z. chained_at read z.0.1 z.1 us >>= λ y. Ok (z.0.0 ∷ y.0, y.1))) bad
-  chain_refused xs s F.Memory at ts us t whole there bad is = tt
-  chain_refused xs s F.NotText at ts us t whole there bad is = bad
-  chain_refused xs s F.Deep at ts us t whole there bad is = bad

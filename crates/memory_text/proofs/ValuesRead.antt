@@ -1,5 +1,5 @@
 -- Values that are read one after the other, and of a list.
-use Rattle.std.proofs.Common.{◌≡◌, ℕ, suc, ◌+◌, ◌<◌, ◌≤◌, Bool, true, false, cond, List, [], ◌∷◌, ◌++◌, length, get_or, drop, map, Option, Some, None, Ok, Err, refl, ap, ap₂, sym, ◌∙◌, arith, eqb-true}
+use Rattle.std.proofs.Common.{◌≡◌, ℕ, suc, ◌+◌, ◌<◌, ◌≤◌, Bool, true, false, cond, List, [], ◌∷◌, ◌++◌, length, get_or, drop, map, Option, Some, Ok, Err, refl, ap, ap₂, sym, ◌∙◌, arith, eqb-true}
 use Rattle.std.specs.Prelude.{slice_get, ◌==◌}
 use Rattle.std.specs.Option.{option_map}
 use Rattle.std.proofs.Math.ListN.{drop_of_length-le}
@@ -9,7 +9,7 @@ use Rattle.c_values.specs.declared.values.Value as C
 use Rattle.c_values.specs.Types.{Target, CType}
 use Rattle.c_values.specs.Layout.{Layout, Shape, shape_of}
 use Rattle.c_values.specs.Value as V
-use Rattle.c_values.specs.Value.{Value, Values, Parts, no_values}
+use Rattle.c_values.specs.Value.{Value, Values, Parts}
 use Rattle.c_values.specs.CodeValue.{value_of}
 use Rattle.c_values.specs.CodeParts.{values_in, joined}
 use Rattle.c_values.proofs.Joined.{joined-push, joined-no_values}
@@ -22,12 +22,7 @@ use Rattle.expression_text.specs.CodeFault.{Fails}
 use Rattle.expression_text.specs.Reading.{Read, next, ◌>>=◌, made}
 use Rattle.memory_text.specs.ValueText.{parts_of}
 use Rattle.memory_text.proofs.ValueLaws.{counted_as}
-use Rattle.memory_text.specs.ValueReading.{number_value_at, tree_count, counted, value_at, values_at}
-
--- what is no list is read as a number
-pub number_given : (g : Target) (s : Shape) (at : ℕ) (t : Tree) → None ≡ parts_in t → number_value_at g s at t ≡ value_at g s at t
-number_given g s at (Atom w) e = refl
-number_given g s at (Node ts) e = absurd cc
+use Rattle.memory_text.specs.ValueReading.{tree_count, counted, value_at, values_at}
 
 pub list_given : (g : Target) (s : Shape) (at : ℕ) (t : Tree) (ts : Trees) (o : Option (List Shape)) → Some ts ≡ parts_in t → o ≡ parts_of s → made (λ vs. Parts vs) (counted at ts o (λ ss. values_at g ss (next at) ts)) ≡ value_at g s at t
 list_given g s at (Atom w) ts o e f = absurd cc

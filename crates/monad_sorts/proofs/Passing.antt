@@ -8,7 +8,7 @@ use Rattle.monad_lang.specs.Program as M
 use Rattle.monad_lang.specs.Program.{Mon, Start}
 use Rattle.monad_lang.specs.Run.{start_names}
 use Rattle.monad_lang.specs.Sorted.{Setting}
-use Rattle.monad_sorts.specs.CodeTold.{names_given, with_names, values_told, told_at, giver_of, last_of, last_part, names_into, part_after, names_after}
+use Rattle.monad_sorts.specs.CodeTold.{names_given, with_names, values_told, told_at, last_of, last_part, names_into, part_after, names_after}
 use Rattle.monad_sorts.specs.CodeSorted.{starts_scalars, same_told, is_sorted, is_front_sorted}
 
 pub part_sum : (h k n : ℕ) (m : Mon) → n ≡ h + k → part_after n m ≡ part_after k (part_after h m)
@@ -25,46 +25,6 @@ names_sum t h (suc k) n names m e =
     ap (λ j. names_after t j names m) same
     ∙ ap (λ p. names_into t (names_after t (h + k) names m) p) (part_sum h k (h + k) m refl)
     ∙ ap (λ f. names_into t f (part_after k (part_after h m))) (names_sum t h k (h + k) names m refl)
-
--- a program's values are its giver's
-pub giver_gives : (t : Setting) (names : Name → Option Scalar) (m n : Mon) → giver_of m ≡ Some n →
-    values_told (with_names names t) m ≡ values_told (with_names (names_into t names m) t) n
-giver_gives t names (M.Bind m xs n) r e =
-    let same : n ≡ r = cc in
-    ap (λ q. values_told (with_names (names_into t names (M.Bind m xs n)) t) q) same
-giver_gives t names (M.If c m n) r e = let same : n ≡ r = cc in ap (λ q. values_told (with_names names t) q) same
-giver_gives t names (M.Ret es) r e = absurd cc
-giver_gives t names (M.Guard c) r e = absurd cc
-giver_gives t names (M.Write place c) r e = absurd cc
-giver_gives t names (M.Loop starts guard test m) r e = absurd cc
-giver_gives t names (M.Call f es) r e = absurd cc
-giver_gives t names (M.Pick k) r e = absurd cc
-
-pub giver_last : (m n : Mon) → giver_of m ≡ Some n → n ≡ last_part m
-giver_last (M.Bind m xs n) r e = cc
-giver_last (M.If c m n) r e = cc
-giver_last (M.Ret es) r e = absurd cc
-giver_last (M.Guard c) r e = absurd cc
-giver_last (M.Write place c) r e = absurd cc
-giver_last (M.Loop starts guard test m) r e = absurd cc
-giver_last (M.Call f es) r e = absurd cc
-giver_last (M.Pick k) r e = absurd cc
-
--- a step along the givers
-pub step_values : (t : Setting) (names : Name → Option Scalar) (steps : ℕ) (m rest n : Mon) → rest ≡ part_after steps m →
-    giver_of rest ≡ Some n →
-    values_told (with_names (names_after t (steps + 1) names m) t) n
-    ≡ values_told (with_names (names_after t steps names m) t) rest
-step_values t names steps m rest n e h =
-    let more : steps + 1 ≡ suc steps = omega arith in
-    ap (λ k. values_told (with_names (names_after t k names m) t) n) more
-    ∙ ap (λ r. values_told (with_names (names_into t (names_after t steps names m) r) t) n) (sym e)
-    ∙ sym (giver_gives t (names_after t steps names m) rest n h)
-
-pub step_part : (steps : ℕ) (m rest n : Mon) → rest ≡ part_after steps m → giver_of rest ≡ Some n → n ≡ part_after (steps + 1) m
-step_part steps m rest n e h =
-    let more : suc steps ≡ steps + 1 = omega arith in
-    giver_last rest n h ∙ ap last_part e ∙ ap (λ k. part_after k m) more
 
 -- two halves
 pub halves : (t : Setting) (names : Name → Option Scalar) (h k n : ℕ) (m r : Mon) → n ≡ h + k → r ≡ part_after h m →

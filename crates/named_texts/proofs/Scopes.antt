@@ -10,7 +10,7 @@ use Rattle.typing_rules.specs.Scope.{Scope, Entity, Enumerator, Global, Function
 use Rattle.typing_rules.specs.Checked.{Judgement, pure, ◌>>=◌, Ruling, rule, declaring, declares, changed, after, in_block}
 use Rattle.typing_laws.proofs.Tests.{none_some, some_same}
 use Rattle.typing_laws.proofs.Rulings.{Rules, ruled, refused}
-use Rattle.typing_laws.proofs.Outcomes.{Gives, gives, fails, gives_then, gives_rule, gives_weaker}
+use Rattle.typing_laws.proofs.Outcomes.{Gives, gives, fails, gives_then, gives_rule}
 use Rattle.named_texts.proofs.Types.{IsType, AreTypes}
 
 abbrev pub EntityIs : Entity → Type 0
@@ -165,6 +165,3 @@ keeps_after f j h k s w = k (f s) (h s w)
 
 pub keeps_block : {A : Type 0} {T : A → Type 0} (j : Judgement A) → Keeps T j → Keeps T (in_block j)
 keeps_block j h = keeps_then (after opened j) _ (keeps_after opened j opened_is h) (λ a k. keeps_changed closed a closed_is k)
-
-pub keeps_weaker : {A : Type 0} {T U : A → Type 0} (j : Judgement A) → Keeps T j → ((a : A) → T a → U a) → Keeps U j
-keeps_weaker j h k s w = gives_weaker (j s) (h s w) (λ a t m. (m.0, k a m.1))

@@ -1,8 +1,8 @@
 -- Units whose exceptions are eliminated: the rules take a unit there, and what a well-formed unit becomes is flat and
 -- well-formed.
-use Rattle.std.proofs.Common.{◌≡◌, true, ◌&&◌, List, [], ◌∷◌, map, refl, ap, ap₂, ◌∙◌}
+use Rattle.std.proofs.Common.{◌≡◌, true, ◌&&◌, List, [], ◌∷◌, map, refl, ap, ◌∙◌}
 use Rattle.std.proofs.lemmas.Bool.{and_parts, and_from}
-use Rattle.c_values.specs.Name.{Name, same_name, are_distinct}
+use Rattle.c_values.specs.Name.{same_name, are_distinct}
 use Rattle.expression_lang.specs.Sort.{BoolKind, are_kinds}
 use Rattle.expression_lang.specs.Signature.{Signature, names_of, kinds_of}
 use Rattle.simpl_lang.specs.Command.{SimplFn, SimplUnit}

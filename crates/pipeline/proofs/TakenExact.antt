@@ -1,5 +1,5 @@
 -- Units that the rules take to each other are a whole chain, so that the last programs are exact.
-use Rattle.std.proofs.Common.{◌≡◌, ℕ, sym, subst, ap, ◌∙◌}
+use Rattle.std.proofs.Common.{sym, subst, ap, ◌∙◌}
 use Rattle.c_values.specs.Name.{Name}
 use Rattle.expression_lang.specs.Sort.{Level}
 use Rattle.simpl_lang.specs.Command.{SimplUnit}

@@ -1,5 +1,5 @@
 -- What functions take and give, along the units that the rules take to each other.
-use Rattle.std.proofs.Common.{◌≡◌, List, [], ◌∷◌, map, refl, sym, ap, ap₂, ◌∙◌}
+use Rattle.std.proofs.Common.{◌≡◌, List, [], ◌∷◌, map, sym, ap, ap₂, ◌∙◌}
 use Rattle.c_values.specs.Name.{Name}
 use Rattle.c_values.specs.Types.{Target}
 use Rattle.c_values.specs.Layout.{Layout, GlobalVar}
@@ -10,12 +10,12 @@ use Rattle.monad_lang.specs.Sorted.{signature_of}
 use Rattle.rule_heap.specs.Units as Heaps
 use Rattle.rule_word.specs.Rule.{Context}
 use Rattle.rule_word.specs.Kept.{context_of}
-use Rattle.rule_word.specs.Units.{IsAbstractedTo, AreAbstractedTo}
+use Rattle.rule_word.specs.Units.{AreAbstractedTo}
 use Rattle.rule_eq.specs.Exact.{AreAlike}
 use Rattle.rule_eq.specs.Units as Equality
 use Rattle.c_lang.specs.Typed.{TypedFn}
-use Rattle.exactness.specs.Exact.{IsProgramOf, ArePrograms}
-use Rattle.pipeline.specs.Whole.{word_sorts, TakesWords, AllTakeWords}
+use Rattle.exactness.specs.Exact.{ArePrograms}
+use Rattle.pipeline.specs.Whole.{word_sorts, AllTakeWords}
 use Rattle.pipeline.proofs.Begins.{kinds_are_words}
 
 pub same_context : (u v : FinalUnit) → AreAlike u v → context_of u ≡ context_of v

@@ -1,16 +1,16 @@
 -- A choice and a loop after their steps, and what is done in them.
-use Rattle.std.proofs.Common.{◌≡◌, suc, ◌+◌, Bool, true, false, List, [], ◌∷◌, Option, Some, None, refl, sym, ap, ap₂, ◌∙◌, subst}
+use Rattle.std.proofs.Common.{◌≡◌, suc, ◌+◌, Bool, true, false, [], ◌∷◌, Some, None, refl, sym, ap, ap₂, ◌∙◌, subst}
 use Rattle.expression_lang.specs.Expression.{Exp, TruthLit}
 use Rattle.ac_expr.specs.Fact.{Whole, NotTrue}
 use Rattle.monad_lang.specs.Program as M
-use Rattle.monad_lang.specs.Program.{Mon, Start}
+use Rattle.monad_lang.specs.Program.{Mon}
 use Rattle.rule_eq.specs.Rule as R
 use Rattle.rule_eq.specs.Rule.{Point}
 use Rattle.rule_eq.specs.Table.{knowing, within}
-use Rattle.rule_walks.specs.Walk.{walk_of, stays, one_walk, over_one, over_two, Walked, walked, then_walked, Nothing, after_before, and_led}
+use Rattle.rule_walks.specs.Walk.{walk_of, one_walk, over_one, over_two, Walked, walked, then_walked, Nothing, after_before, and_led}
 use Rattle.expression_steps.specs.Rewritten.{direct_nodes}
 use Rattle.expression_steps.specs.Shortened.{shortened}
-use Rattle.polish.specs.Polished.{Polished, leaf, unchanged, and_then, shortened_in, if_tree, loop_tree, chosen, turning, in_choice, in_loop, polished}
+use Rattle.polish.specs.Polished.{Polished, leaf, unchanged, and_then, shortened_in, if_tree, chosen, turning, polished}
 use Rattle.polish.specs.Parts.{IsIf, IsLoop, IsSimple}
 use Rattle.polish.specs.Weight.{weight}
 use Rattle.polish.specs.Branches.{test_in, chosen_in, Turn, turn_in}

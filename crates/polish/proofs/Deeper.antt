@@ -1,17 +1,15 @@
 -- Descents, and one stage more or less.
-use Rattle.std.proofs.Common.{◌≡◌, ℕ, suc, ◌≤◌, List, [], ◌∷◌, ◌++◌, map, length, string_bytes, unwrap_or, refl, sym, ap, ap₂, ◌∙◌, subst, arith}
+use Rattle.std.proofs.Common.{◌≡◌, suc, ◌≤◌, List, [], ◌∷◌, ◌++◌, map, length, string_bytes, refl, sym, ap, ap₂, ◌∙◌, subst, arith}
 use Rattle.c_values.specs.Name.{Name}
 use Rattle.expression_lang.specs.Sort.{Scalar}
 use Rattle.ac_expr.specs.Fact.{Fact}
-use Rattle.expression_lang.specs.CodeSort.{scalar_of}
 use Rattle.std.specs.Prelude.{Option}
 use Rattle.monad_lang.specs.Program as M
 use Rattle.monad_lang.specs.Program.{Mon}
 use Rattle.monad_lang.specs.CodeProgram.{mon_of}
-use Rattle.monad_lang.specs.Sorted.{Setting, setting_with, scalars_given}
+use Rattle.monad_lang.specs.Sorted.{Setting, setting_with}
 use Rattle.program_facts.specs.Flow.{facts_after}
-use Rattle.rule_eq.specs.Rule.{Point}
-use Rattle.rule_eq.specs.Table.{point, behind}
+use Rattle.rule_eq.specs.Table.{point}
 use Rattle.rule_walks.specs.Walk.{Walk, Walked, Before}
 use Rattle.expression_steps.specs.declared.points.Scoped as N
 use Rattle.expression_steps.specs.declared.points.PassedPart as Q
@@ -22,10 +20,10 @@ use Rattle.polish.specs.declared.descent.Level as L
 use Rattle.polish.specs.declared.descent.Descent as D
 use Rattle.polish.specs.Polished.{polished}
 use Rattle.polish.specs.Weight.{weight}
-use Rattle.polish.specs.Descent.{Stage, below, seen_raised, seen_climbed}
+use Rattle.polish.specs.Descent.{below, seen_raised, seen_climbed}
 use Rattle.polish.specs.CodeDescent.{setting_past, point_past, stage_in, stages_in, kept_names, given_names, AreTold, IsKept, up_from, rebuilt, IsDeeper, IsClimbed}
 use Rattle.polish.specs.SeenFollowed.{stage}
-use Rattle.polish.proofs.Descending.{below_push, climbed_push}
+use Rattle.polish.proofs.Descending.{climbed_push}
 use Rattle.polish.proofs.Lightened.{raised_lighter}
 
 facts_push : (ps : List Q.PassedPart) (p : Q.PassedPart) (fs : List Fact) →

@@ -1,17 +1,16 @@
 -- The loops down a program and back, with what is kept of trees: what was done before is added to at its end, and each step down a
 -- sequence leaves the same to be done.
-use Rattle.std.proofs.Common.{◌≡◌, ℕ, Bool, true, false, cond, List, [], ◌∷◌, ◌++◌, Option, Some, None, refl, sym, ap, ap₂, ◌∙◌}
+use Rattle.std.proofs.Common.{◌≡◌, Bool, true, false, cond, List, [], ◌∷◌, ◌++◌, refl, sym, ap, ap₂, ◌∙◌}
 use Rattle.c_values.specs.Name.{Name}
-use Rattle.expression_lang.specs.Expression.{Exp}
 use Rattle.monad_lang.specs.Program as M
 use Rattle.monad_lang.specs.Program.{Mon}
-use Rattle.rule_trees.specs.RuleTree.{Tree, node, no_trees}
+use Rattle.rule_trees.specs.RuleTree.{Tree}
 use Rattle.rule_eq.specs.Rule as R
 use Rattle.rule_eq.specs.Rule.{Rule, Point}
-use Rattle.rule_eq.specs.Table.{taken_at, behind}
-use Rattle.rule_walks.specs.Balanced.{Chain, chained}
+use Rattle.rule_eq.specs.Table.{behind}
+use Rattle.rule_walks.specs.Balanced.{chained}
 use Rattle.rule_walks.specs.Walk.{Walk, Goes, walk_of, stays, one_walk, has_stayed, steps_in, joined_walks, over_bind, Walked, walked, then_walked, Before, Nothing, Led, after_before, and_led}
-use Rattle.polish.specs.Polished.{Polished, Way, leaf, bind_tree, at_once, and_then, put_taken, turned, bound, then_all, settled, parted, followed}
+use Rattle.polish.specs.Polished.{Polished, Way, leaf, bind_tree, and_then, turned, bound, then_all, settled}
 use Rattle.polish.specs.Seen.{seen}
 use Rattle.polish.specs.Descent.{Stage, below, seen_raised, seen_climbed}
 use Rattle.polish.proofs.Walks.{chained_on, walk_bind, seen_then}

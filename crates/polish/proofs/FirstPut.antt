@@ -1,5 +1,5 @@
 -- The first value that can be put in, with the names before it in their order.
-use Rattle.std.proofs.Common.{◌≡◌, ℕ, zero, suc, ◌+◌, Bool, true, false, cond, not, ◌&&◌, ◌||◌, List, [], ◌∷◌, ◌++◌, Option, Some, None, refl, sym, ap, ◌∙◌, arith}
+use Rattle.std.proofs.Common.{◌≡◌, ℕ, zero, ◌+◌, Bool, true, false, cond, not, ◌&&◌, ◌||◌, List, [], ◌∷◌, ◌++◌, Option, Some, None, refl, sym, ap, ◌∙◌, arith}
 use Rattle.c_values.specs.Name.{Name, same_name, is_among}
 use Rattle.expression_lang.specs.Expression.{Exp, Var, WordLit, NumberLit, TruthLit}
 use Rattle.monad_lang.specs.Program.{Mon}
@@ -92,9 +92,6 @@ module _ (n : Mon) where
   constant_next k e es x xs h =
       ap (λ b. put_later k (cond b (Some zero) (one_later (first_constant es xs n)))) h
       ∙ later_more k (first_constant es xs n)
-
-  pub constants_end : (xs : List Name) → first_constant [] xs n ≡ None
-  constants_end xs = refl
 
   pub constant_names_end : (es : List Exp) → first_constant es [] n ≡ None
   constant_names_end [] = refl

@@ -5,7 +5,7 @@ use Rattle.c_values.specs.Name.{Name}
 use Rattle.expression_lang.specs.Expression.{Exp, TruthLit}
 use Rattle.ac_expr.specs.Fact.{Whole, NotTrue}
 use Rattle.monad_lang.specs.Program as M
-use Rattle.monad_lang.specs.Program.{Mon, Start}
+use Rattle.monad_lang.specs.Program.{Mon}
 use Rattle.monad_lang.specs.Form.{is_bind_ret, all_kept, is_tidy}
 use Rattle.program_facts.specs.Substituted.{program_substituted}
 use Rattle.rule_trees.specs.RuleTree.{Tree}

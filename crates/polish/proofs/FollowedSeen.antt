@@ -1,5 +1,5 @@
 -- What is kept while a sequence is followed down is what the definition leads to.
-use Rattle.std.proofs.Common.{◌≡◌, ℕ, Bool, true, false, cond, List, [], ◌∷◌, Option, Some, None, refl, sym, ap, ap₂, ◌∙◌}
+use Rattle.std.proofs.Common.{◌≡◌, ℕ, Bool, true, false, cond, List, [], ◌∷◌, Option, Some, None, refl, sym, ap, ◌∙◌}
 use Rattle.c_values.specs.Name.{Name}
 use Rattle.expression_lang.specs.Expression.{Exp}
 use Rattle.monad_lang.specs.Program as M
@@ -9,18 +9,18 @@ use Rattle.rule_trees.specs.RuleTree.{Tree}
 use Rattle.rule_eq.specs.Rule as R
 use Rattle.rule_eq.specs.Rule.{Rule, Point}
 use Rattle.rule_eq.specs.Table.{behind}
-use Rattle.rule_walks.specs.Walk.{Walk, Stays, Second, Goes, walk_of, stays, one_walk, has_stayed, joined_walks, over_bind, Walked, walked, then_walked, Before, Nothing, after_before, and_led}
+use Rattle.rule_walks.specs.Walk.{Walk, Stays, Second, Goes, walk_of, stays, has_stayed, joined_walks, over_bind, Walked, walked, then_walked, Before, Nothing, after_before, and_led}
 use Rattle.expression_steps.specs.Known.{is_known}
 use Rattle.polish.specs.Polished.{Polished, Way, leaf, at_once, and_then, first_constant, put_or_settled, turned, bound, then_all, settled, Parted, parted, followed}
 use Rattle.polish.specs.Climbed as C
-use Rattle.polish.specs.Climbed.{Next, next_of, put_next}
+use Rattle.polish.specs.Climbed.{next_of, put_next}
 use Rattle.polish.specs.CodeNext as S
 use Rattle.polish.specs.CodeNext.{settling_of, stepped}
 use Rattle.polish.specs.Seen.{seen, SeenParted, seen_parted}
-use Rattle.polish.specs.Descent.{Stage, seen_raised, seen_climbed}
+use Rattle.polish.specs.Descent.{Stage, seen_raised}
 use Rattle.polish.specs.SeenFollowed.{led_whole, stage, turn_stage, at_bottom, seen_followed, turns}
 use Rattle.polish.proofs.Nexts.{bound_stepped}
-use Rattle.polish.proofs.Walks.{walk_bind, seen_then, parted_seen}
+use Rattle.polish.proofs.Walks.{parted_seen}
 use Rattle.polish.proofs.Descending.{after_led, settled_seen, all_seen, step_seen, turned_seen}
 
 module _ (again : Way) (last : Point → Polished) (n : Mon) where

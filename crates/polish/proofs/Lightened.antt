@@ -1,8 +1,7 @@
 -- What the code goes on with is no heavier than what it came from.
-use Rattle.std.proofs.Common.{◌≡◌, ℕ, ◌<◌, ◌≤◌, List, Option, Some, None, refl, sym, ap, ◌∙◌, arith, subst}
+use Rattle.std.proofs.Common.{◌≡◌, ℕ, ◌<◌, ◌≤◌, List, Option, Some, None, refl, ap, arith, subst}
 use Rattle.std.specs.Option.{option_map}
 use Rattle.c_values.specs.Name.{Name}
-use Rattle.expression_lang.specs.Expression.{Exp}
 use Rattle.monad_lang.specs.Program as M
 use Rattle.monad_lang.specs.Program.{Mon}
 use Rattle.rule_eq.specs.Rule.{Point}

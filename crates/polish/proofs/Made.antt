@@ -1,5 +1,5 @@
 -- What the code gives for a program is its translation.
-use Rattle.std.proofs.Common.{◌≡◌, true, List, Some, refl, sym, ap, ◌∙◌, subst}
+use Rattle.std.proofs.Common.{◌≡◌, true, List, Some, sym, ap, ◌∙◌, subst}
 use Rattle.c_values.specs.Layout.{IsLayout}
 use Rattle.expression_lang.specs.Sort.{Scalar}
 use Rattle.monad_lang.specs.Program.{Mon}
@@ -10,7 +10,7 @@ use Rattle.rule_eq.specs.Rule.{Rule, Point}
 use Rattle.rule_eq.specs.Table.{Takes}
 use Rattle.rule_eq.specs.Tidy.{KeepsForms}
 use Rattle.rule_walks.specs.Balanced.{built}
-use Rattle.rule_walks.specs.Walk.{Walked, walk_of, steps_in}
+use Rattle.rule_walks.specs.Walk.{Walked, steps_in}
 use Rattle.polish.specs.Polished.{polished}
 use Rattle.polish.specs.Seen.{seen}
 use Rattle.polish.specs.Translation.{translation, IsTidyOf}

@@ -4,7 +4,7 @@ use Rattle.std.proofs.lemmas.Bool.{and_parts, and_from, or_from, cond_both}
 use Rattle.c_values.specs.Name.{Name, is_among}
 use Rattle.expression_lang.specs.Expression.{Exp, TruthLit}
 use Rattle.monad_lang.specs.Program as M
-use Rattle.monad_lang.specs.Program.{Mon, Start}
+use Rattle.monad_lang.specs.Program.{Mon}
 use Rattle.monad_lang.specs.Run.{start_names}
 use Rattle.monad_lang.specs.Form.{is_bind_ret, all_kept, is_assoc, is_true_guard, can_be_put, some_can_be_put, is_ret_one, is_tidy}
 use Rattle.ac_expr.specs.Substituted.{substituted}

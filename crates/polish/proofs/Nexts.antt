@@ -1,5 +1,5 @@
 -- A sequence of tidy programs is made tidy by the step that is told before.
-use Rattle.std.proofs.Common.{◌≡◌, ℕ, Bool, true, false, cond, ◌||◌, List, [], ◌∷◌, Option, Some, None, refl, sym, ap, ◌∙◌}
+use Rattle.std.proofs.Common.{◌≡◌, ℕ, Bool, true, false, cond, ◌||◌, List, [], Option, Some, None, refl, ap, ◌∙◌}
 use Rattle.std.specs.Option.{option_map}
 use Rattle.c_values.specs.Name.{Name}
 use Rattle.expression_lang.specs.Expression.{Exp}
@@ -9,7 +9,7 @@ use Rattle.monad_lang.specs.Form.{is_bind_ret, is_true_guard, all_kept}
 use Rattle.rule_eq.specs.Rule as R
 use Rattle.rule_eq.specs.Rule.{Point}
 use Rattle.rule_eq.specs.Table.{Taken, taken_at, behind}
-use Rattle.polish.specs.Polished.{Polished, Way, leaf, unchanged, at_once, and_then, what_is_bound, first_put, put_taken, put_at, turned, or_shorter, bound}
+use Rattle.polish.specs.Polished.{Polished, Way, leaf, unchanged, at_once, and_then, what_is_bound, first_put, put_taken, put_at, turned, bound}
 use Rattle.polish.specs.CodeNext.{Settling, Stays, Gives, Skips, Turns, Puts, is_nothing, gives_names, where_put, otherwise, settling_of, stepped}
 use Rattle.polish.specs.CodePutting.{with_taken, put_into}
 use Rattle.polish.proofs.Cases.{some_same}

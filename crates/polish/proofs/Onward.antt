@@ -1,5 +1,5 @@
 -- The loops down and back, as the code makes them.
-use Rattle.std.proofs.Common.{◌≡◌, ℕ, suc, ◌+◌, ◌*◌, ◌<◌, ◌≤◌, Bool, true, false, cond, List, [], ◌∷◌, refl, sym, ap, ap₂, ◌∙◌, subst, arith}
+use Rattle.std.proofs.Common.{◌≡◌, ℕ, ◌<◌, ◌≤◌, Bool, true, false, cond, List, [], ◌∷◌, refl, sym, ap, ap₂, ◌∙◌, subst, arith}
 use Rattle.c_values.specs.Name.{Name}
 use Rattle.ac_expr.specs.Fact.{Fact}
 use Rattle.monad_lang.specs.Program as M
@@ -27,12 +27,12 @@ use Rattle.polish.specs.Climbed.{Next, next_of}
 use Rattle.polish.specs.CodeNext as S
 use Rattle.polish.specs.CodeNext.{Settling, settling_of, stepped}
 use Rattle.polish.specs.Seen.{seen, SeenParted, seen_parted}
-use Rattle.polish.specs.Descent.{Stage, seen_raised, seen_climbed}
+use Rattle.polish.specs.Descent.{seen_raised, seen_climbed}
 use Rattle.polish.specs.SeenFollowed.{led_whole, stage, turn_stage, at_bottom, seen_followed, turns}
 use Rattle.polish.specs.Weight.{weight}
 use Rattle.polish.specs.CodeNextView.{next_in}
 use Rattle.polish.specs.CodeDescent.{point_past, stages_in, IsKept, up_from, rebuilt, IsDeeper}
-use Rattle.polish.specs.Followed.{leads, heavy, LeadsOn, ending, IsBottom, outcome, left, IsFollowed, IsTurned, IsOnward}
+use Rattle.polish.specs.Followed.{leads, heavy, LeadsOn, ending, IsBottom, IsFollowed, IsTurned, IsOnward}
 use Rattle.polish.proofs.Unfolded.{of_sequence}
 use Rattle.polish.proofs.Nexts.{bound_stepped}
 use Rattle.polish.proofs.Descending.{turned_seen}

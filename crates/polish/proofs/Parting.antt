@@ -1,5 +1,5 @@
 -- What a walk does to a sequence before it is turned, by how many times it goes to a second part.
-use Rattle.std.proofs.Common.{◌≡◌, ℕ, zero, suc, ◌-◌, ◌<◌, refl, sym, ap, arith}
+use Rattle.std.proofs.Common.{◌≡◌, ℕ, zero, suc, ◌-◌, refl, ap, arith}
 use Rattle.c_values.specs.Name.{Name}
 use Rattle.std.specs.Prelude.{List}
 use Rattle.monad_lang.specs.Program as M

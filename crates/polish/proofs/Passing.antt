@@ -7,8 +7,8 @@ use Rattle.monad_lang.specs.Form.{can_be_put}
 use Rattle.monad_lang.specs.Names.{is_free}
 use Rattle.polish.specs.Polished.{is_literal, first_put, first_constant}
 use Rattle.polish.specs.CodePutting.{put_later, put_behind}
-use Rattle.polish.specs.Passing.{IsLeft, IsPutLeft, IsConstantLeft}
-use Rattle.polish.proofs.FirstPut.{put_begun, put_here, put_next, constant_begun, constant_here, constant_next, constant_names_end}
+use Rattle.polish.specs.Passing.{IsPutLeft, IsConstantLeft}
+use Rattle.polish.proofs.FirstPut.{put_begun, put_here, put_next, constant_begun, constant_here, constant_next}
 use Rattle.polish.proofs.Passed.{all_left, one_more_taken, one_less_left, one_further}
 
 map_more : {A B : Type 0} (f : A → B) (xs : List A) (x : A) → map f (xs ++ x ∷ []) ≡ map f xs ++ f x ∷ []

@@ -1,15 +1,9 @@
 -- Fewer than 2^j + 1 steps at a node, balanced, are higher than the highest of them by j at most.
-use Rattle.std.proofs.Common.{◌≡◌, ℕ, zero, suc, ◌+◌, ◌%◌, ◌^◌, ◌<◌, ◌≤◌, Bool, true, false, nat_eq, max, arith}
-use Rattle.monad_lang.specs.Program.{Mon}
-use Rattle.rule_trees.specs.RuleTree.{Tree, node, no_trees, tree}
+use Rattle.std.proofs.Common.{◌≡◌, ℕ, zero, suc, ◌+◌, ◌%◌, ◌^◌, ◌<◌, ◌≤◌, Bool, true, false, nat_eq, arith}
+use Rattle.rule_trees.specs.RuleTree.{node}
 use Rattle.rule_eq.specs.Rule as R
-use Rattle.rule_eq.specs.Rule.{Rule}
 use Rattle.rule_walks.proofs.Rounds.{halved}
-use Rattle.rule_walks.specs.Balanced.{Chain, single, before, paired, paired_from, round, links, as_one, built, height, tallest}
-
-joined_height : (t u : Tree Rule) (m : Mon) →
-    height (node (R.Trans m) (tree t (tree u no_trees))) ≤ suc (max (height t) (height u))
-joined_height t u m = omega arith
+use Rattle.rule_walks.specs.Balanced.{Chain, single, before, paired, paired_from, round, links, as_one, height, tallest}
 
 one_higher : (c : Chain) → tallest (paired c) ≤ suc (tallest c)
 one_higher (single t) = omega arith
@@ -34,6 +28,3 @@ rounds (suc j) (suc k) (before t m c) h i =
   where
     twice : (j : ℕ) → 2 ^ suc j ≡ 2 ^ j + 2 ^ j
     twice j = omega arith
-
-pub built_height : (j : ℕ) (c : Chain) → links c < 2 ^ j → height (built c) ≤ j + tallest c
-built_height j c i = rounds j (links c) c (omega arith) i

@@ -1,11 +1,11 @@
 -- Steps of expressions, one after the other, as the code keeps them.
-use Rattle.std.proofs.Common.{◌≡◌, List, [], ◌∷◌, ◌++◌, None, Some, refl, sym, ap, ap₂, ◌∙◌}
+use Rattle.std.proofs.Common.{◌≡◌, List, [], ◌∷◌, ◌++◌, None, Some, sym, ap, ap₂, ◌∙◌}
 use Rattle.monad_lang.specs.Program.{Mon}
 use Rattle.monad_lang.specs.CodeProgram.{mon_of}
 use Rattle.rule_eq.specs.Rule as R
 use Rattle.rule_eq.specs.Rule.{Point}
 use Rattle.rule_eq.specs.CodeRule.{tree_of}
-use Rattle.rule_walks.specs.Balanced.{Chain, single, before}
+use Rattle.rule_walks.specs.Balanced.{single, before}
 use Rattle.rule_walks.specs.Walk.{Goes, stays, Walked, walked, then_walked}
 use Rattle.rule_walks.specs.CodeWalks.{with_steps}
 use Rattle.rule_walks.specs.declared.walks.Step as S

@@ -4,13 +4,13 @@ use Rattle.std.proofs.lemmas.Bool.{true≢false, and_parts, or_parts, not-true, 
 use Rattle.c_values.specs.Name.{Name}
 use Rattle.expression_lang.specs.Expression.{Exp, TruthLit}
 use Rattle.monad_lang.specs.Program as M
-use Rattle.monad_lang.specs.Program.{Mon, Start}
+use Rattle.monad_lang.specs.Program.{Mon}
 use Rattle.monad_lang.specs.Names.{is_free}
 use Rattle.polish.proofs.Accepted.{literal_put}
 use Rattle.monad_lang.specs.Form.{is_bind_ret, all_kept, is_assoc, is_true_guard, is_constant_truth, can_be_put, some_can_be_put, is_ret_one, is_tidy}
 use Rattle.ac_expr.specs.Fact.{Whole, NotTrue}
 use Rattle.rule_eq.specs.Rule as R
-use Rattle.rule_eq.specs.Rule.{Rule, Point}
+use Rattle.rule_eq.specs.Rule.{Point}
 use Rattle.rule_eq.specs.Table.{knowing, behind, within}
 use Rattle.expression_steps.specs.Rewritten.{direct_nodes}
 use Rattle.polish.specs.Direct.{direct_step, more, direct_steps}

@@ -1,12 +1,12 @@
 -- A value put in, and what it was put into made tidy again; and a sequence turned.
-use Rattle.std.proofs.Common.{◌≡◌, ℕ, List, Some, None, refl, sym, ap, ◌∙◌}
+use Rattle.std.proofs.Common.{◌≡◌, ℕ, List, Some, None, sym, ap, ◌∙◌}
 use Rattle.c_values.specs.Name.{Name}
 use Rattle.monad_lang.specs.Program as M
 use Rattle.monad_lang.specs.Program.{Mon}
 use Rattle.rule_eq.specs.Rule as R
 use Rattle.rule_eq.specs.Rule.{Point}
 use Rattle.rule_walks.specs.Walk.{stays, one_walk, Walked, walked, Nothing, after_before, and_led}
-use Rattle.polish.specs.Polished.{Polished, leaf, unchanged, polished}
+use Rattle.polish.specs.Polished.{leaf, polished}
 use Rattle.polish.specs.CodeNext as S
 use Rattle.polish.specs.CodeNext.{stepped}
 use Rattle.polish.specs.CodePutting.{put_into}

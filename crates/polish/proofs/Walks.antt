@@ -1,5 +1,5 @@
 -- The walks of trees that are made of others.
-use Rattle.std.proofs.Common.{◌≡◌, ℕ, ◌<◌, Bool, true, false, cond, ◌&&◌, List, [], ◌∷◌, Option, Some, None, refl, sym, ap, ap₂, ◌∙◌}
+use Rattle.std.proofs.Common.{◌≡◌, ◌<◌, Bool, true, false, cond, ◌&&◌, Some, None, refl, sym, ap, ap₂, ◌∙◌}
 use Rattle.monad_lang.specs.Program as M
 use Rattle.monad_lang.specs.Program.{Mon}
 use Rattle.rule_trees.specs.RuleTree.{Tree, Trees, node, no_trees, tree}
@@ -10,7 +10,7 @@ use Rattle.rule_walks.specs.Walk.{Walk, Stays, Second, Goes, walk_of, stays, one
 use Rattle.expression_steps.specs.Rewritten.{direct_nodes}
 use Rattle.expression_steps.specs.Shortened.{shortened}
 use Rattle.polish.specs.Direct.{direct_step, direct_steps, more}
-use Rattle.polish.specs.Polished.{Polished, leaf, is_refl, joined, bind_tree, if_tree, loop_tree, exp_tree, last_of, and_then, shortened_in, Parted, parted}
+use Rattle.polish.specs.Polished.{Polished, leaf, is_refl, joined, bind_tree, if_tree, loop_tree, exp_tree, last_of, and_then, shortened_in, parted}
 use Rattle.polish.specs.Seen.{seen, SeenParted, seen_parted}
 use Rattle.polish.proofs.Fewer.{direct_fewer, steps_go_on}
 use Rattle.polish.proofs.Shortened.{shortened_nodes}

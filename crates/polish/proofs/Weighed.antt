@@ -5,7 +5,7 @@ use Rattle.c_values.specs.Name.{Name, is_among}
 use Rattle.expression_lang.specs.Expression.{Exp, TruthLit}
 use Rattle.ac_expr.specs.Substituted.{substituted}
 use Rattle.monad_lang.specs.Program as M
-use Rattle.monad_lang.specs.Program.{Mon, Start}
+use Rattle.monad_lang.specs.Program.{Mon}
 use Rattle.monad_lang.specs.Run.{start_names}
 use Rattle.monad_lang.specs.Form.{is_bind_ret, all_kept, is_true_guard}
 use Rattle.program_facts.specs.Substituted.{starts_substituted, program_substituted}
@@ -61,11 +61,6 @@ put_lighter es xs n i k h =
     let b = weight_put k.name k.exp n in
     let c = one_fewer i es xs k h in
     omega (arith, a, b, c)
-
--- of a turned sequence the second is lighter, and so is the first with what the second becomes
-pub second_lighter : (a : Mon) (zs : List Name) (b : Mon) (xs : List Name) (n : Mon) →
-    weight (M.Bind b xs n) < weight (M.Bind (M.Bind a zs b) xs n)
-second_lighter a zs b xs n = omega arith
 
 pub first_lighter : (a : Mon) (zs : List Name) (b : Mon) (xs : List Name) (n r : Mon) → weight r ≤ weight (M.Bind b xs n) →
     weight (M.Bind a zs r) < weight (M.Bind (M.Bind a zs b) xs n)

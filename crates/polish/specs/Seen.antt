@@ -1,11 +1,9 @@
 -- What is made of programs, as it is kept while it is made: with the walk of each tree.
-use Rattle.std.specs.Prelude.{true, false}
-use Rattle.expression_lang.specs.Expression.{TruthLit}
 use Rattle.monad_lang.specs.Program as M
 use Rattle.monad_lang.specs.Program.{Mon}
 use Rattle.rule_eq.specs.Rule as R
-use Rattle.rule_walks.specs.Walk.{Walk, Stays, Second, stays, one_walk, over_one, over_two, Walked, walked, walk_of, then_walked}
-use Rattle.polish.specs.Polished.{Polished, leaf}
+use Rattle.rule_walks.specs.Walk.{Walk, Second, stays, over_one, over_two, Walked, walked, walk_of}
+use Rattle.polish.specs.Polished.{Polished}
 
 abbrev pub seen : Polished → Walked
 seen p = walked p.program (walk_of p.tree)

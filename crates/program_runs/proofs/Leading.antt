@@ -30,7 +30,7 @@ use Rattle.program_runs.specs.CodeRun.{picked_value}
 use Rattle.expression_lang.proofs.Good.{is_word}
 use Rattle.program_runs.proofs.Lists.{some_here}
 use Rattle.program_runs.proofs.Bindings.{environment}
-use Rattle.program_runs.proofs.MachineSteps.{gives, if_holds, if_not, loop_begins}
+use Rattle.program_runs.proofs.MachineSteps.{gives, if_not, loop_begins}
 
 pub unless_none : {A : Type 0} (o : Option Operation) (p : Ends A Trouble) (x : Outcome A Trouble) → o ≡ None → p x → unless o p x
 unless_none None p x h k = k
@@ -94,9 +94,6 @@ module _ (u : FinalUnit) (layout : IsLayout u.layout) (k : ℕ) (bs : Bindings) 
   pub guard_fails : (e : Exp) → wide u.layout env s e ≡ None → holds u.layout env s e ≡ false → runs_at u k env (Guard e) b s (Failed Fails)
   guard_fails e narrow off =
       unless_none (wide u.layout env s e) _ _ narrow (choose_false (holds u.layout env s e) _ _ _ off refl)
-
-  pub if_leads : (e : Exp) (m n : Mon) → wide u.layout env s e ≡ None → holds u.layout env s e ≡ true → Leads u k bs (If e m n) b s (Running bs m b) s
-  if_leads e m n narrow on fs out h = if_holds u k out fs s bs e m n b narrow h on
 
   pub else_leads : (e : Exp) (m n : Mon) → wide u.layout env s e ≡ None → holds u.layout env s e ≡ false → Leads u k bs (If e m n) b s (Running bs n b) s
   else_leads e m n narrow off fs out h = if_not u k out fs s bs e m n b narrow h off

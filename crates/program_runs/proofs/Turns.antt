@@ -1,5 +1,5 @@
 -- A loop that comes to its guard.
-use Rattle.std.proofs.Common.{◌≡◌, ℕ, zero, suc, ◌+◌, ◌≤◌, true, false, List, [], ◌∷◌, ◌++◌, length, reverse, take, Option, Some, None, refl, sym, ap, ◌∙◌, subst, inl, inr, ◌⊎◌}
+use Rattle.std.proofs.Common.{◌≡◌, ℕ, zero, suc, ◌+◌, true, false, List, [], ◌∷◌, ◌++◌, length, reverse, take, Option, Some, None, refl, sym, ap, ◌∙◌, subst, inl, inr, ◌⊎◌}
 use Rattle.std.proofs.Math.Seq.{take-append_seam}
 use Rattle.std.specs.Prelude.{IsSome}
 use Rattle.correspondence.specs.Outcome.{Turns as OutOfTurns, Done, Failed, Stopped, Ends, done, fault, goes_on, fails, choose}
@@ -24,7 +24,7 @@ use Rattle.program_runs.specs.CodeRun.{IsMet, HasStopped, stack_of, AreMarked, m
 use Rattle.program_runs.proofs.Bindings.{env_extended, scalars_extended, setting_extended}
 use Rattle.program_runs.proofs.Leading.{unless_none, choose_true, choose_false, truth_sorted}
 use Rattle.program_runs.proofs.MachineSteps.{loop_ends, turn_begins}
-use Rattle.program_runs.proofs.Stacks.{pushed_first, pushed_marks, length_grows}
+use Rattle.program_runs.proofs.Stacks.{pushed_first}
 
 module _ (u : FinalUnit) (bs new : Bindings) (t : Turns) (vs : List Value) (x : Extends bs t.names vs new) (h : CanTurn u bs t vs) where
   pub bindings_there : AreScalars new
@@ -101,11 +101,3 @@ module _ (u : FinalUnit) (k : ℕ) (out : List Scalar) (s : State) (bs new : Bin
       (turn_begins u k out (stack_of bs (reverse items)) s bs new (turns_of t).names (turns_of t).guard (turns_of t).test (turns_of t).body n t.left.depth vs t.left.turns one x e.narrow_guard e.guard e.narrow_test e.test h)
 
 module _ (bs new : Bindings) (items : List W.Pending) (xs : List Name) (vs : List Value) (x : Extends bs xs vs new) (mark : ℕ) (same : mark ≡ length bs) (marked : AreMarked (length bs) (reverse items)) where
-  pub leaves_marked : (cut : Bindings) → cut ≡ take mark new → AreMarked (length cut) (reverse items)
-  leaves_marked cut is = subst (λ q. AreMarked (length q) (reverse items)) (sym (is ∙ ap (λ i. take i new) same ∙ cut_back bs new xs vs x)) marked
-
-  pub turn_pushed_marked : (news : List W.Pending) (r : T.Turns) → news ≡ items ++ (W.TheVariants.Turn r mark ∷ []) → AreMarked (length new) (reverse news)
-  turn_pushed_marked news r grown = pushed_marks (length new) items news (W.TheVariants.Turn r mark) grown (longer, subst (λ i. AreMarked i (reverse items)) (sym same) marked)
-    where
-      longer : mark ≤ length new
-      longer = subst (λ i. i ≤ length new) (sym same) (subst (λ q. length bs ≤ length q) (sym x.same) (length_grows bs x.more))

@@ -1,5 +1,5 @@
 -- What a call asks, argument by argument.
-use Rattle.std.proofs.Common.{◌≡◌, Bool, true, false, ◌&&◌, List, [], ◌∷◌, map, Option, Some, None, cond, refl, sym, length, ◌==◌, ◌∙◌, suc, eqb-true, arith}
+use Rattle.std.proofs.Common.{◌≡◌, Bool, true, false, ◌&&◌, List, [], ◌∷◌, map, Option, Some, None, refl, sym, length, ◌==◌, ◌∙◌, suc, eqb-true, arith}
 use Rattle.std.proofs.lemmas.Bool.{false_from_ne_true}
 use Rattle.expression_lang.specs.declared.signatures.Binder as B
 use Rattle.expression_lang.specs.declared.expression.Exp as R
@@ -8,7 +8,7 @@ use Rattle.expression_lang.specs.CodeSignature.{binder_of}
 use Rattle.expression_lang.specs.Expression.{Exp}
 use Rattle.expression_lang.specs.Sort.{Scalar, Sort, Of, PartsSort, Kind, Scope, same_scalar}
 use Rattle.expression_lang.specs.Signature.{kinds_of}
-use Rattle.expression_lang.specs.Sorted.{program_sort, scalar_in, with_scalar, scalars_of, same_scalars}
+use Rattle.expression_lang.specs.Sorted.{program_sort, scalar_in, with_scalar, scalars_of}
 use Rattle.program_sorts.specs.Sorts.{is_scalar_of, may_take}
 
 and_false : (b : Bool) → (b && false) ≡ false

@@ -1,5 +1,5 @@
 -- Sorts against scalars: of what goes to a name, and of what goes to names of some kinds.
-use Rattle.std.specs.Prelude.{Bool, true, false, List, map, Option, Some, None}
+use Rattle.std.specs.Prelude.{Bool, false, List, map, Option, Some, None}
 use Rattle.expression_lang.specs.Sort.{Scalar, Sort, Of, Kind, same_scalar}
 use Rattle.expression_lang.specs.Sorted.{same_scalars}
 

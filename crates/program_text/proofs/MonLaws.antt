@@ -149,11 +149,6 @@ alone_parts (Loop starts guard test m) e = refl
 alone_parts (Call f es) e = refl
 alone_parts (Pick k) e = refl
 
-sequence_is : (ts : Trees) → is_sequence ts ≡ true → sequence ts ≡ begins H.Do ts
-sequence_is no_trees e = refl
-sequence_is (more t no_trees) e = absurd (false≢true e)
-sequence_is (more t (more u us)) e = refl
-
 -- the tree of a program, of one that is no sequence where the tree isn't
 abbrev IsMonText : Tree → Mon → Type 0
 IsMonText t m = (t ≡ mon_tree m) × (is_mon m ≡ true) × (begins_do t ≡ false → is_bind m ≡ false)

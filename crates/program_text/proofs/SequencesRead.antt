@@ -72,13 +72,6 @@ bound_read : (of : Mon → Mon) (at : ℕ) (ts : Trees) (x : Tree × Tree × Tre
     whole ≡ made of (names_at at x.0 >>= λ w. mon_at w.1 x.1 >>= λ y. sequence_at y.1 x.2 >>= λ z. Ok (Bind y.0 w.0 z.0, z.1))
 bound_read of at ts x whole e so_far = sym so_far ∙ ap (λ us. made of (sequence_at at us)) (bind_is ts x e)
 
-pub sequence_names_refused : (of : Mon → Mon) (fault : TextFault) (at : ℕ) (ts : Trees) (x : Tree × Tree × Trees) (whole : Read Mon) → Some x ≡ bind_of ts → Fails fault (names_at at x.0) → made of (sequence_at at ts) ≡ whole → Fails fault whole
-sequence_names_refused of (X.Shape n) at ts x whole e bad so_far =
-    bound_read of at ts x whole e so_far ∙ ap (λ r. made of (r >>= λ w. mon_at w.1 x.1 >>= λ y. sequence_at y.1 x.2 >>= λ z. Ok (Bind y.0 w.0 z.0, z.1))) bad
-sequence_names_refused of X.Memory at ts x whole e bad so_far = tt
-sequence_names_refused of X.NotText at ts x whole e bad so_far = bad
-sequence_names_refused of X.Deep at ts x whole e bad so_far = bad
-
 pub sequence_first_refused : (of : Mon → Mon) (fault : TextFault) (at n : ℕ) (ts : Trees) (x : Tree × Tree × Trees) (ns : List Name) (whole : Read Mon) → Some x ≡ bind_of ts → names_at at x.0 ≡ Ok (ns, n) → Fails fault (mon_at n x.1) → made of (sequence_at at ts) ≡ whole → Fails fault whole
 sequence_first_refused of (X.Shape j) at n ts x ns whole e named bad so_far =
     bound_read of at ts x whole e so_far

@@ -1,5 +1,5 @@
 -- What is said of files that are read again, and of what is shown of a refused node.
-use Rattle.std.proofs.Common.{◌≡◌, ℕ, ◌≤◌, List, Option, Some, None, Result, Ok, Err, IfOk, inl, inr, sym, subst, arith}
+use Rattle.std.proofs.Common.{◌≡◌, ℕ, ◌≤◌, List, Option, None, Result, Ok, Err, IfOk, inl, inr, subst, arith}
 use Rattle.c_values.specs.Name.{Name}
 use Rattle.c_values.specs.Types.{Target}
 use Rattle.c_lang.specs.Typed.{TypedUnit}
@@ -10,8 +10,7 @@ use Rattle.answers.specs.declared.status.Status.TheVariants.{Done, No, Words, So
 use Rattle.text_answers.specs.TextAnswer.{IsTextAnswer}
 use Rattle.text_answers.proofs.OneAnswer.{one_answer}
 use Rattle.remarks.specs.Remark.{Again, IsSeen}
-use Rattle.checking.specs.RefusedPart.{IsShown}
-use Rattle.remarks.specs.CodeRefused.{told_part, IsTold, IsToldOf}
+use Rattle.remarks.specs.CodeRefused.{told_part, IsToldOf}
 
 pub of_result : {T E : Type 0} (r : Result T E) (P Q : T → Type 0) → ((x : T) → P x → Q x) → IfOk r P → IfOk r Q
 of_result (Ok x) P Q f h = f x h
@@ -46,10 +45,3 @@ module _ (target : Target) (text certificate : List ℕ) where
   seen Limit lines h = none_told Limit lines (λ unit k. absurd k) h
   seen Memory lines h = none_told Memory lines (λ unit k. absurd k) h
   seen NotYet lines h = none_told NotYet lines (λ unit k. absurd k) h
-
--- an answer that tells what is shown is one to the typed text
-pub told_of : (target : Target) (certificate : List ℕ) (unit : TypedUnit) (status : Status) (lines : List ℕ) (o : Option (List ℕ)) →
-    IsShown target certificate unit o → IsTold status lines o → IsToldOf target certificate unit status lines
-told_of target certificate unit status lines None h e = subst (λ s. IsToldOf target certificate unit s lines) (sym e) h
-told_of target certificate unit status lines (Some shown) h (e, same) =
-    subst (λ s. IsToldOf target certificate unit s lines) (sym e) (subst (λ x. IsShown target certificate unit (Some x)) (sym same) h)

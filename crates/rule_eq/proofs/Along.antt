@@ -11,7 +11,7 @@ use Rattle.monad_lang.specs.Sorted.{Setting}
 use Rattle.monad_sorts.specs.CodeTold.{with_names, names_after, last_part, part_after}
 use Rattle.program_facts.specs.Flow.{parts}
 use Rattle.rule_eq.specs.Rule as R
-use Rattle.rule_eq.specs.Rule.{Rule, Point, Claim, does}
+use Rattle.rule_eq.specs.Rule.{Rule, Point, does}
 use Rattle.rule_eq.specs.Table.{point, row}
 use Rattle.rule_eq.specs.CodeFits.{IsSorted, Fits}
 use Rattle.rule_eq.specs.CodeSteps.{is_along, is_leaf, left_first, right_first, left_behind, right_behind, point_behind, passes, rest_of}

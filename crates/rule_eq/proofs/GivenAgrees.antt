@@ -11,7 +11,7 @@ use Rattle.expression_lang.specs.Sort.{Scalar, Scope, Kind, is_truth}
 use Rattle.expression_lang.specs.Sorted.{names_with, program_sort, scalar_in, with_scalar, fits_place, call_scalars}
 use Rattle.expression_lang.specs.Signature.{Signature, signature}
 use Rattle.monad_lang.specs.Program as M
-use Rattle.monad_lang.specs.Program.{Mon, Place, Start}
+use Rattle.monad_lang.specs.Program.{Mon, Start}
 use Rattle.monad_lang.specs.Names.{is_free, is_in_start, is_in_place}
 use Rattle.monad_lang.specs.Run.{start_names}
 use Rattle.monad_lang.specs.Sorted.{Setting, scalars_given, start_scalars, one_for_each, are_scalars, and_then_scalars, where_fits}

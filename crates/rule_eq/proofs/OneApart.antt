@@ -1,7 +1,7 @@
 -- Which rows of expressions are one step apart in one of them, by the first of both.
 use Rattle.std.proofs.Common.{◌≡◌, ◌≢◌, ◌↔◌, List, [], ◌∷◌, ◌⊎◌, inl, inr, refl, sym, ap₂, ◌∙◌, subst}
 use Rattle.expression_lang.specs.Expression.{Exp}
-use Rattle.ac_expr.proofs.Apart.{one_is, is_one, none_left, none_right}
+use Rattle.ac_expr.proofs.Apart.{one_is, is_one, none_left}
 use Rattle.ac_expr.specs.Step.{at_each}
 use Rattle.rule_eq.specs.Rule.{Point}
 use Rattle.rule_eq.specs.Table.{OneApart, StepApart}
@@ -9,9 +9,6 @@ use Rattle.rule_eq.specs.Table.{OneApart, StepApart}
 module _ (at : Point) where
   pub none_apart : (es : List Exp) → OneApart at [] es → ⊥
   none_apart es k = none_left at.setting.scope _ es k
-
-  pub apart_none : (es : List Exp) → OneApart at es [] → ⊥
-  apart_none es k = none_right at.setting.scope _ es k
 
   -- where the first of both differ, the others are the same
   pub first_apart : (a b : Exp) (es fs : List Exp) → b ≢ a → ((fs ≡ es) × StepApart at a b) ↔ OneApart at (a ∷ es) (b ∷ fs)
@@ -76,17 +73,10 @@ module _ (at : Point) (left right ones others : List Exp) (a b : Exp) (behind re
 -- where one of them is at its end
 
 module _ (at : Point) (left right ones others : List Exp) (same : OneApart at left right ↔ OneApart at ones others) where
-  pub at_left_end : ones ≡ [] → OneApart at left right → ⊥
-  at_left_end h k = none_apart at others (subst (λ es. OneApart at es others) h (same.0 k))
-
-  pub at_right_end : others ≡ [] → OneApart at left right → ⊥
-  at_right_end h k = apart_none at ones (subst (λ fs. OneApart at ones fs) h (same.0 k))
 
 -- a row that is one step apart from itself where what is left of it is
 
 module _ (at : Point) (exps rest : List Exp) (same : OneApart at rest rest ↔ OneApart at exps exps) where
-  pub none_itself : rest ≡ [] → OneApart at exps exps → ⊥
-  none_itself h k = none_apart at rest (subst (λ es. OneApart at es rest) h (same.1 k))
 
   module _ (a : Exp) (behind : List Exp) (first : rest ≡ a ∷ behind) where
     pub this_itself : StepApart at a a → OneApart at exps exps

@@ -11,27 +11,12 @@ use Rattle.monad_lang.specs.Run.{start_names}
 use Rattle.program_facts.specs.Places.{place_head, place_children}
 use Rattle.program_facts.specs.Substituted.{each_substituted, starts_substituted, place_substituted, program_substituted}
 use Rattle.rule_eq.specs.declared.program_putting.Looked as L
-use Rattle.rule_eq.specs.CodePutting.{SaysOf, exp_behind, put_behind, turn_put}
+use Rattle.rule_eq.specs.CodePutting.{exp_behind, put_behind, turn_put}
 use Rattle.rule_eq.proofs.PutParts.{path_head_put, put_before}
 
 -- one program of another's parts is so where its own last part is
 
-pub bind_iff : (a b : Mon) (xs ys : List Name) (n m : Mon) → b ≡ a → ys ≡ xs → (m ≡ n) ↔ (M.Bind b ys m ≡ M.Bind a xs n)
-bind_iff a b xs ys n m h i = ((λ e. cc), (λ e. cc))
-
-pub if_iff : (c d : Exp) (a b n m : Mon) → d ≡ c → b ≡ a → (m ≡ n) ↔ (M.If d b m ≡ M.If c a n)
-if_iff c d a b n m h i = ((λ e. cc), (λ e. cc))
-
-pub loop_iff : (xs ys : List Start) (c d f g : Exp) (n m : Mon) → ys ≡ xs → d ≡ c → g ≡ f →
-    (m ≡ n) ↔ (M.Loop ys d g m ≡ M.Loop xs c f n)
-loop_iff xs ys c d f g n m h i k = ((λ e. cc), (λ e. cc))
-
 module _ (x : Name) (e : Exp) where
-  -- what is said of the one is said of the other
-  pub says_as : (r : L.Looked) (n m n' m' : Mon) → (m ≡ n) ↔ (m' ≡ n') → SaysOf x e r n m → SaysOf x e r n' m'
-  says_as L.TheVariants.Differ n m n' m' same says = λ i. says (same.1 i)
-  says_as L.TheVariants.Same n m n' m' same says = same.0 says
-  says_as (L.TheVariants.AsLast a b) n m n' m' same says = ((λ i. same.0 (says.0 i)), (λ i. says.1 (same.1 i)))
 
   pub write_iff : (place place' : Place) (a a' : Exp) (m right : Mon) → m ≡ M.Write place a → right ≡ M.Write place' a' →
       ((place' ≡ place_substituted x e place) × (a' ≡ substituted x e a)) ↔ (right ≡ program_substituted x e m)

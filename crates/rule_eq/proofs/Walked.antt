@@ -166,20 +166,6 @@ module _ (at : Point) (rule : Rule) (a b : Mon) where
       ((starts : List Start) (guard test : Exp) (m : Mon) → b ≡ M.Loop starts guard test m → ⊥) → ⊥
   turn_right i h out = turn_there at a b (subst (λ q. (row at q a b).holds) i h) (inr out)
 
-pub leaf_left : (r : C.Rule) → is_along (rule_of r) ≡ false → (r ≡ C.TheVariants.If → ⊥) → (r ≡ C.TheVariants.Loop → ⊥) →
-    is_leaf (rule_of r) ≡ true
-leaf_left C.TheVariants.Refl s i l = refl
-leaf_left (C.TheVariants.Trans m) s i l = absurd (false≢true (sym s))
-leaf_left C.TheVariants.Bind s i l = absurd (false≢true (sym s))
-leaf_left C.TheVariants.If s i l = absurd (i refl)
-leaf_left C.TheVariants.Loop s i l = absurd (l refl)
-leaf_left (C.TheVariants.RetOne k) s i l = refl
-leaf_left C.TheVariants.BindRet s i l = refl
-leaf_left C.TheVariants.Assoc s i l = refl
-leaf_left C.TheVariants.IfConst s i l = refl
-leaf_left C.TheVariants.GuardKnown s i l = refl
-leaf_left C.TheVariants.Exp s i l = refl
-
 -- measures
 
 pub two_less : (t u v : T.Tree C.Rule) → parts_at t ≡ u ∷ v ∷ [] →

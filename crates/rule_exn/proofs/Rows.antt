@@ -1,5 +1,5 @@
 -- The rows of the table by their parts.
-use Rattle.std.proofs.Common.{◌≡◌, ℕ, suc, Bool, true, List, refl}
+use Rattle.std.proofs.Common.{◌≡◌, ℕ, suc, Bool, true, refl}
 use Rattle.std.proofs.lemmas.Bool.{and_parts}
 use Rattle.simpl_lang.specs.Command as C
 use Rattle.simpl_lang.specs.Command.{Simpl}

@@ -12,7 +12,7 @@ use Rattle.expression_lang.specs.Evaluation.{State, value}
 use Rattle.expression_lang.specs.Signature.{Signature, values_of}
 use Rattle.ac_expr.specs.Fact.{Fact, Whole, NotTrue}
 use Rattle.monad_lang.specs.Program as M
-use Rattle.monad_lang.specs.Program.{Mon, Place, Start}
+use Rattle.monad_lang.specs.Program.{Mon, Place}
 use Rattle.monad_lang.specs.Run.{written}
 use Rattle.program_facts.proofs.KeepsTags.{place_keeps_tags}
 use Rattle.program_facts.specs.Flow.{facts_after}

@@ -42,7 +42,7 @@ use Rattle.rule_trees.specs.RuleTree.{Tree, AllHold}
 use Rattle.rule_trees.proofs.Induction.{holds as accepted_holds}
 use Rattle.rule_heap.specs.Rule as R
 use Rattle.rule_heap.specs.Rule.{Rule, Claim, OfProgram, OfExp}
-use Rattle.rule_heap.specs.Table.{each, IsPlace, row, table, Takes, TakesExp}
+use Rattle.rule_heap.specs.Table.{each, IsPlace, row, table, Takes}
 use Rattle.rule_parts.specs.Starts.{start_exps}
 use Rattle.rule_heap.specs.Calls.{calls_only}
 use Rattle.rule_heap.proofs.Alike.{AreAlike}
@@ -503,6 +503,3 @@ module _ (l : Layout) (laid : IsLayout l) (p : Choice) (vs : List GlobalVar) (si
 
   pub takes_sound : (fs : List Fact) (t : Tree Rule) (a b : Mon) → Takes l fs t a b → program_has is_read is_written a ≡ false → Sound fs a b
   takes_sound fs t a b h = accepted_holds (table l) IsSound claim_sound t (OfProgram fs a b) h
-
-  pub takes_sound_exp : (fs : List Fact) (t : Tree Rule) (a b : Exp) → TakesExp l fs t a b → Agrees fs a b
-  takes_sound_exp fs t a b h = accepted_holds (table l) IsSound claim_sound t (OfExp fs a b) h tt

@@ -19,7 +19,7 @@ use Rattle.ac_expr.proofs.KnownHolds.{known_holds}
 use Rattle.ac_expr.proofs.HeadsAgree.{SameValues, heads_agree, steps_same, as_many, path_as_many, LooksAlike}
 use Rattle.rule_trees.specs.RuleTree.{AllHold}
 use Rattle.rule_heap.specs.Rule as R
-use Rattle.rule_heap.specs.Rule.{Rule, Claim, OfProgram, OfExp}
+use Rattle.rule_heap.specs.Rule.{Rule, Claim, OfExp}
 use Rattle.rule_heap.specs.Table.{each, IsPlace, has_rule, exp_row}
 use Rattle.rule_heap.proofs.Alike.{AreAlike}
 use Rattle.rule_heap.proofs.InRange.{Leads, leads_there}

@@ -12,7 +12,7 @@ use Rattle.ac_expr.specs.Heads.{children, head, path_children, path_head}
 use Rattle.ac_expr.specs.Fact.{Fact, Whole, NotTrue}
 use Rattle.ac_expr.specs.Known.{IsKnown}
 use Rattle.monad_lang.specs.Program as M
-use Rattle.monad_lang.specs.Program.{Mon, Start}
+use Rattle.monad_lang.specs.Program.{Mon}
 use Rattle.monad_lang.specs.Run.{start_names}
 use Rattle.monad_lang.specs.Form.{is_heaps}
 use Rattle.program_facts.specs.Flow.{facts_after}

@@ -117,6 +117,3 @@ module _ (ctx : Context) where
 -- each name that is assigned is kept, and each that is free is a parameter, where all of them are locals
 pub none_lost : (rule : Rule) (xs ps : List Name) (a : Simpl) (m : Mon) (vs : List Name) → Carries xs a (λ y. true) → ((y : Name) → is_among y xs ≡ true → IsKept rule ps a m vs y) → LosesNone rule a m vs
 none_lost rule xs ps a m vs h k y e = (k y (h y e refl)).0
-
-pub none_stray : (rule : Rule) (xs ps : List Name) (a : Simpl) (m : Mon) (vs : List Name) → AllFreeAmong xs m → ((y : Name) → is_among y xs ≡ true → IsKept rule ps a m vs y) → AllFreeAmong ps m
-none_stray rule xs ps a m vs h k y e = (k y (h y e)).1 e

@@ -14,7 +14,7 @@ use Rattle.expression_lang.specs.Machine.{Returned}
 use Rattle.expression_lang.specs.Signature.{Signature, Invocation, signature}
 use Rattle.simpl_lang.specs.Command.{SimplFn, SimplUnit, simpl_fn}
 use Rattle.simpl_lang.specs.Exec as Simpl
-use Rattle.simpl_lang.specs.Exec.{Flow, Normal, Abrupt, result_of, ended, function_runs, bodies}
+use Rattle.simpl_lang.specs.Exec.{Flow, Normal, Abrupt, ended, function_runs, bodies}
 use Rattle.monad_lang.specs.Run as Mon
 use Rattle.monad_lang.specs.Run.{Answer}
 use Rattle.rule_local.specs.Kept.{Related, BothFail, SameResult, SameFilled, LocalsKept}

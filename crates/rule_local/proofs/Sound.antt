@@ -22,7 +22,7 @@ use Rattle.expression_lang.specs.Signature.{Signature, Invocation, values_of, bo
 use Rattle.simpl_lang.specs.Command as C
 use Rattle.simpl_lang.specs.Command.{Condition, Simpl, kind_of}
 use Rattle.simpl_lang.specs.Exec as Simpl
-use Rattle.simpl_lang.specs.Exec.{Flow, Normal, Abrupt, execs, holds_on, value_on, normally, turned, result_into, picked_local}
+use Rattle.simpl_lang.specs.Exec.{Flow, Normal, Abrupt, execs, holds_on, value_on, normally, turned, result_into}
 use Rattle.simpl_lang.specs.Names.{path_names}
 use Rattle.monad_lang.specs.Program as M
 use Rattle.monad_lang.specs.Program.{Mon, Place}
@@ -34,7 +34,7 @@ use Rattle.rule_trees.specs.RuleTree.{Tree, Accepts, AllHold}
 use Rattle.rule_trees.proofs.Induction.{holds as accepted_holds}
 use Rattle.rule_local.specs.Assigned.{assigns, Carries}
 use Rattle.rule_local.specs.Rule as R
-use Rattle.rule_local.specs.Rule.{Rule, Context, Claim, whole}
+use Rattle.rule_local.specs.Rule.{Rule, Context, Claim}
 use Rattle.rule_local.specs.Table.{vars, vars_with, as_starts, conj, picked_kind, zeros, is_needed, AreNone, AllFreeAmong, row, table, Takes, TakesWhole}
 use Rattle.monad_lang.specs.Agree.{AgreeOn}
 use Rattle.rule_local.specs.Agree.{held, Gives, GivesAt, Begins}

@@ -16,7 +16,7 @@ use Rattle.expression_lang.specs.Machine.{Returned, machine_with}
 use Rattle.expression_lang.specs.Signature.{Binder, Signature, Invocation, names_of, signature, bound, no_env}
 use Rattle.simpl_lang.specs.Command.{SimplFn, SimplUnit, simpl_fn, kind_of}
 use Rattle.simpl_lang.specs.Exec as Simpl
-use Rattle.simpl_lang.specs.Exec.{Flow, Normal, Abrupt, execs, zero_locals, result_of, ended}
+use Rattle.simpl_lang.specs.Exec.{Flow, Normal, Abrupt, zero_locals, ended}
 use Rattle.simpl_lang.specs.Sorted.{IsWellFormed}
 use Rattle.monad_lang.specs.Program.{FinalFn, FinalUnit, final_fn}
 use Rattle.monad_lang.specs.Run as Mon

@@ -1,6 +1,5 @@
 -- What becomes of a name in parts that are passed one by one is what becomes of it in the whole.
 use Rattle.std.proofs.Common.{◌≡◌, Bool, true, false, not, ◌&&◌, ◌||◌, List, refl, sym, ap, ap₂, ◌∙◌}
-use Rattle.std.proofs.lemmas.Bool.{false≢true}
 use Rattle.c_values.specs.Name.{Name, is_among}
 use Rattle.expression_lang.specs.Expression.{Exp}
 use Rattle.expression_lang.specs.Mentions.{names}
@@ -127,9 +126,3 @@ loop_step p r l y vs us gs e guard turn starts a c m n d w ub u tests is st ho o
   where
     body : Uses
     body = under (names y guard || names y turn) (uses y a m us)
-
--- neither lost nor stray
-pub kept_from : (lost bound free : Bool) → (lost || (not bound && free)) ≡ false → (lost ≡ false) × (free ≡ true → bound ≡ true)
-kept_from false true free h = (refl, (λ e. refl))
-kept_from false false free h = (refl, (λ e. absurd (false≢true (sym h ∙ e))))
-kept_from true bound free h = absurd (false≢true (sym h))

@@ -33,14 +33,6 @@ first_none no_trees e = refl
 first_none (more u ts) e = absurd cc
 
 module _ {Rule : Type 0} (words : Words Rule) where
-  -- a list of a word alone
-  pub front_none : (at : ℕ) (word : Name) (ts : Trees) → None ≡ first_of ts → front_at words at word ts ≡ Err at
-  front_none at word ts e = ap (front_at words at word) (first_none ts e) ∙ nothing (words.plain word) (words.given word)
-    where
-      nothing : (o : Option Rule) (g : Option (Given Rule)) → front_by words at o g no_trees ≡ Err at
-      nothing None None = refl
-      nothing None (Some g) = refl
-      nothing (Some r) g = refl
 
   plain_front : (at inner : ℕ) (o : Option Rule) (g : Option (Given Rule)) (r : Rule) (t : Tree) (us : Trees) (b : Bool) → inner ≡ next (next at) → Some r ≡ o → fits (words.arity r) (count (more t us)) ≡ b →
       front_by words at o g (more t us) ≡ cond {A = Read (Rule × Trees)} b (Ok ((r, more t us), inner)) (Err at)
@@ -162,20 +154,9 @@ module _ {Rule : Type 0} (words : Words Rule) where
   tree_is at (Node (more (Node us) ts)) = refl
   tree_is at (Node (more (Atom word) ts)) = list_is at (words.plain word) (words.given word) ts
 
-  -- of a word
-  pub no_leaf : (at : ℕ) (o : Option Rule) → None ≡ o → leaf_at words at o ≡ Err at
-  no_leaf at None e = refl
-  no_leaf at (Some r) e = absurd cc
-
-  pub leaf_misfits : (at : ℕ) (o : Option Rule) (r : Rule) (b : Bool) → Some r ≡ o → b ≡ fits (words.arity r) 0 → b ≡ false → leaf_at words at o ≡ Err at
-  leaf_misfits at o r b e fit fails = ap (leaf_at words at) (sym e) ∙ cond-false (fits (words.arity r) 0) (Ok (rules.node r rules.no_trees, next at)) (Err at) (sym fit ∙ fails)
-
   pub word_reads : (at : ℕ) (word : Name) (t : Tree) → Some word ≡ word_in t → tree_at words at t ≡ leaf_at words at (words.plain word)
   word_reads at word (Atom w) e = let h : word ≡ w = cc in ap (λ x. leaf_at words at (words.plain x)) (sym h)
   word_reads at word (Node ts) e = absurd cc
-
-  pub no_node : (at : ℕ) (t : Tree) → None ≡ word_in t → None ≡ headed_in t → tree_at words at t ≡ Err at
-  no_node at t e f = tree_is at t ∙ ap₂ (tree_by words at) (sym e) (sym f)
 
   pub node_is : (at : ℕ) (word : Name) (ts : Trees) (t : Tree) → None ≡ word_in t → Some (word, ts) ≡ headed_in t → tree_at words at t ≡ with_parts words (front_at words at word ts)
   node_is at word ts t e f = tree_is at t ∙ ap₂ (tree_by words at) (sym e) (sym f)
@@ -186,11 +167,6 @@ module _ {Rule : Type 0} (words : Words Rule) where
   front_refused F.Memory at word ts t e f bad = tt
   front_refused F.NotText at word ts t e f bad = bad
   front_refused F.Deep at word ts t e f bad = bad
-
-  -- the parts so far, and those to come
-  pub made_nothing : (r : Read (rules.Trees Rule)) → made (with_trees rules.no_trees) r ≡ r
-  made_nothing (Ok x) = refl
-  made_nothing (Err n) = refl
 
   then_more : (ts : rules.Trees Rule) (t : rules.Tree Rule) (r : Read (rules.Trees Rule)) → made (with_trees (with_trees ts (rules.tree t rules.no_trees))) r ≡ made (with_trees ts) (with_first t r)
   then_more ts t (Ok (us, n)) = ap (λ vs. Ok (vs, n)) (again ts)

@@ -1,5 +1,5 @@
 -- The text of a node by its parts, as the writer writes it.
-use Rattle.std.proofs.Common.{◌≡◌, suc, ◌+◌, true, false, List, [], ◌∷◌, ◌++◌, length, refl, sym, ap, ◌∙◌, arith}
+use Rattle.std.proofs.Common.{◌≡◌, suc, ◌+◌, List, [], ◌∷◌, ◌++◌, length, refl, sym, ap, ◌∙◌, arith}
 use Rattle.ac_sx.specs.Tree.{Trees, Atom, Node, Tree, no_trees, more}
 use Rattle.ac_sx.specs.Writing.{Writing, written, all_written}
 use Rattle.c_values.specs.Name.{Name}
@@ -13,20 +13,11 @@ use Rattle.rule_trees.specs.CodeTree as code
 use Rattle.rule_trees.specs.CodeNodes.{nodes, nodes_in}
 use Rattle.rule_trees.proofs.Parts.{tree_parts}
 use Rattle.rule_text.specs.RuleText.{word_with, rule_tree}
-use Rattle.rule_text.specs.CodeWriting.{has_trees, text_in, texts_in}
+use Rattle.rule_text.specs.CodeWriting.{text_in, texts_in}
 
 joined_nothing : (ts : Trees) → joined ts no_trees ≡ ts
 joined_nothing no_trees = refl
 joined_nothing (more t ts) = ap (λ us. more t us) (joined_nothing ts)
-
--- a word without data, and one with data
-pub leaf_plain : (word : Name) (ts : Trees) → has_trees ts ≡ false → word_with word ts ≡ Atom word
-leaf_plain word no_trees none = refl
-leaf_plain word (more t ts) none = absurd cc
-
-pub leaf_listed : (word : Name) (ts : Trees) → has_trees ts ≡ true → word_with word ts ≡ Node (more (Atom word) ts)
-leaf_listed word no_trees some = absurd cc
-leaf_listed word (more t ts) some = refl
 
 with_last : (word : Name) (data' ts : Trees) (t : Tree) (us : Trees) → word_with word (joined data' (joined ts (more t us))) ≡ Node (more (Atom word) (joined data' (joined ts (more t us))))
 with_last word no_trees no_trees t us = refl

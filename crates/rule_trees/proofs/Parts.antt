@@ -1,5 +1,5 @@
 -- The parts of the code's trees as lists.
-use Rattle.std.proofs.Common.{◌≡◌, List, [], ◌∷◌, refl, ap, subst, ◌∙◌}
+use Rattle.std.proofs.Common.{◌≡◌, List, refl, ap, subst, ◌∙◌}
 use Rattle.rule_trees.specs.declared.tree.Tree as T
 use Rattle.rule_trees.specs.declared.tree.Tree.{Row_of-Tree, end_of-Tree, more_of-Tree, items-the_row-Tree, items_hidden-the_row-Tree-0, out-Tree, roll-Tree, roll-out-Tree, Tree-F}
 use Rattle.rule_trees.specs.RuleTree.{node, tree}

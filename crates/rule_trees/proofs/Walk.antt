@@ -1,8 +1,8 @@
 -- What a checker finds at a node, for any table: the node is no instance, or it is one and the parts decide.
-use Rattle.std.proofs.Common.{◌≡◌, ◌≢◌, ℕ, suc, List, [], ◌∷◌, inl, inr, Result, Ok, Err, length, refl, sym, subst, ap, ◌∙◌}
+use Rattle.std.proofs.Common.{◌≡◌, ℕ, suc, List, [], ◌∷◌, inl, inr, Result, Ok, Err, length, refl, sym, subst, ap, ◌∙◌}
 use Rattle.rule_trees.specs.declared.tree.Tree as T
 use Rattle.rule_trees.specs.declared.tree.Tree.{out-Tree}
-use Rattle.rule_trees.specs.RuleTree.{Tree, node, Trees, no_trees, tree, count, Table, Row, next, IsInstance, Checked, AllChecked}
+use Rattle.rule_trees.specs.RuleTree.{Tree, node, count, Table, Row, next, IsInstance, Checked, AllChecked}
 use Rattle.rule_trees.specs.CodeTree.{tree_of, trees_in}
 use Rattle.rule_trees.proofs.Parts.{tree_parts}
 

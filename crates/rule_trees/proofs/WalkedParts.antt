@@ -1,8 +1,8 @@
 -- What a checker finds at a node of any number of parts, and how many nodes it has.
-use Rattle.std.proofs.Common.{◌≡◌, ℕ, suc, List, [], ◌∷◌, inl, Result, Ok, Err, length, refl, sym, subst, ap, ◌∙◌}
+use Rattle.std.proofs.Common.{◌≡◌, ℕ, suc, List, [], ◌∷◌, inl, Result, length, refl, sym, subst, ap, ◌∙◌}
 use Rattle.rule_trees.specs.declared.tree.Tree as T
 use Rattle.rule_trees.specs.declared.tree.Tree.{out-Tree}
-use Rattle.rule_trees.specs.RuleTree.{Tree, node, Trees, no_trees, tree, count, Table, Row, next, IsInstance, Checked, AllChecked}
+use Rattle.rule_trees.specs.RuleTree.{Tree, node, count, Table, Row, next, IsInstance, Checked, AllChecked}
 use Rattle.rule_trees.specs.CodeTree.{tree_of, trees_in}
 use Rattle.rule_trees.proofs.Parts.{tree_parts}
 use Rattle.rule_trees.specs.CodeNodes.{nodes, nodes_in}

@@ -1,5 +1,5 @@
 -- Steps in the second part of a second part, and so on.
-use Rattle.std.proofs.Common.{◌≡◌, ℕ, zero, suc, ◌+◌, Bool, false, cond, ◌&&◌, refl, sym, ap, ap₂, ◌∙◌, arith}
+use Rattle.std.proofs.Common.{◌≡◌, ℕ, zero, suc, ◌+◌, false, cond, ◌&&◌, refl, sym, ap, ap₂, ◌∙◌, arith}
 use Rattle.monad_lang.specs.Program.{Mon}
 use Rattle.rule_trees.specs.RuleTree.{Tree, node, no_trees, tree}
 use Rattle.rule_eq.specs.Rule as R

@@ -1,5 +1,5 @@
 -- What the code's walks stand for.
-use Rattle.std.specs.Prelude.{Bool, true, false, List, [], ◌∷◌, Option, Some, None, if◌then◌else◌}
+use Rattle.std.specs.Prelude.{Bool, true, false, List, [], ◌∷◌, Option, Some, None}
 use Rattle.monad_lang.specs.CodeProgram.{mon_of}
 use Rattle.rule_eq.specs.CodeRule.{tree_of}
 use Rattle.rule_walks.specs.Balanced.{Chain, single, before}

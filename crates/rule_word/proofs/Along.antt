@@ -11,7 +11,6 @@ use Rattle.ac_expr.specs.Passed.{Part, passed}
 use Rattle.monad_lang.specs.Program.{Mon}
 use Rattle.program_facts.specs.Flow.{part, parts}
 use Rattle.rule_trees.specs.declared.tree.Tree as T
-use Rattle.rule_trees.specs.declared.tree.Tree.{out-Tree}
 use Rattle.rule_trees.specs.RuleTree.{Tree, node, tree, no_trees, Checked, next}
 use Rattle.rule_trees.specs.CodeTree.{trees_in}
 use Rattle.rule_trees.specs.CodeNodes.{nodes, nodes_in}
@@ -50,9 +49,6 @@ le_less x y z h k = omega arith
 
 pub below_by : (x y z k j : ℕ) → x < y → y ≤ z → k < 8 → 8 * x + k < 8 * z + j
 below_by x y z k j h i m = omega arith
-
-pub same_by : (x z k j : ℕ) → x ≤ z → k < j → 8 * x + k < 8 * z + j
-same_by x z k j h i = omega arith
 
 module _ (ctx : Context) (t u v : T.Tree C.Rule) (items : parts_at t ≡ u ∷ v ∷ []) where
   -- the last of two parts

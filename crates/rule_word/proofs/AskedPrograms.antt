@@ -51,11 +51,6 @@ first_inv (Some d) (Some ds) e es h = let p : d ≡ e = cc in let q : ds ≡ es 
 first_inv (Some d) None e es h = absurd cc
 first_inv None os e es h = absurd cc
 
-never_first : (o : Option Exp) (os : Option (List Exp)) → recast_first o os ≡ Some [] → ⊥
-never_first (Some d) (Some ds) h = absurd cc
-never_first (Some d) None h = absurd cc
-never_first None os h = absurd cc
-
 pub recasts_end : (ks : List Kind) (ys : List Name) (es : List Exp) → ((ks ≡ []) × (ys ≡ []) × (es ≡ [])) ↔ (recasts [] ks ys ≡ Some es)
 recasts_end [] [] [] = ((λ h. refl), (λ h. (refl, refl, refl)))
 recasts_end [] [] (e ∷ es) = ((λ h. absurd cc), (λ h. absurd cc))
@@ -69,18 +64,8 @@ recasts_go_on j k y e js ks ys es h = (
   (λ i. (first_inv (recast j k (Var y)) (recasts js ks ys) e es i).1),
 )
 
-pub recasts_differ : (j k : Kind) (y : Name) (e : Exp) (js ks : List Kind) (ys : List Name) (es : List Exp) → (recast j k (Var y) ≡ Some e → ⊥) →
-    recasts (j ∷ js) (k ∷ ks) (y ∷ ys) ≡ Some (e ∷ es) → ⊥
-recasts_differ j k y e js ks ys es h i = h (first_inv (recast j k (Var y)) (recasts js ks ys) e es i).0
-
-pub no_kind : (j : Kind) (js : List Kind) (ys : List Name) (es : List Exp) → recasts (j ∷ js) [] ys ≡ Some es → ⊥
-no_kind j js ys es h = absurd cc
-
 pub no_name : (j k : Kind) (js ks : List Kind) (es : List Exp) → recasts (j ∷ js) (k ∷ ks) [] ≡ Some es → ⊥
 no_name j k js ks es h = absurd cc
-
-pub no_recast : (j k : Kind) (y : Name) (js ks : List Kind) (ys : List Name) → recasts (j ∷ js) (k ∷ ks) (y ∷ ys) ≡ Some [] → ⊥
-no_recast j k y js ks ys h = never_first (recast j k (Var y)) (recasts js ks ys) h
 
 -- as many of each, by the lengths of what they are made from
 pub map_count : {A B : Type 0} (f : A → B) (xs : List A) → length (map f xs) ≡ length xs

@@ -12,7 +12,7 @@ use Rattle.monad_lang.specs.Program.{Mon}
 use Rattle.monad_lang.specs.Run.{start_names}
 use Rattle.rule_trees.specs.RuleTree.{Tree, Accepts}
 use Rattle.rule_word.specs.Rule as R
-use Rattle.rule_word.specs.Rule.{Rule, Context, Point, View, AsIs, Unsigned, Signed, Claim, expression, program}
+use Rattle.rule_word.specs.Rule.{Rule, Context, Point, Unsigned, Signed, program}
 use Rattle.rule_word.specs.Scopes.{names_in, with_kinds, words}
 use Rattle.rule_word.specs.Table.{each, AreMatched, views_for, program_row, table}
 use Rattle.rule_parts.specs.Starts.{start_exps}

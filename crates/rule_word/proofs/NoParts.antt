@@ -8,8 +8,7 @@ use Rattle.expression_lang.specs.Expression.{Exp, Path}
 use Rattle.expression_lang.specs.Form.{has, path_has, is_part_of_value}
 use Rattle.ac_expr.specs.Heads.{head, children, path_children}
 use Rattle.ac_expr.proofs.HeadsAgree.{first, others, path_filled, filled, whole, as_many}
-use Rattle.rule_trees.specs.RuleTree.{AllHold, Tree, Accepts}
-use Rattle.rule_trees.proofs.Induction.{holds as accepted_holds}
+use Rattle.rule_trees.specs.RuleTree.{AllHold}
 use Rattle.rule_word.specs.Rule as R
 use Rattle.rule_word.specs.Rule.{Rule, Context, Point, View, AsIs, Unsigned, Signed, Claim, expression, program}
 use Rattle.rule_word.specs.Scopes.{words, width_in}
@@ -223,6 +222,3 @@ module _ (ctx : Context) where
   pub claim_plain : (rule : Rule) (c : Claim) → (table ctx rule c).holds → AllHold PlainThere (table ctx rule c).parts → PlainThere c
   claim_plain rule (expression at e v a) h s = record { stays = row_plain at rule e v a h.1 s }
   claim_plain rule (program at m m' ks) h s = tt
-
-  pub right_plain : (at : Point) (t : Tree Rule) (e : Exp) (v : View) (a : Exp) → Accepts (table ctx) t (expression at e v a) → IsPlain e → IsPlain a
-  right_plain at t e v a h i = (accepted_holds (table ctx) PlainThere claim_plain t (expression at e v a) h).stays i

@@ -5,7 +5,7 @@ use Rattle.expression_lang.specs.Sort.{Scope}
 use Rattle.rule_trees.specs.declared.tree.Tree as T
 use Rattle.rule_trees.specs.RuleTree.{Checked, AllChecked}
 use Rattle.rule_trees.specs.CodeTree.{trees_in}
-use Rattle.rule_trees.specs.CodeNodes.{nodes, nodes_in}
+use Rattle.rule_trees.specs.CodeNodes.{nodes_in}
 use Rattle.rule_word.specs.declared.rule.Rule as R
 use Rattle.rule_word.specs.declared.rule.Context as C
 use Rattle.rule_word.specs.declared.rule.Point as P
@@ -21,7 +21,7 @@ use Rattle.rule_word.specs.CodeKinds.{point_in, scope_at}
 use Rattle.rule_word.specs.CodeParts.{seen_in, views_in, looks_at, looks_in, pairs_at}
 use Rattle.rule_parts.specs.CodeExps.{exps_in}
 use Rattle.rule_word.specs.CodeRows.{FitsAt, claim_at}
-use Rattle.rule_word.specs.CodeFront.{IsReady, AreReadyAt, IsBehind, IsLast}
+use Rattle.rule_word.specs.CodeFront.{IsReady, AreReadyAt, IsLast}
 use Rattle.rule_word.proofs.Walked as walked
 
 no_more : (cs : List Claim) → cs ++ [] ≡ cs
@@ -44,16 +44,9 @@ module _ (c : C.Context) (p : P.Point) where
   no_exps (e ∷ es) [] = refl
   no_exps (e ∷ es) (v ∷ vs) = refl
 
-  no_views : (es as' : List Exp) → each at es [] as' ≡ []
-  no_views [] as' = refl
-  no_views (e ∷ es) as' = refl
-
   -- no pair is left
   pub none_left : (l : X.Exps) (w : W.Views) (r : X.Exps) → exps_in l ≡ [] → pairs_at (context_in c) at l w r ≡ []
   none_left l w r h = ap (λ es. each at es (views_in g es w) (exps_in r)) h
-
-  pub none_seen : (l : X.Exps) (w : W.Views) (r : X.Exps) → ((h : Scope) (es : List Exp) → views_in h es w ≡ []) → pairs_at (context_in c) at l w r ≡ []
-  none_seen l w r h = ap (λ vs. each at (exps_in l) vs (exps_in r)) (h g (exps_in l)) ∙ no_views (exps_in l) (exps_in r)
 
   pub none_right : (l : X.Exps) (w : W.Views) (r : X.Exps) → exps_in r ≡ [] → pairs_at (context_in c) at l w r ≡ []
   none_right l w r h = ap (λ as'. each at (exps_in l) (views_in g (exps_in l) w) as') h ∙ no_exps (exps_in l) (views_in g (exps_in l) w)
@@ -104,20 +97,6 @@ pub record IsWalked (c : C.Context) (ts : List (T.Tree R.Rule)) (before : List C
   pub enough : length now ≤ length rest
   pub fewer : nodes_in (trees_in rule_of rest) ≤ nodes_in (trees_in rule_of ts)
 
-pub walk_starts : (c : C.Context) (ts : List (T.Tree R.Rule)) (cs : List Claim) (n : ℕ) → length cs ≤ length ts → IsWalked c ts cs n ts cs n
-walk_starts c ts cs n h = record { decides = λ ds r k. k; fit = λ k. k; turn = λ ds k. k; count = refl; enough = h; fewer = omega arith }
-
-pub walk_ends : (c : C.Context) (ts : List (T.Tree R.Rule)) (before : List Claim) (from : ℕ) (rest : List (T.Tree R.Rule)) (now : List Claim) (n : ℕ) → now ≡ [] → IsWalked c ts before from rest now n → IsBehind c ts before from rest n
-walk_ends c ts before from rest now n e w =
-    let none : length now ≡ 0 = ap length e in
-    let counted = w.count in record {
-      decides = λ ds r h. w.decides ds r (subst (λ cs. AllChecked (table_at c) (trees_in rule_of rest) (cs ++ ds) n r) (sym e) h);
-      fit = w.fit (subst (λ cs. AllFit (context_in c) cs) (sym e) tt);
-      turn = λ ds h. subst (λ cs. FitInTurn (context_in c) (cs ++ ds)) e (w.turn ds h);
-      count = omega arith;
-      fewer = w.fewer;
-    }
-
 module _ (c : C.Context) (ts : List (T.Tree R.Rule)) (before : List Claim) (from : ℕ) (rest : List (T.Tree R.Rule)) (now : List Claim) (n : ℕ) (w : IsWalked c ts before from rest now n)
     (part : T.Tree R.Rule) (behind : List (T.Tree R.Rule)) (claim : Claim) (more : List Claim) (trees : rest ≡ part ∷ behind) (claims : now ≡ claim ∷ more) where
   pub walk_bad : (m : ℕ) → Checked (table_at c) (tree_of part) claim n (Err m) → (ds : List Claim) → AllChecked (table_at c) (trees_in rule_of ts) (before ++ ds) from (Err m)
@@ -152,9 +131,3 @@ module _ (c : C.Context) (ts : List (T.Tree R.Rule)) (before : List Claim) (from
         count = omega arith;
         fewer = (walked.fewer c part behind rest claim more now trees claims (nodes_in (trees_in rule_of ts)) w.fewer).1;
       }
-
-  pub walk_less : nodes (tree_of part) ≤ nodes_in (trees_in rule_of ts)
-  walk_less = (walked.fewer c part behind rest claim more now trees claims (nodes_in (trees_in rule_of ts)) w.fewer).1
-
-pub too_few : {A B : Type 0} (rest : List A) (now more : List B) (d : B) → now ≡ d ∷ more → length rest ≡ 0 → length now ≤ length rest → ⊥
-too_few rest now more d e h k = let one : length now ≡ suc (length more) = ap length e in omega arith

@@ -11,7 +11,7 @@ use Rattle.expression_lang.specs.Sort.{Sort, Of, WordSort, TruthSort, Kind, Word
 use Rattle.expression_lang.proofs.Inversion.{where_inv, words_inv, word_inv, width_inv, truth_inv, same_inv}
 use Rattle.ac_expr.specs.Heads.{children}
 use Rattle.rule_word.specs.Rule as R
-use Rattle.rule_word.specs.Rule.{Rule, Context, Point, View, AsIs, Unsigned, Signed, Claim, expression, program}
+use Rattle.rule_word.specs.Rule.{Rule, Context, Point, View, AsIs, Unsigned, Signed, Claim, expression}
 use Rattle.rule_word.specs.Scopes.{words, sort_seen, view_for, width_in}
 use Rattle.rule_word.specs.Table.{number_width, of_width, each, owns, expression_row}
 use Rattle.rule_word.specs.CodeFits as fits

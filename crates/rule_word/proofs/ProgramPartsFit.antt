@@ -12,7 +12,7 @@ use Rattle.expression_lang.specs.Signature.{Signature, signature, kinds_of}
 use Rattle.expression_lang.proofs.Inversion.{truth_inv, word_of_inv}
 use Rattle.ac_expr.specs.Heads.{path_children}
 use Rattle.monad_lang.specs.Program as M
-use Rattle.monad_lang.specs.Program.{Mon, Place, Start}
+use Rattle.monad_lang.specs.Program.{Mon, Place}
 use Rattle.monad_lang.specs.Run.{start_names}
 use Rattle.monad_lang.specs.Sorted.{setting_with, scalars_given, start_scalars, place_sort, one_for_each, are_scalars, where_fits}
 use Rattle.program_facts.specs.Places.{place_children}

@@ -9,7 +9,7 @@ use Rattle.monad_lang.specs.Program.{Mon, Start}
 use Rattle.monad_lang.specs.Sorted.{scalars_given, start_scalars}
 use Rattle.program_facts.specs.Places.{place_children}
 use Rattle.rule_word.specs.Rule as R
-use Rattle.rule_word.specs.Rule.{Rule, Context, Point, View, AsIs, Claim, expression, program}
+use Rattle.rule_word.specs.Rule.{Rule, Context, Point, View, expression, program}
 use Rattle.rule_word.specs.Scopes.{words, own}
 use Rattle.rule_word.specs.Table.{each, owns, views_for, program_row, call_row}
 use Rattle.rule_parts.specs.Starts.{start_exps}

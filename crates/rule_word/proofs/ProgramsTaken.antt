@@ -19,7 +19,7 @@ use Rattle.monad_lang.specs.Sorted.{setting_with, scalars_given, start_scalars, 
 use Rattle.program_facts.specs.Flow.{facts_after}
 use Rattle.rule_trees.specs.RuleTree.{Trees, node, no_trees, tree, Accepts, AcceptsAll}
 use Rattle.rule_word.specs.Rule as R
-use Rattle.rule_word.specs.Rule.{Rule, Context, Point, View, AsIs, Claim, expression, program}
+use Rattle.rule_word.specs.Rule.{Rule, Context, Point, View, Claim, expression, program}
 use Rattle.rule_word.specs.Scopes.{with_kinds, words, own, view_for, result_as_list, sort_seen}
 use Rattle.rule_word.specs.Table.{truth, each, views_for, AreMatched, table, call_row}
 use Rattle.rule_parts.specs.Starts.{start_exps}

@@ -9,12 +9,12 @@ use Rattle.expression_lang.proofs.Inversion.{width_inv}
 use Rattle.ac_expr.specs.Fact.{Whole, NotTrue}
 use Rattle.ac_expr.specs.Heads.{children, head}
 use Rattle.rule_word.specs.Rule as R
-use Rattle.rule_word.specs.Rule.{Rule, Context, Point, View, AsIs, Unsigned, Signed, Claim, expression, program}
+use Rattle.rule_word.specs.Rule.{Rule, Context, Point, View, AsIs, Unsigned, Signed, Claim, expression}
 use Rattle.rule_word.specs.Scopes.{words, view_for, own, width_in}
 use Rattle.rule_word.specs.Table.{knowing, is_operator, each, owns, of_width, expression_row, truth, constant}
 use Rattle.rule_word.specs.LeftWidth.{left_width}
 use Rattle.rule_word.specs.CodeFits as fits
-use Rattle.rule_word.specs.CodeFits.{Fits, IsSorted, AreSorted, ClaimFits, AllFit, FitInTurn}
+use Rattle.rule_word.specs.CodeFits.{Fits, AllFit, FitInTurn}
 use Rattle.rule_word.specs.CodeClaims.{again, or_zero, firsts, lefts, exp_pairs, exp_thens, looks}
 use Rattle.rule_word.proofs.LeftWidths.{left_width_is}
 use Rattle.rule_word.proofs.ChildrenSorted.{children_sorted}

@@ -17,9 +17,6 @@ use Rattle.rule_word.specs.CodeNames.{with_passed}
 pub record FactsLeft (ps : List Part) (n : ℕ) (all : List Part) : Type 0 where
   pub left : (k : ℕ) (fs : List Fact) → passed k ps (passed n all fs) ≡ passed (n + k) all fs
 
-pub no_facts_passed : (ps : List Part) → FactsLeft ps 0 ps
-no_facts_passed ps = record { left = λ k fs. let e : k ≡ 0 + k = omega arith in ap (λ j. passed j ps fs) e }
-
 pub one_fact_passed : (p : Part) (ps qs : List Part) (n : ℕ) (all : List Part) → qs ≡ p ∷ ps → FactsLeft qs n all → (fs : List Fact) → after p (passed n all fs) ≡ passed (n + 1) all fs
 one_fact_passed p ps qs n all e h fs = ap (λ rs. passed 1 rs (passed n all fs)) (sym e) ∙ h.left 1 fs
 
@@ -34,9 +31,6 @@ more_facts_passed p ps qs n all e h = record {
 -- names
 pub record NamesLeft (t : Tree Rule) (m : Mon) (n : ℕ) (u : Tree Rule) (all : Mon) : Type 0 where
   pub left : (k : ℕ) (bs : List Binder) → with_passed k t m (with_passed n u all bs) ≡ with_passed (n + k) u all bs
-
-pub no_names_passed : (t : Tree Rule) (m : Mon) → NamesLeft t m 0 t m
-no_names_passed t m = record { left = λ k bs. let e : k ≡ 0 + k = omega arith in ap (λ j. with_passed j t m bs) e }
 
 abbrev step : List Kind → Tree Rule → Tree Rule → Tree Rule
 step js a b = node (R.Bind js) (tree a (tree b no_trees))

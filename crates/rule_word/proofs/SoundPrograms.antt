@@ -31,7 +31,7 @@ use Rattle.program_facts.specs.Places.{place_children, place_head}
 use Rattle.rule_trees.specs.RuleTree.{AllHold, Tree, Accepts}
 use Rattle.rule_trees.proofs.Induction.{holds as accepted_holds}
 use Rattle.rule_word.specs.Rule as R
-use Rattle.rule_word.specs.Rule.{Rule, Context, Point, View, AsIs, Unsigned, Signed, Claim, expression, program}
+use Rattle.rule_word.specs.Rule.{Rule, Context, Point, View, Claim, expression, program}
 use Rattle.rule_word.specs.Scopes.{with_kinds, words, view_for, result_as_list}
 use Rattle.rule_word.specs.Table.{knowing, truth, each, AreMatched, views_for, owns, recasts, call_row, program_row, table}
 use Rattle.rule_parts.specs.Starts.{start_exps}

@@ -9,18 +9,14 @@ use Rattle.monad_lang.specs.Program as M
 use Rattle.monad_lang.specs.Program.{Mon}
 use Rattle.program_facts.specs.Flow.{facts_after}
 use Rattle.rule_word.specs.Rule as R
-use Rattle.rule_word.specs.Rule.{Rule, Context, Point, View, AsIs, Unsigned, Signed, Claim, expression, program}
+use Rattle.rule_word.specs.Rule.{Rule, Context, Point, Claim, expression, program}
 use Rattle.rule_word.specs.Scopes.{with_kinds, words, own}
-use Rattle.rule_word.specs.Table.{knowing, expression_row, program_row, table}
+use Rattle.rule_word.specs.Table.{knowing, program_row, table}
 use Rattle.rule_word.specs.CodeFits.{Fits, ClaimFits, FitInTurn}
 use Rattle.rule_word.specs.CodeClaims.{is_and, first_of, behind}
 use Rattle.rule_word.proofs.PartsFit.{children_fit}
-use Rattle.rule_word.proofs.Rows.{exp_parts, own_is}
+use Rattle.rule_word.proofs.Rows.{exp_parts}
 use Rattle.rule_word.proofs.ProgramRows.{step_in_turn}
-
--- what fits is seen as it is in its own sort too
-pub fits_own : (g : Scope) (e : Exp) (v : View) → Fits g e v → Fits g e (own g e)
-fits_own g e v f = (f.0, f.1, f.1)
 
 module _ (ctx : Context) (at : Point) where
   abbrev g : Scope
@@ -34,13 +30,6 @@ module _ (ctx : Context) (at : Point) where
 
   pub and_fit : (a b a' b' : Exp) → Fits g (X.And a b) (own g (X.And a b)) → Fits g a (own g a) × Fits g b (own g b)
   and_fit a b a' b' f = let r = children_fit ctx at R.Logic (X.And a b) (own g (X.And a b)) (X.And a' b') f tt tt in ((r.0.0, r.0.1, r.0.1), (r.1.0.0, r.1.0.1, r.1.0.1))
-
-  -- a rule that goes along `and`s sees them as they are
-  pub and_seen : (rule : Rule) (e a : Exp) (v : View) → is_and rule e a ≡ true → (expression_row g at rule e v a).holds → Fits g e v → own g e ≡ v
-  and_seen R.Logic (X.And a b) (X.And a' b') (AsIs o) i h f = own_is g (X.And a b) o f
-  and_seen R.Logic (X.And a b) (X.And a' b') (Unsigned n) i h f = absurd h
-  and_seen R.Logic (X.And a b) (X.And a' b') (Signed n) i h f = absurd h
-  and_seen rule e a v i h f = absurd cc
 
   pub and_rule : (rule : Rule) (e a : Exp) → is_and rule e a ≡ true → rule ≡ R.Logic
   and_rule R.Logic e a i = refl

@@ -10,12 +10,10 @@ use Rattle.expression_lang.specs.Sort.{Kind}
 use Rattle.expression_lang.specs.Signature.{Binder, binder}
 use Rattle.monad_lang.specs.Program as M
 use Rattle.monad_lang.specs.Program.{Mon}
-use Rattle.monad_lang.specs.CodeProgram.{mon_of}
 use Rattle.rule_word.specs.declared.stretch.Stretch as S
 use Rattle.rule_word.specs.Rule as R
 use Rattle.rule_word.specs.Rule.{Rule}
 use Rattle.rule_word.specs.Scopes.{with_kinds}
-use Rattle.rule_word.specs.CodeRule.{tree_of}
 use Rattle.rule_word.specs.CodeNames.{with_passed, kind_passed, kind_in}
 use Rattle.rule_word.specs.CodeStretch.{mark, is_one, is_marked, marked, are_marked, are_names_marked, count_in, tree_in, parts_in, tree_at, parts_at, behind_place, first_bound, between_bound, late_bound, found_behind, behind, LeadsOn, IsKept, IsNext}
 use Rattle.rule_word.proofs.KindsAmong.{passed_found, passed_missed}

@@ -1,14 +1,9 @@
 -- Ranges of a memory end in the space of 64 bits, and its tags are objects that begin in the layout's.
-use Rattle.std.proofs.Common.{◌≡◌, ℕ, ◌^◌, ◌<◌, ◌≤◌, true, ◌&&◌, List, [], ◌∷◌, arith}
-use Rattle.std.specs.Prelude.{nat_lt}
-use Rattle.std.proofs.lemmas.Bool.{and_parts, ltb-true}
+use Rattle.std.proofs.Common.{◌≡◌, ℕ, ◌^◌, ◌≤◌, true, List, [], ◌∷◌, arith}
 use Rattle.c_values.specs.Types.{Target, Ilp32, Lp64, address_width}
-use Rattle.c_values.specs.Layout.{Layout, space, is_object}
-use Rattle.c_memory.specs.Memory.{Tag}
+use Rattle.c_values.specs.Layout.{Layout, space}
 use Rattle.c_memory.specs.Ranges.{Run}
-use Rattle.c_memory.specs.Tags.{is_root_type}
-use Rattle.expression_text.specs.TypeText.{is_type}
-use Rattle.memory_text.specs.MemoryText.{after_run, are_chained, is_tag}
+use Rattle.memory_text.specs.MemoryText.{after_run, are_chained}
 use Rattle.memory_text.proofs.RunLaws.{follows}
 use Rattle.run_start.proofs.Runs.{gone_on}
 use Rattle.run_lines.specs.CodeEnds.{EndInSpace}
@@ -25,12 +20,3 @@ ends_in_space l from (r ∷ rs) h =
     let within = f.within in
     let room = small l.target in
     (omega (arith, within, room), ends_in_space l e rs others)
-
-pub tag_object : (l : Layout) (t : Tag) → is_tag l t ≡ true → is_object l t.type ≡ true
-tag_object l t h =
-    let p = and_parts (nat_lt t.address (space l)) (is_type t.type && (is_root_type t.type && is_object l t.type)) h in
-    let q = and_parts (is_type t.type) (is_root_type t.type && is_object l t.type) p.1 in
-    (and_parts (is_root_type t.type) (is_object l t.type) q.1).1
-
-pub tag_address : (l : Layout) (t : Tag) → is_tag l t ≡ true → t.address < space l
-tag_address l t h = ltb-true t.address (space l) (and_parts (nat_lt t.address (space l)) (is_type t.type && (is_root_type t.type && is_object l t.type)) h).0

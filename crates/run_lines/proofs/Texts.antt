@@ -15,10 +15,6 @@ bytes_more bytes a (suc k) =
     let next : a + 1 + k ≡ a + suc k = omega arith in
     ap (bytes_from bytes a) more ∙ ap (λ bs. bytes a ∷ bs) (bytes_more bytes (a + 1) k ∙ ap (λ n. bytes_from bytes (a + 1) k ++ bytes n ∷ []) next)
 
--- one line more: what is written and what is left are the whole
-pub line_more : (old now line rest whole : List ℕ) → now ≡ old ++ line → old ++ (line ++ rest) ≡ whole → now ++ rest ≡ whole
-line_more old now line rest whole e h = ap (λ x. x ++ rest) e ∙ append_assoc old line rest ∙ h
-
 pub all_written : (now whole : List ℕ) → now ++ [] ≡ whole → now ≡ whole
 all_written now whole h = sym (append-nil now) ∙ h
 
@@ -31,10 +27,6 @@ line_written old first second now who text last whole a b e c =
 pub four_written : (old first second third now a b c d : List ℕ) → first ≡ old ++ a → second ≡ first ++ b → third ≡ second ++ c → now ≡ third ++ d → now ≡ old ++ (a ++ (b ++ (c ++ d)))
 four_written old first second third now a b c d p q r s =
     s ∙ ap (λ x. x ++ d) r ∙ append_assoc second c d ∙ ap (λ x. x ++ (c ++ d)) q ∙ append_assoc first b (c ++ d) ∙ ap (λ x. x ++ (b ++ (c ++ d))) p ∙ append_assoc old a (b ++ (c ++ d))
-
--- the last part being empty
-pub three_written : (old first second now a b c : List ℕ) → first ≡ old ++ a → second ≡ first ++ b → now ≡ second ++ c → now ≡ old ++ (a ++ (b ++ (c ++ [])))
-three_written old first second now a b c p q r = four_written old first second now now a b c [] p q r (sym (append-nil now))
 
 -- the one value that a program gives
 pub first_given : (v : Option V.Value) → first_of (given v) ≡ option_map value_of v

@@ -1,6 +1,5 @@
 -- The answer, by what is judged of the certificate and read of the memory.
 use Rattle.std.proofs.Common.{◌≡◌, ℕ, ◌≤◌, List, [], Some, ◌⊎◌, inl, inr, sym, subst}
-use Rattle.std.specs.Prelude.{codes}
 use Rattle.c_values.specs.Types.{Target}
 use Rattle.c_memory.specs.TagFault.{first_fault}
 use Rattle.c_memory.specs.declared.faults.HeapFault.{HeapFault}
@@ -10,17 +9,16 @@ use Rattle.c_lang.specs.WellTyped.{IsWellTyped}
 use Rattle.acceptance.specs.Certificate.{Steps}
 use Rattle.acceptance_laws.proofs.AcceptedExact.{accepted_is_exact}
 use Rattle.certificate_text.specs.CertificateText.{Certificate}
-use Rattle.expression_text.specs.declared.fault.TextFault.{TextFault}
 use Rattle.expression_text.specs.declared.fault.TextFault.TheVariants as F
 use Rattle.memory_text.specs.MemoryText.{Memory, most_turns}
-use Rattle.memory_text.specs.Answer.{IsMemoryText, IsFaultOf}
+use Rattle.memory_text.specs.Answer.{IsMemoryText}
 use Rattle.memory_text.specs.declared.fault.MemoryFault.TheVariants as M
 use Rattle.answers.specs.declared.status.Status.{Status}
 use Rattle.answers.specs.declared.status.Status.TheVariants.{Done, No, Words, Source, Text, ReadFault, WriteFault, Limit, Memory as Short, NotYet}
 use Rattle.checking.specs.Checked.{target_for, level_in}
 use Rattle.checking.specs.CodeJudged.{IsAcceptedAs, IsTurnedAway}
 use Rattle.checking.specs.declared.verdicts.Accepted.{Accepted}
-use Rattle.running.specs.Ran.{OfAccepted, OfMemory, IsNoMemory, IsBadlyTagged, HasTooManyTurns, IsRan, fault_text, heap_text}
+use Rattle.running.specs.Ran.{OfAccepted, OfMemory, IsNoMemory, IsBadlyTagged, HasTooManyTurns, IsRan, heap_text}
 use Rattle.running.specs.CodeRuns.{IsRunFrom, IsRunOf}
 
 module _ (target : Target) (text memory : List ℕ) (unit : TypedUnit) where
@@ -58,14 +56,6 @@ module _ (target : Target) (text memory : List ℕ) (unit : TypedUnit) where
     after_certificate NotYet lines h = absurd h
 
 module _ (unit : TypedUnit) (cs : List Steps) (text : List ℕ) where
-  pub not_read : (fault : TextFault) (status : Status) (lines : List ℕ) → IsFaultOf unit text (M.Text fault) →
-      (status ≡ Text) × (lines ≡ fault_text fault) × (fault ≡ F.Memory → ⊥) → IsRunOf unit cs text status lines
-  not_read fault status lines cause h =
-      subst (λ s. IsRunOf unit cs text s lines) (sym h.0)
-      (inl (record { fault = fault; cause = cause; not_memory = h.2; written = h.1 }))
-
-  pub too_long : (status : Status) (lines : List ℕ) → IsFaultOf unit text M.Turns → (status ≡ Limit) × (lines ≡ codes "limit: turns\n") → IsRunOf unit cs text status lines
-  too_long status lines cause h = subst (λ s. IsRunOf unit cs text s lines) (sym h.0) (record { cause = cause; written = h.1 })
 
   module _ (m : Memory) (is : IsMemoryText unit text m) (within : m.turns ≤ most_turns) where
     pub from_memory : (status : Status) (lines : List ℕ) → IsRunFrom unit cs m status lines → IsRunOf unit cs text status lines

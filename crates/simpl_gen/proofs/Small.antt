@@ -1,5 +1,5 @@
 -- Structs of a layout that can be are small, the first ones too.
-use Rattle.std.proofs.Common.{◌≡◌, ℕ, zero, suc, true, false, List, [], ◌∷◌, take, refl, sym, ap, ◌∙◌}
+use Rattle.std.proofs.Common.{◌≡◌, ℕ, zero, suc, true, List, [], ◌∷◌, take, refl, sym, ap, ◌∙◌}
 use Rattle.std.specs.Prelude.{nat_le, ◌&&◌}
 use Rattle.std.proofs.lemmas.Bool.{and_parts, true≢false}
 use Rattle.c_values.specs.Name.{Name, with_name}

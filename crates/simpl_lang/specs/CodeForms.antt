@@ -1,8 +1,7 @@
 -- Words of the code that asks whether a unit is well-formed: what is in scope in a body, what a call asks, and what one
 -- function's signature is asked.
-use Rattle.std.specs.Prelude.{◌≡◌, Bool, true, false, ◌&&◌, List, map, Option, Some, None}
+use Rattle.std.specs.Prelude.{Bool, true, false, ◌&&◌, List, map, Option, Some, None}
 use Rattle.c_values.specs.Name.{Name, same_name, are_distinct}
-use Rattle.c_values.specs.Layout.{Layout}
 use Rattle.expression_lang.specs.declared.names.Names as N
 use Rattle.expression_lang.specs.CodeSignature.{signature_of}
 use Rattle.expression_lang.specs.CodeSort.{scope_of}

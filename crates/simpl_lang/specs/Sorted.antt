@@ -2,7 +2,7 @@
 use Rattle.std.specs.Prelude.{◌≡◌, ◌==◌, Bool, true, false, ◌&&◌, List, [], ◌∷◌, map, Option, Some, None}
 use Rattle.c_values.specs.Name.{Name, same_name, are_distinct}
 use Rattle.c_values.specs.Layout.{IsLayout, global_type}
-use Rattle.expression_lang.specs.Sort.{Level, Bytes, Words, Numbers, Scalar, Sort, Of, Kind, WordKind, NatKind, IntKind, BoolKind, Scope, same_scalar, is_truth, word_sort_of, are_kinds}
+use Rattle.expression_lang.specs.Sort.{Level, Bytes, Words, Numbers, Scalar, Of, Kind, WordKind, NatKind, IntKind, BoolKind, Scope, is_truth, word_sort_of, are_kinds}
 use Rattle.expression_lang.specs.Signature.{Binder, Signature, names_of, kinds_of, signature}
 use Rattle.expression_lang.specs.Sorted.{names_with, program_sort, scalars_of, typed_place, global_place, fits_place, call_scalars}
 use Rattle.program_sorts.specs.Sorts.{is_scalar_of}

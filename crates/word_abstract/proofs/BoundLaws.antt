@@ -1,5 +1,5 @@
 -- Names that are bound, one after the other.
-use Rattle.std.proofs.Common.{◌≡◌, List, [], ◌∷◌, ◌++◌, map, string_bytes, refl, sym, ap, ◌∙◌}
+use Rattle.std.proofs.Common.{◌≡◌, List, [], ◌∷◌, ◌++◌, map, string_bytes, refl}
 use Rattle.expression_lang.specs.CodeExpression.{kind_of}
 use Rattle.expression_lang.specs.CodeSignature.{binder_of}
 use Rattle.expression_lang.specs.Signature.{Binder, names_of, kinds_of}

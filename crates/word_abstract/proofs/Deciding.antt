@@ -1,5 +1,5 @@
 -- A test that holds exactly where two expressions are equal, as a truth value.
-use Rattle.std.proofs.Common.{◌≡◌, ◌↔◌, Bool, true, false, IsTrue, refl, sym, subst, ◌∙◌}
+use Rattle.std.proofs.Common.{◌≡◌, ◌↔◌, Bool, true, false, IsTrue, refl, subst}
 use Rattle.std.proofs.lemmas.Bool.{false≢true}
 use Rattle.expression_lang.specs.Expression.{Exp}
 use Rattle.ac_expr.specs.SameExp.{same_exp}

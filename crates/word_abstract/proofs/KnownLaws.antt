@@ -1,21 +1,17 @@
 -- Which of some facts last, by the fact.
-use Rattle.std.proofs.Common.{◌≡◌, ℕ, zero, suc, ◌+◌, ◌<◌, length, get_or, take, drop, arith, Bool, true, false, not, ◌&&◌, List, [], ◌∷◌, ◌++◌, map, Option, Some, None, if◌then◌else◌, refl, sym, ap, ◌∙◌}
+use Rattle.std.proofs.Common.{◌≡◌, ℕ, zero, suc, ◌+◌, ◌<◌, length, get_or, take, drop, arith, Bool, true, false, not, ◌&&◌, List, [], ◌∷◌, ◌++◌, map, if◌then◌else◌, refl, sym, ap, ◌∙◌}
 use Rattle.c_values.specs.Name.{Name}
 use Rattle.expression_lang.specs.Expression.{Exp, Not}
 use Rattle.expression_lang.specs.Mentions.{names, reads}
 use Rattle.ac_expr.specs.Fact.{Fact, Whole, NotTrue, stands_for}
 use Rattle.ac_expr.specs.Facts.{without_name, without_reads}
-use Rattle.ac_expr.specs.Passed.{without_names, with_guard, where_unchanged}
+use Rattle.ac_expr.specs.Passed.{without_names, where_unchanged}
 use Rattle.ac_expr.specs.Lasting.{is_unnamed}
 use Rattle.word_abstract.specs.CodeKnown.{newest_first, lasts}
 
 pub newest_push : {A : Type 0} (f : A → Fact) (xs : List A) (x : A) (older : List Fact) → newest_first (map f (xs ++ x ∷ [])) older ≡ f x ∷ newest_first (map f xs) older
 newest_push f [] x older = refl
 newest_push f (y ∷ ys) x older = newest_push f ys x (f y ∷ older)
-
-pub newest_also : {A : Type 0} (f : A → Fact) (xs ys : List A) (older : List Fact) → newest_first (map f (xs ++ ys)) older ≡ newest_first (map f ys) (newest_first (map f xs) older)
-newest_also f [] ys older = refl
-newest_also f (x ∷ xs) ys older = newest_also f xs ys (f x ∷ older)
 
 pub newest_apart : (xs older : List Fact) → newest_first xs older ≡ newest_first xs [] ++ older
 newest_apart [] older = refl

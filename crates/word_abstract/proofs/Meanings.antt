@@ -1,7 +1,7 @@
 -- What an expression stands for means what it is abstracted to, however it is seen.
 use Rattle.std.proofs.Math.Path.{fun_ext}
-use Rattle.std.proofs.Common.{◌≡◌, ℕ, Bool, true, false, List, Option, Some, None, refl, sym, ap, ap₂, ◌∙◌}
-use Rattle.c_values.specs.Word.{WordOp, Wadd, Wsub, Wmul, Wand, Wor, Wxor, Wudiv, Wumod, Wsdiv, Wsmod, UnaryOp, Wneg, Wnot, WordTest, Wult, Wule, Wslt, Wsle}
+use Rattle.std.proofs.Common.{◌≡◌, ℕ, Bool, true, false, List, Option, Some, None, refl, ap, ap₂, ◌∙◌}
+use Rattle.c_values.specs.Word.{WordTest, Wult, Wule, Wslt, Wsle}
 use Rattle.c_values.specs.Name.{Name}
 use Rattle.expression_lang.specs.Expression as X
 use Rattle.expression_lang.specs.Expression.{Exp, Path}
@@ -10,11 +10,11 @@ use Rattle.expression_lang.specs.Signature.{Binder}
 use Rattle.rule_trees.specs.RuleTree.{Trees, no_trees, tree}
 use Rattle.rule_word.specs.Rule as R
 use Rattle.rule_word.specs.Rule.{Rule, View, AsIs, Unsigned, Signed}
-use Rattle.ac_expr.specs.Fact.{Fact, Whole, NotTrue}
+use Rattle.ac_expr.specs.Fact.{Whole, NotTrue}
 use Rattle.rule_word.specs.Scopes.{view_for, own, width_in, names_in}
 use Rattle.rule_word.specs.Table.{truth}
 use Rattle.rule_word.specs.Bases.{Surroundings, under, Base, Words, Naturals, Integers, first_base}
-use Rattle.rule_word.specs.WordsAbstracted.{Abstracted, Indices, made, one, two, seen_from, by_head, or_zero, operands, binary_base, binary_at, negation_base, unary_at, abstracted, indices, base_of, compared, cast_at, equal, equality_kind, var_at, var_base, constant_at}
+use Rattle.rule_word.specs.WordsAbstracted.{Abstracted, Indices, made, one, two, seen_from, by_head, or_zero, operands, binary_base, binary_at, negation_base, unary_at, abstracted, indices, base_of, compared, cast_at, equal, equality_kind, var_at, var_base}
 use Rattle.word_abstract.specs.CodeMeaning as S
 use Rattle.word_abstract.specs.CodeMeaning.{Seen, seen_in, seen_for, Standing, seen_at, meaning, standing, path_standing, path_trees, word_of, base_at, chosen}
 

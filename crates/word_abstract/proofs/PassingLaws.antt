@@ -1,8 +1,8 @@
 -- What is known behind a part, by what was known before it.
-use Rattle.std.proofs.Common.{◌≡◌, Bool, true, false, List, [], ◌∷◌, ◌++◌, map, Option, Some, None, if◌then◌else◌, refl, sym, subst, ap, ◌∙◌}
+use Rattle.std.proofs.Common.{◌≡◌, Bool, true, false, List, [], ◌∷◌, map, Option, Some, None, refl, sym, subst, ap, ◌∙◌}
 use Rattle.c_values.specs.Name.{Name}
 use Rattle.expression_lang.specs.Expression.{Exp}
-use Rattle.ac_expr.specs.Fact.{Fact, Whole, stands_for}
+use Rattle.ac_expr.specs.Fact.{Fact, Whole}
 use Rattle.ac_expr.specs.Passed.{without_names, with_guard, where_unchanged}
 use Rattle.ac_expr.specs.Lasting.{is_unnamed}
 use Rattle.monad_lang.specs.Program.{Mon}

@@ -1,15 +1,15 @@
 -- Which range facts give, by their form, the oldest first.
 use Rattle.std.proofs.lemmas.Bool.{false≢true}
 use Rattle.std.specs.Option.{option_map}
-use Rattle.std.proofs.Common.{is_some, ◌≡◌, ◌↔◌, ℤ, ℕ, ◌+◌, ◌-◌, ◌<◌, ◌≤◌, arith, length, get_or, take, drop, IsTrue, Bool, true, false, ◌||◌, List, [], ◌∷◌, ◌++◌, map, Option, Some, None, if◌then◌else◌, refl, sym, ap, ap₂, ◌∙◌}
+use Rattle.std.proofs.Common.{is_some, ◌≡◌, ℤ, ℕ, ◌+◌, ◌-◌, ◌<◌, ◌≤◌, arith, length, get_or, take, drop, Bool, true, false, ◌||◌, List, [], ◌∷◌, ◌++◌, map, Option, Some, None, if◌then◌else◌, refl, sym, ap, ◌∙◌}
 use Rattle.expression_lang.specs.Expression as X
 use Rattle.expression_lang.specs.Expression.{Exp}
-use Rattle.ac_expr.specs.Fact.{Fact, Whole, NotTrue, stands_for}
+use Rattle.ac_expr.specs.Fact.{Fact, Whole, stands_for}
 use Rattle.ac_expr.specs.SameExp.{same_exp}
 use Rattle.rule_word.specs.Bases.{Base, Naturals, Integers, or_else, gives_at_once, some_gives, range_given, first_range, oldest_range}
 use Rattle.word_abstract.specs.CodeKnown.{newest_first}
 use Rattle.word_abstract.specs.CodeClaims.{IsOther}
-use Rattle.word_abstract.proofs.Deciding.{decided, same_true, same_false}
+use Rattle.word_abstract.proofs.Deciding.{same_true, same_false}
 use Rattle.word_abstract.proofs.KnownLaws.{newest_push, newest_apart, newest_taken, newest_split}
 
 -- what gives an expression
@@ -46,12 +46,6 @@ range_other before low r high low' i high' (X.And a b) h = absurd h
 range_other before low r high low' i high' (X.Between l x m) h = absurd h
 range_other before low r high low' i high' (X.Imp c d) h = absurd h
 range_other before low r high low' i high' fact h = refl
-
-pub first_other : (before : List Fact) (n i fact : Exp) → IsOther fact → first_range same_exp before n i fact ≡ range_given same_exp before n i fact
-first_other before n i (X.And a b) h = absurd h
-first_other before n i (X.Between l x m) h = absurd h
-first_other before n i (X.Imp c d) h = absurd h
-first_other before n i fact h = refl
 
 -- of facts in their order
 
@@ -100,12 +94,6 @@ pub gives_rest : (fact e a b : Exp) → fact ≡ X.And a b → same_exp fact e �
 gives_rest fact e a b q s h =
     ap (λ f. gives_at_once same_exp f e) q ∙ ap (λ c. (same_exp (X.And a b) e || c) || gives_at_once same_exp b e) h
     ∙ ap (λ c. (c || false) || gives_at_once same_exp b e) (ap (λ f. same_exp f e) (sym q) ∙ s)
-
-pub gives_range : (fact e x : Exp) (low high : ℤ) (p r : Bool) → fact ≡ X.Between low x high → same_exp fact e ≡ false →
-    (IsTrue p ↔ (X.Le (X.NumberLit low) x ≡ e)) → (IsTrue r ↔ (X.Le x (X.NumberLit high) ≡ e)) → (p || r) ≡ gives_at_once same_exp fact e
-gives_range fact e x low high p r q s h k =
-    ap (λ c. c || r) (decided p (X.Le (X.NumberLit low) x) e h) ∙ ap (λ c. same_exp (X.Le (X.NumberLit low) x) e || c) (decided r (X.Le x (X.NumberLit high)) e k)
-    ∙ sym (ap (λ f. gives_at_once same_exp f e) q ∙ ap (λ c. (c || same_exp (X.Le (X.NumberLit low) x) e) || same_exp (X.Le x (X.NumberLit high)) e) (ap (λ f. same_exp f e) (sym q) ∙ s))
 
 pub gives_under : (fact e c d : Exp) → fact ≡ X.Imp c d → same_exp fact e ≡ false → gives_at_once same_exp fact e ≡ false
 gives_under fact e c d q s = ap (λ f. gives_at_once same_exp f e) q ∙ ap (λ f. same_exp f e) (sym q) ∙ s
@@ -158,9 +146,6 @@ IsNoAnd e = Unit {0}
 pub first_alone : (before : List Fact) (n i fact : Exp) → IsNoAnd fact → first_range same_exp before n i fact ≡ range_given same_exp before n i fact
 first_alone before n i (X.And a b) h = absurd h
 first_alone before n i fact h = refl
-
-pub denied_gives_none : (before : List Fact) (e r s : Exp) (low high low' high' : ℤ) → first_range same_exp before (X.Between low r high) (X.Between low' s high') (X.Not e) ≡ None
-denied_gives_none before e r s low high low' high' = refl
 
 -- by how many were gone through
 

@@ -1,17 +1,17 @@
 -- What an expression stands for, at its shape.
-use Rattle.std.proofs.Common.{◌≡◌, Bool, true, false, if◌then◌else◌, List, Option, Some, None, refl, sym, ap, ◌∙◌}
+use Rattle.std.proofs.Common.{◌≡◌, Bool, true, false, if◌then◌else◌, List, Some, None, refl, sym, ap, ◌∙◌}
 use Rattle.expression_lang.specs.Expression as X
-use Rattle.expression_lang.specs.Expression.{Exp, Path}
-use Rattle.expression_lang.specs.Sort.{Scope, sort_of}
+use Rattle.expression_lang.specs.Expression.{Exp}
+use Rattle.expression_lang.specs.Sort.{Scope}
 use Rattle.expression_lang.specs.Signature.{Binder}
 use Rattle.expression_lang.specs.CodeShape.{Two, BinaryTwo, ShiftTwo, CompareTwo, ArithTwo, LtTwo, LeTwo, EqTwo, AndTwo, OrTwo, ImpTwo, Shape, LeafShape, OneShape, TwoShape, BetweenShape, IfShape, PaddShape, RootShape, PlaceShape, GlobalShape, SelShape, UpdShape, shape_of, whole_root, whole_place}
 use Rattle.ac_expr.specs.Fact.{Whole, NotTrue}
 use Rattle.rule_trees.specs.RuleTree.{no_trees, tree}
 use Rattle.rule_word.specs.Scopes.{names_in, width_in}
-use Rattle.rule_word.specs.Bases.{Surroundings, under, first_base}
-use Rattle.rule_word.specs.WordsAbstracted.{one, two, or_zero, equality_kind}
+use Rattle.rule_word.specs.Bases.{Surroundings, under}
+use Rattle.rule_word.specs.WordsAbstracted.{one, two, or_zero}
 use Rattle.word_abstract.specs.CodeConnectives.{connective}
-use Rattle.word_abstract.specs.CodeMeaning.{Standing, Chosen, word_of, base_at, leaf_standing, operator, over_words, connected, compared, equal, one_standing, two_standing, operation, standing, path_standing, path_trees}
+use Rattle.word_abstract.specs.CodeMeaning.{Standing, Chosen, word_of, leaf_standing, operator, connected, one_standing, two_standing, standing, path_standing, path_trees}
 
 module _ (same : Exp → Exp → Bool) (numbers : Bool) (g : Scope) (names : List Binder) where
   abbrev pub shape_standing : Surroundings → Shape → Standing

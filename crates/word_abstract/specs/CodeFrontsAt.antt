@@ -7,7 +7,7 @@ use Rattle.monad_lang.specs.CodeProgram.{mon_of}
 use Rattle.monad_lang.specs.Sorted.{scalars_given}
 use Rattle.rule_word.specs.Scopes.{words}
 use Rattle.rule_word.specs.CodeRule.{tree_of}
-use Rattle.rule_word.specs.ProgramsAbstracted.{AbstractedProgram, kinds_for, scalars_there}
+use Rattle.rule_word.specs.ProgramsAbstracted.{kinds_for, scalars_there}
 use Rattle.word_abstract.specs.CodeScenes.{context_at, binders_at, local_kinds, program_there}
 use Rattle.word_abstract.specs.declared.points.Scene as P
 use Rattle.word_abstract.specs.declared.passing.Front as F

@@ -2,19 +2,18 @@
 -- of two that are seen alike, or an extended word. So each expression is abstracted once, and not once for each way it is seen in.
 use Rattle.std.specs.Prelude.{ℕ, Bool, true, false, List, Option, Some, None}
 use Rattle.c_values.specs.Name.{Name}
-use Rattle.c_values.specs.Types.{CType}
-use Rattle.c_values.specs.Word.{Word, unsigned, signed, WordOp, UnaryOp, Wneg, Wnot, WordTest, Wult, Wule, Wslt, Wsle}
+use Rattle.c_values.specs.Word.{Word, unsigned, signed, WordOp, UnaryOp, WordTest, Wult, Wule, Wslt, Wsle}
 use Rattle.expression_lang.specs.Expression as X
 use Rattle.expression_lang.specs.Expression.{Exp, Path}
 use Rattle.expression_lang.specs.Sort.{Kind, WordKind, NatKind, IntKind, BoolKind, Scope, sort_of}
 use Rattle.expression_lang.specs.Signature.{Binder}
-use Rattle.expression_lang.specs.CodeShape.{Leaf, VarLeaf, WordLeaf, NumberLeaf, TruthLeaf, One, UnaryOne, CastOne, ToNatOne, ToIntOne, ToWordOne, NegateOne, NotOne, Two, BinaryTwo, ShiftTwo, CompareTwo, ArithTwo, LtTwo, LeTwo, EqTwo, AndTwo, OrTwo, ImpTwo, RootTest, PlaceHead, Shape, LeafShape, OneShape, TwoShape, BetweenShape, IfShape, PaddShape, RootShape, PlaceShape, GlobalShape, SelShape, UpdShape, whole_one, whole_two, whole_root, whole_place}
+use Rattle.expression_lang.specs.CodeShape.{Leaf, VarLeaf, WordLeaf, NumberLeaf, TruthLeaf, One, UnaryOne, CastOne, ToNatOne, ToIntOne, ToWordOne, NegateOne, NotOne, Two, BinaryTwo, ShiftTwo, CompareTwo, ArithTwo, LtTwo, LeTwo, EqTwo, AndTwo, OrTwo, ImpTwo, whole_one, whole_two}
 use Rattle.ac_expr.specs.Fact.{Whole, NotTrue}
 use Rattle.rule_trees.specs.RuleTree.{Trees, no_trees, tree}
 use Rattle.rule_word.specs.Rule as R
 use Rattle.rule_word.specs.Rule.{Rule, View, AsIs, Unsigned, Signed}
 use Rattle.rule_word.specs.Scopes.{names_in, width_in}
-use Rattle.rule_word.specs.Bases.{Surroundings, under, Base, Words, Naturals, Integers, kind_at_base, where_numbers, first_base}
+use Rattle.rule_word.specs.Bases.{Surroundings, under, Base, Words, Naturals, Integers, first_base}
 use Rattle.rule_word.specs.WordsAbstracted.{Abstracted, made, one, two, as_word, Operands, or_zero, binary_base, binary_at, negation_base, unary_at, order, equality_kind}
 
 -- how a word is seen, whatever its width

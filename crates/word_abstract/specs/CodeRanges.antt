@@ -1,5 +1,5 @@
 -- What the code's ranges stand for, and what is known before a fact.
-use Rattle.std.specs.Prelude.{◌≡◌, ◌<◌, ℕ, true, false, List, ◌∷◌, ◌++◌, if◌then◌else◌}
+use Rattle.std.specs.Prelude.{◌≡◌, ◌<◌, ℕ, List, ◌∷◌, ◌++◌, if◌then◌else◌}
 use Rattle.c_values.specs.CodeNumber.{number_op_of}
 use Rattle.expression_lang.specs.declared.expression.Exp.{size-Exp}
 use Rattle.expression_lang.specs.Expression as X
@@ -7,7 +7,7 @@ use Rattle.expression_lang.specs.Expression.{Exp}
 use Rattle.expression_lang.specs.CodeExpression.{exp_of}
 use Rattle.ac_expr.specs.Fact.{Fact, Whole}
 use Rattle.rule_word.specs.Bases.{natural_range, integer_range}
-use Rattle.word_abstract.specs.CodeMeaning.{Seen, AsWord, AsNatural, AsInteger, meaning}
+use Rattle.word_abstract.specs.CodeMeaning.{Seen, AsNatural, AsInteger, meaning}
 use Rattle.word_abstract.specs.CodeClaims.{IsOther}
 use Rattle.word_abstract.specs.CodeStanding.{standing_in}
 use Rattle.word_abstract.specs.CodeFacts.{known_in, conditions_in}

@@ -1,11 +1,10 @@
 -- What is known of the locals of a generated function: the sort of each, and that its parameters are among them.
-use Rattle.std.proofs.Common.{◌≡◌, Bool, true, false, not, cond, ◌||◌, List, [], ◌∷◌, ◌++◌, map, Option, Some, None, ◌⊎◌, inl, inr, refl, sym, subst, ap, ◌∙◌}
-use Rattle.std.proofs.lemmas.Bool.{false≢true, and_parts, and_from, or_parts, not-true, not_from_false, cond-true, cond_both, false_from_ne_true, true≢false}
+use Rattle.std.proofs.Common.{◌≡◌, Bool, true, false, not, cond, ◌||◌, List, [], ◌∷◌, ◌++◌, map, Option, Some, None, ◌⊎◌, inl, inr, refl, sym, ap, ◌∙◌}
+use Rattle.std.proofs.lemmas.Bool.{false≢true, and_parts, and_from, not-true, not_from_false, cond_both, false_from_ne_true, true≢false}
 use Rattle.c_values.specs.Name.{Name, same_name, with_name, is_among, are_distinct}
 use Rattle.c_values.specs.Types.{Target, CType}
 use Rattle.c_values.specs.Layout.{scalar_width}
-use Rattle.c_values.proofs.Laid.{name_is, same_name-refl}
-use Rattle.expression_lang.specs.Sort.{Level, Scalar, WordSort, Kind, WordKind, NatKind, IntKind, BoolKind, is_kind, are_kinds, word_sort_of, sort_of_kind}
+use Rattle.expression_lang.specs.Sort.{Level, Scalar, WordSort, Kind, WordKind, NatKind, IntKind, BoolKind, are_kinds, word_sort_of, sort_of_kind}
 use Rattle.expression_lang.specs.Signature.{Binder, Signature, kind_at, names_of, kinds_of, signature}
 use Rattle.expression_lang.specs.Sorted.{names_with, call_scalars}
 use Rattle.simpl_lang.specs.Command.{kind_of}
@@ -20,7 +19,7 @@ use Rattle.c_lang.specs.Typed as C
 use Rattle.c_lang.specs.WellTyped.{variable_type}
 use Rattle.c_meaning.specs.Kinds.{variables}
 use Rattle.generation.proofs.SortedCommands.{kind_word}
-use Rattle.rule_local.proofs.UnitsSorted.{others_stay, local_scalar, local_is_kind}
+use Rattle.rule_local.proofs.UnitsSorted.{local_scalar, local_is_kind}
 
 some_is : {A : Type 0} {a b : A} → ◌≡◌ {A = Option A} (Some a) (Some b) → a ≡ b
 some_is h = cc

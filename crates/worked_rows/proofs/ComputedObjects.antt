@@ -1,7 +1,7 @@
 -- Claims about objects in objects, from the computed ends.
-use Rattle.std.proofs.Common.{◌≡◌, true, [], ◌∷◌, Some, refl, subst}
+use Rattle.std.proofs.Common.{◌≡◌, true, [], ◌∷◌, Some, subst}
 use Rattle.std.specs.Prelude.{codes}
-use Rattle.correspondence.specs.Outcome.{Outcome, Done, Failed, Stopped}
+use Rattle.correspondence.specs.Outcome.{Outcome}
 use Rattle.c_values.specs.Value.{Value, nothing}
 use Rattle.c_memory.specs.TypedHeap.{view}
 use Rattle.c_memory.specs.Heap.{Heap, OnBytes, OnTypes}

@@ -2,7 +2,6 @@
 -- struct inner { int x; int y; }; struct outer { struct inner a; struct inner b[3]; };
 use Rattle.std.specs.Prelude.{◌≡◌, ℕ, List, [], ◌∷◌, Some, pos, codes}
 use Rattle.correspondence.specs.Outcome.{Done, Ends}
-use Rattle.c_values.specs.Name.{Name}
 use Rattle.c_values.specs.Types.{CType, Struct, Array}
 use Rattle.c_values.specs.Word.{word}
 use Rattle.c_values.specs.Value.{Value, nothing}

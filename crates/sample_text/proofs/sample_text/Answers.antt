@@ -1,4 +1,4 @@
-use Rattle.std.proofs.Common.{◌≡◌, ◌++◌, ◌+◌, ◌-◌, ◌∙◌, ap, arith}
+use Rattle.std.proofs.Common.{◌++◌, ◌+◌, ◌-◌, ◌∙◌, ap, arith}
 use Rattle.sample_text.specs.Sample.{line, lines_from}
 use Rattle.sample_text.proofs.Lines.{next_line}
 use Rattle.sample_text.proofs.sample_text.Goals as goal

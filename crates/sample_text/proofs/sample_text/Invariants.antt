@@ -1,5 +1,5 @@
 -- The lines that stand, and then those that are left, are all of them.
-use Rattle.std.proofs.Common.{◌≡◌, ◌++◌, ◌-◌, ◌≤◌}
+use Rattle.std.proofs.Common.{◌≡◌, ◌++◌, ◌-◌}
 use Rattle.sample_text.specs.Sample.{lines_from, sample_text}
 use Rattle.sample_text.proofs.sample_text.Given as goal
 

@@ -1,5 +1,5 @@
 -- What is left gives the claim exactly where the whole does.
-use Rattle.std.proofs.Common.{◌≡◌, ◌↔◌, ◌≤◌}
+use Rattle.std.proofs.Common.{◌↔◌, ◌≤◌}
 use Rattle.expression_lang.specs.declared.expression.Exp.{size-Exp}
 use Rattle.expression_lang.specs.CodeExpression.{exp_of}
 use Rattle.ac_expr.specs.Fact.{stands_for}

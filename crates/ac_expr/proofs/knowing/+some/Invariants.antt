@@ -1,5 +1,5 @@
 -- Some fact of what is left of the chain passes exactly where one of all does.
-use Rattle.std.proofs.Common.{◌≡◌, ◌↔◌, ◌≤◌, true}
+use Rattle.std.proofs.Common.{◌↔◌, ◌≤◌}
 use Rattle.ac_expr.specs.declared.chain.Facts.{size-Facts}
 use Rattle.ac_expr.specs.Known.{SomeFact}
 use Rattle.ac_expr.specs.CodeChain.{facts_of}

@@ -1,5 +1,4 @@
 -- Nothing comes after.
-use Rattle.std.proofs.Common.{◌≡◌, ◌↔◌, IsTrue}
 use Rattle.ac_expr.specs.Fact.{stands_for}
 use Rattle.ac_expr.specs.Known.{Gives}
 use Rattle.ac_expr.specs.CodeFacts.{fact_of}

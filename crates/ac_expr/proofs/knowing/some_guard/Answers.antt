@@ -1,5 +1,5 @@
 -- The part's own guard is kept.
-use Rattle.std.proofs.Common.{◌≡◌, ◌↔◌, ◌<◌, IsTrue, arith, refl}
+use Rattle.std.proofs.Common.{◌<◌, arith, refl}
 use Rattle.ac_expr.specs.CodeLasting.{lasts}
 use Rattle.ac_expr.specs.Guarded.{Lasting}
 use Rattle.ac_expr.proofs.LastingParts.{guard_here}

@@ -1,5 +1,5 @@
 -- The guard of some part that is left passes exactly where that of one of all does.
-use Rattle.std.proofs.Common.{◌≡◌, ◌↔◌, true}
+use Rattle.std.proofs.Common.{◌↔◌}
 use Rattle.ac_expr.specs.CodeLasting.{lasts}
 use Rattle.ac_expr.specs.Guarded.{SomeGuard, Lasting}
 use Rattle.ac_expr.proofs.knowing.some_guard.Given as goal

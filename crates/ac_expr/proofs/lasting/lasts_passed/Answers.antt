@@ -1,5 +1,5 @@
 -- The fact lasts through the part that is passed.
-use Rattle.std.proofs.Common.{◌≡◌, ◌<◌, sym, ◌∙◌, arith}
+use Rattle.std.proofs.Common.{◌<◌, sym, ◌∙◌, arith}
 use Rattle.ac_expr.specs.Fact.{stands_for}
 use Rattle.ac_expr.specs.CodeFacts.{fact_of}
 use Rattle.ac_expr.proofs.LastingParts.{through_one}

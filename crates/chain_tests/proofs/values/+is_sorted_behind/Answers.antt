@@ -1,5 +1,5 @@
 -- Where nothing is bound, the names are those that there are.
-use Rattle.std.proofs.Common.{◌≡◌, [], List, length, subst, sym}
+use Rattle.std.proofs.Common.{[], subst, sym}
 use Rattle.std.specs.Option.{IsSome}
 use Rattle.c_values.specs.Layout.{global_type}
 use Rattle.expression_lang.specs.Sort.{sort_of}

@@ -1,11 +1,10 @@
-use Rattle.std.proofs.Common.{rules, arith, ◌≡◌, ◌≤◌, ◌&&◌, true, false, List, Option, Some, map, string_bytes, refl, sym, ap, ◌∙◌}
+use Rattle.std.proofs.Common.{rules, arith, ◌≡◌, ◌&&◌, true, false, Option, Some, map, string_bytes, refl, sym, ap, ◌∙◌}
 use Rattle.std.specs.Option.{option_map}
 use Rattle.c_values.specs.Name.{Name, are_distinct}
 use Rattle.expression_lang.specs.Sort.{Scalar}
 use Rattle.expression_lang.specs.Sorted.{names_with}
 use Rattle.expression_lang.specs.CodeExpression.{exp_of}
 use Rattle.expression_lang.specs.CodeSort.{scalar_of}
-use Rattle.monad_lang.specs.declared.program.Mon.{size-Mon}
 use Rattle.monad_lang.specs.Program as M
 use Rattle.monad_lang.specs.CodeProgram.{mon_of, start_of}
 use Rattle.monad_lang.specs.Run.{start_names}

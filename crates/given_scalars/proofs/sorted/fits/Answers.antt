@@ -1,5 +1,5 @@
 -- An object's part takes what its place is asked for.
-use Rattle.std.proofs.Common.{rules, ◌≡◌, Bool, refl, sym, ap, ◌∙◌}
+use Rattle.std.proofs.Common.{◌≡◌, Bool, sym, ap, ◌∙◌}
 use Rattle.c_values.specs.CodeTypes.{type_of}
 use Rattle.expression_lang.specs.CodeExpression.{exp_of, path_of}
 use Rattle.expression_lang.specs.Sort.{Scope}

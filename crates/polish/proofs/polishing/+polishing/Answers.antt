@@ -1,15 +1,14 @@
 -- The walk, by what comes of each place.
-use Rattle.std.proofs.Common.{rules, arith, ◌≡◌, ◌+◌, ◌*◌, ◌<◌, true, false, [], ◌∷◌, ◌++◌, map, string_bytes, Some, None, IfOk, refl, sym, ap, ap₂, ◌∙◌, subst}
+use Rattle.std.proofs.Common.{rules, arith, ◌≡◌, ◌+◌, true, false, [], ◌∷◌, ◌++◌, map, string_bytes, Some, None, IfOk, sym, ap, ap₂, ◌∙◌, subst}
 use Rattle.std.proofs.lemmas.Result.{IfOk-weaker}
 use Rattle.expression_lang.specs.Sorted.{names_with}
 use Rattle.expression_lang.specs.CodeExpression.{exp_of}
 use Rattle.ac_expr.specs.Fact.{Whole}
 use Rattle.monad_lang.specs.Program as M
-use Rattle.monad_lang.specs.Program.{Mon}
-use Rattle.monad_lang.specs.CodeProgram.{mon_of, start_of}
+use Rattle.monad_lang.specs.CodeProgram.{mon_of}
 use Rattle.rule_eq.specs.Rule as R
 use Rattle.rule_eq.specs.Table.{point, behind}
-use Rattle.rule_walks.specs.Walk.{one_walk, over_bind, over_one, over_two, Walked, walked, then_walked, Nothing, after_before, and_led}
+use Rattle.rule_walks.specs.Walk.{one_walk, over_bind, over_one, over_two, walked, then_walked, Nothing, after_before, and_led}
 use Rattle.rule_walks.specs.CodeWalks.{walk_in, before_in, made_in}
 use Rattle.expression_steps.specs.declared.points.Scoped as N
 use Rattle.expression_steps.specs.CodePoint.{names_of, scalars_of, names_in, known_in}

@@ -1,5 +1,5 @@
 -- Where a value is no constant, or its name isn't free, the first one is further on.
-use Rattle.std.proofs.Common.{rules, ◌≡◌, false, true, ◌&&◌, ◌∷◌, string_bytes}
+use Rattle.std.proofs.Common.{rules, ◌≡◌, false, ◌&&◌, ◌∷◌, string_bytes}
 use Rattle.expression_lang.specs.CodeExpression.{exp_of}
 use Rattle.monad_lang.specs.CodeProgram.{mon_of}
 use Rattle.monad_lang.specs.Names.{is_free}

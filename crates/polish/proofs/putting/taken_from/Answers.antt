@@ -1,5 +1,5 @@
 -- Behind one value more, with its name, the position is one less.
-use Rattle.std.proofs.Common.{rules, arith, ◌≡◌, [], ◌∷◌, ◌++◌, map, string_bytes, ap, ◌∙◌}
+use Rattle.std.proofs.Common.{rules, ◌≡◌, [], ◌∷◌, ◌++◌, map, string_bytes, ap, ◌∙◌}
 use Rattle.expression_lang.specs.CodeExpression.{exp_of}
 use Rattle.polish.proofs.Takings.{mapped_more, taken_on}
 use Rattle.polish.proofs.putting.taken_from.Goals as goal

@@ -1,5 +1,5 @@
 -- The parameters are in scope, and nothing is known.
-use Rattle.std.proofs.Common.{◌≡◌, [], None, map, ap, ap₂, ◌∙◌}
+use Rattle.std.proofs.Common.{◌≡◌, [], None, ap, ap₂, ◌∙◌}
 use Rattle.std.proofs.lemmas.Result.{IfOk-weaker}
 use Rattle.expression_lang.specs.Sorted.{names_with}
 use Rattle.monad_lang.specs.CodeProgram.{mon_of}

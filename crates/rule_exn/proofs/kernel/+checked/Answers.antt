@@ -1,8 +1,7 @@
-use Rattle.std.proofs.Common.{rules, ◌≡◌, true, List, [], ◌∷◌, Ok, Err, refl, sym, subst, ap, ◌∙◌, length, ◌<◌}
+use Rattle.std.proofs.Common.{rules, ◌≡◌, true, [], ◌∷◌, Ok, Err, refl, sym, subst, ap, ◌∙◌, length, ◌<◌}
 use Rattle.simpl_lang.specs.declared.command.Simpl.{size-Simpl}
 use Rattle.simpl_lang.specs.CodeCommand.{simpl_of}
 use Rattle.rule_exn.specs.Quiet.{quiet}
-use Rattle.rule_trees.specs.declared.tree.Tree.{out-Tree}
 use Rattle.rule_exn.specs.CodeRow.{parts_of}
 use Rattle.rule_exn.specs.CodeRule.{tree_of}
 use Rattle.rule_exn.proofs.Walked as walked

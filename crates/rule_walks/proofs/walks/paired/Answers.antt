@@ -1,4 +1,4 @@
-use Rattle.std.proofs.Common.{◌≡◌, sym}
+use Rattle.std.proofs.Common.{sym}
 use Rattle.rule_walks.proofs.StepLists.{pairs}
 use Rattle.rule_walks.proofs.walks.paired.Goals as goal
 

@@ -1,6 +1,5 @@
 -- The steps put aside, before what is left, are the whole.
 use Rattle.std.proofs.Common.{◌≡◌, ◌≤◌}
-use Rattle.expression_lang.specs.declared.expression.Exp.{size-Exp}
 use Rattle.expression_lang.specs.declared.paths.Path.{size-Path}
 use Rattle.expression_lang.specs.CodeExpression.{path_of}
 use Rattle.expression_lang.specs.CodeShapeView.{with_steps}

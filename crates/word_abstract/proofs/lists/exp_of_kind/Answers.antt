@@ -1,12 +1,11 @@
-use Rattle.std.proofs.Common.{◌≡◌, refl, ◌∙◌, sym}
+use Rattle.std.proofs.Common.{◌≡◌, ◌∙◌, sym}
 use Rattle.expression_lang.specs.CodeExpression.{exp_of, kind_of}
 use Rattle.rule_word.specs.Rule.{View}
-use Rattle.rule_word.specs.Scopes.{words, own, view_for}
-use Rattle.rule_word.specs.Table.{truth}
-use Rattle.word_abstract.specs.CodeMeaning.{seen_in, AsWord}
+use Rattle.rule_word.specs.Scopes.{view_for}
+use Rattle.word_abstract.specs.CodeMeaning.{seen_in}
 use Rattle.word_abstract.specs.CodeViews.{seen_of}
 use Rattle.word_abstract.specs.CodeAbstracted.{abstracted_in}
-use Rattle.word_abstract.specs.CodeScenes.{context_at, binders_at, exp_there}
+use Rattle.word_abstract.specs.CodeScenes.{exp_there}
 use Rattle.word_abstract.proofs.OkLaws.{ok_map}
 use Rattle.word_abstract.proofs.Seeing.{kind_seen}
 use Rattle.word_abstract.proofs.lists.exp_of_kind.Goals as goal

@@ -1,4 +1,4 @@
-use Rattle.std.proofs.Common.{rules, arith, ◌≡◌, true, List, [], ◌∷◌, ◌++◌, Option, IfOk, if◌then◌else◌, map, string_bytes, refl, sym, subst, ap, ap₂, ◌∙◌}
+use Rattle.std.proofs.Common.{rules, arith, ◌≡◌, [], ◌∷◌, ◌++◌, Option, IfOk, if◌then◌else◌, map, string_bytes, refl, sym, subst, ap, ap₂, ◌∙◌}
 use Rattle.c_values.specs.Name.{Name}
 use Rattle.expression_lang.specs.Sort.{Kind}
 use Rattle.expression_lang.specs.CodeExpression.{exp_of, kind_of}
@@ -8,7 +8,6 @@ use Rattle.ac_expr.specs.Fact.{Fact, Whole, NotTrue}
 use Rattle.ac_expr.specs.SameExp.{same_exp}
 use Rattle.monad_lang.specs.Program as M
 use Rattle.monad_lang.specs.Program.{Mon}
-use Rattle.monad_lang.specs.Run.{start_names}
 use Rattle.monad_lang.specs.CodeProgram.{mon_of, start_of}
 use Rattle.rule_word.specs.Scopes.{with_kinds}
 use Rattle.rule_word.specs.Table.{truth}
@@ -17,8 +16,7 @@ use Rattle.word_abstract.specs.declared.facts.Fact as F
 use Rattle.rule_word.specs.CodeKinds.{binders_in}
 use Rattle.word_abstract.specs.CodeKnown.{newest_first}
 use Rattle.word_abstract.specs.CodeAbstracted.{abstracted_in}
-use Rattle.word_abstract.specs.CodeFacts.{fact_in, whole, known_in}
-use Rattle.word_abstract.specs.CodePassing.{facts_passed, names_passed}
+use Rattle.word_abstract.specs.CodeFacts.{fact_in, whole}
 use Rattle.word_abstract.specs.CodeBehind.{program_behind}
 use Rattle.word_abstract.specs.CodeTrees.{with_trees}
 use Rattle.word_abstract.specs.CodeTranslated.{translated_in}

@@ -1,5 +1,5 @@
 -- None of those that were gone through gives one.
-use Rattle.std.proofs.Common.{◌≡◌, ◌-◌, ◌≤◌, List, [], length, map, take, None}
+use Rattle.std.proofs.Common.{◌≡◌, ◌-◌, ◌≤◌, [], length, map, take, None}
 use Rattle.ac_expr.specs.SameExp.{same_exp}
 use Rattle.rule_word.specs.Bases.{oldest_range}
 use Rattle.word_abstract.specs.CodeKnown.{newest_first}

@@ -1,4 +1,4 @@
-use Rattle.std.proofs.Common.{◌≡◌, ◌-◌, ◌||◌, [], map, take, arith, sym, ap, ap₂, ◌∙◌, true, false}
+use Rattle.std.proofs.Common.{◌-◌, ◌||◌, [], map, take, arith, sym, ap, ◌∙◌, true, false}
 use Rattle.expression_lang.specs.CodeExpression.{exp_of}
 use Rattle.ac_expr.specs.SameExp.{same_exp}
 use Rattle.rule_word.specs.Bases.{some_gives}

@@ -1,4 +1,4 @@
-use Rattle.std.proofs.Common.{◌≡◌, ◌∙◌}
+use Rattle.std.proofs.Common.{◌∙◌}
 use Rattle.expression_lang.specs.CodeExpression.{path_of}
 use Rattle.ac_expr.specs.SameExp.{same_exp}
 use Rattle.rule_word.specs.Scopes.{words}
