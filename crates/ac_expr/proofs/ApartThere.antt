@@ -1,7 +1,8 @@
 -- Where two lists of expressions differ in one place alone, the step is there; and an expression is one step apart from itself
 -- exactly where a constant is in it.
 use Rattle.std.proofs.Common.{◌≡◌, ◌≢◌, ◌↔◌, ◌<◌, ◌+◌, ℕ, zero, suc, Bool, true, false, not, ◌||◌, List, [], ◌∷◌, ◌++◌, Some, ◌⊎◌, inl, inr, refl, sym, ap, ap₂, ◌∙◌, subst, ℤ, arith}
-use Rattle.std.proofs.lemmas.Bool.{true≢false}
+use Rattle.std.proofs.lemmas.Bool.{true≢false, or_cases, or_left, or_right}
+use Rattle.std.proofs.Math.Bool.{or-false}
 use Rattle.c_values.specs.Word.{Word}
 use Rattle.c_values.specs.Value.{Value, Bits, Number, Truth, Parts}
 use Rattle.expression_lang.specs.Expression.{Exp, Var, WordLit, NumberLit, TruthLit, WordBinary, WordShift, WordUnary, WordCompare, Cast, ToNat, ToInt, ToWord, Arith, Negate, Lt, Le, Between, Eq, And, Or, Imp, Not, If, Padd, At, Load, Read, Tagged, PtrOk, Global, Sel, Upd, Path, Here, IntoField, IntoElement}
@@ -131,25 +132,9 @@ rest_among a as' ones ls h k x i = k x (subst (λ es. IsAmong x es) (sym h) (inr
 
 -- parts of a head
 
-either : (a b : Bool) → (a || b) ≡ true → (a ≡ true) ⊎ (b ≡ true)
-either true b h = inl refl
-either false b h = inr h
-
-or_left : (a b : Bool) → a ≡ true → (a || b) ≡ true
-or_left true b h = refl
-or_left false b h = absurd (true≢false (sym h))
-
-or_right : (a b : Bool) → b ≡ true → (a || b) ≡ true
-or_right true b h = refl
-or_right false b h = h
-
 abbrev pub some_has : (Exp → Bool) → List Exp → Bool
 some_has test [] = false
 some_has test (e ∷ es) = has test e || some_has test es
-
-or_none : (x : Bool) → (x || false) ≡ x
-or_none true = refl
-or_none false = refl
 
 or_three : (x a b : Bool) → (x || (a || b)) ≡ ((x || a) || b)
 or_three true a b = refl
@@ -161,15 +146,15 @@ path_some test (IntoField k path) = path_some test path
 path_some test (IntoElement e path) = ap (λ b. has test e || b) (path_some test path)
 
 path_and : (test : Exp → Bool) (path : Path) (v : Exp) → some_has test (path_children path ++ (v ∷ [])) ≡ (path_has test path || has test v)
-path_and test Here v = or_none (has test v)
+path_and test Here v = or-false (has test v)
 path_and test (IntoField k path) v = path_and test path v
 path_and test (IntoElement e path) v = ap (λ b. has test e || b) (path_and test path v) ∙ or_three (has test e) (path_has test path) (has test v)
 
 or_one : (x a : Bool) → (x || a) ≡ (x || (a || false))
-or_one x a = ap (λ b. x || b) (sym (or_none a))
+or_one x a = ap (λ b. x || b) (sym (or-false a))
 
 or_two : (x a b : Bool) → ((x || a) || b) ≡ (x || (a || (b || false)))
-or_two x a b = sym (or_three x a b) ∙ ap (λ c. x || (a || c)) (sym (or_none b))
+or_two x a b = sym (or_three x a b) ∙ ap (λ c. x || (a || c)) (sym (or-false b))
 
 or_more : (x c a b : Bool) → (((x || c) || a) || b) ≡ (x || (c || (a || (b || false))))
 or_more x c a b = ap (λ y. (y || a) || b) refl ∙ or_two (x || c) a b ∙ sym (or_three x c (a || (b || false)))
@@ -182,10 +167,10 @@ or_update x a p v q h = sym (or_three (x || a) p v) ∙ sym (or_three x a (p || 
 
 -- it passes, or a child does
 pub child_has : (test : Exp → Bool) (e : Exp) → has test e ≡ (test e || some_has test (children e))
-child_has test (Var x) = sym (or_none (test (Var x)))
-child_has test (WordLit w) = sym (or_none (test (WordLit w)))
-child_has test (NumberLit n) = sym (or_none (test (NumberLit n)))
-child_has test (TruthLit b) = sym (or_none (test (TruthLit b)))
+child_has test (Var x) = sym (or-false (test (Var x)))
+child_has test (WordLit w) = sym (or-false (test (WordLit w)))
+child_has test (NumberLit n) = sym (or-false (test (NumberLit n)))
+child_has test (TruthLit b) = sym (or-false (test (TruthLit b)))
 child_has test (WordUnary op a) = or_one (test (WordUnary op a)) (has test a)
 child_has test (Cast op width a) = or_one (test (Cast op width a)) (has test a)
 child_has test (ToNat a) = or_one (test (ToNat a)) (has test a)
@@ -332,7 +317,7 @@ module _ (g : Scope) where
   some_below m each fss [] h k i = absurd (true≢false (sym i))
   some_below m each [] (e ∷ es) h k i = absurd k
   some_below m each (fs ∷ fss) (e ∷ es) h k i =
-      elim (either (has is_literal e) (some_has is_literal es) i) [
+      elim (or_cases (has is_literal e) (some_has is_literal es) i) [
         | inl j ↦ this (each e h.0 fs j)
         | inr j ↦ later (some_below m each fss es h.1 k j)
       ]
@@ -340,7 +325,7 @@ module _ (g : Scope) where
   itself_below : (n : ℕ) (e : Exp) → size e < n → (fs : List Fact) → has is_literal e ≡ true → OneStepApart g fs e e
   itself_below zero e lt fs h = absurd (omega arith)
   itself_below (suc n) e lt fs h =
-      elim (either (is_literal e) (some_has is_literal (children e)) (sym (child_has is_literal e) ∙ h)) [
+      elim (or_cases (is_literal e) (some_has is_literal (children e)) (sym (child_has is_literal e) ∙ h)) [
         | inl k ↦ shorter (literal_step fs e k)
         | inr k ↦ inside refl (some_below (size e) (λ x below gs i. itself_below n x (omega arith) gs i) (child_facts fs e) (children e) (all_smaller e) (as_many fs e) k)
       ]

@@ -1,6 +1,6 @@
 -- Facts that are kept, and facts that last, each said of the other.
 use Rattle.std.proofs.Common.{◌≡◌, ◌↔◌, ◌⊎◌, inl, inr, ℕ, zero, suc, Bool, true, false, not, ◌&&◌, List, [], ◌∷◌, Option, Some, None, if◌then◌else◌, refl, sym, ◌∙◌}
-use Rattle.std.proofs.lemmas.Bool.{false≢true}
+use Rattle.std.proofs.lemmas.Bool.{false≢true, and_parts, and_from}
 use Rattle.c_values.specs.Name.{Name}
 use Rattle.expression_lang.specs.Expression.{Exp}
 use Rattle.expression_lang.specs.Mentions.{names, reads}
@@ -10,14 +10,6 @@ use Rattle.ac_expr.specs.Passed.{Part, without_names, with_guard, where_unchange
 use Rattle.ac_expr.specs.Lasting.{is_unnamed, lasts_part, lasts_passed}
 use Rattle.ac_expr.specs.Guarded.{GuardHas, Kept, SomeGuard, Lasting}
 use Rattle.ac_expr.specs.Known.{SomeFact}
-
-pub both_are : (a b : Bool) → (a && b) ≡ true → (a ≡ true) × (b ≡ true)
-both_are true b h = (refl, h)
-both_are false b h = absurd (false≢true h)
-
-pub both_hold : (a b : Bool) → a ≡ true → b ≡ true → (a && b) ≡ true
-both_hold true b h k = k
-both_hold false b h k = h
 
 pub some_with : (P Q : Exp → Type 0) (fs : List Fact) → ((e : Exp) → P e → Q e) → SomeFact P fs → SomeFact Q fs
 some_with P Q [] go h = h
@@ -58,12 +50,12 @@ unnamed P (x ∷ xs) fs h =
     (kept (Unnamed xs P) (λ e. not (names x e)) fs (some_with (Unnamed (x ∷ xs) P) (Passing (λ e. not (names x e)) (Unnamed xs P)) fs (λ e k. both e k) h))
   where
     both : (e : Exp) → Unnamed (x ∷ xs) P e → Passing (λ e. not (names x e)) (Unnamed xs P) e
-    both e k = let two : (not (names x e) ≡ true) × (is_unnamed xs e ≡ true) = both_are (not (names x e)) (is_unnamed xs e) k.0 in (two.0, (two.1, k.1))
+    both e k = let two : (not (names x e) ≡ true) × (is_unnamed xs e ≡ true) = and_parts (not (names x e)) (is_unnamed xs e) k.0 in (two.0, (two.1, k.1))
 
 pub unnamed_back : (P : Exp → Type 0) (xs : List Name) (fs : List Fact) → SomeFact P (without_names xs fs) → SomeFact (Unnamed xs P) fs
 unnamed_back P [] fs h = some_with P (Unnamed [] P) fs (λ e k. (refl, k)) h
 unnamed_back P (x ∷ xs) fs h =
-    some_with (Passing (λ e. not (names x e)) (Unnamed xs P)) (Unnamed (x ∷ xs) P) fs (λ e k. (both_hold (not (names x e)) (is_unnamed xs e) k.0 k.1.0, k.1.1))
+    some_with (Passing (λ e. not (names x e)) (Unnamed xs P)) (Unnamed (x ∷ xs) P) fs (λ e k. (and_from (not (names x e)) (is_unnamed xs e) k.0 k.1.0, k.1.1))
     (kept_back (Unnamed xs P) (λ e. not (names x e)) fs (unnamed_back P xs (without_name x fs) h))
 
 -- of changes of the state
@@ -128,12 +120,12 @@ Through P n ps fs = SomeGuard P n ps ⊎ SomeFact (Passing (lasts_passed n ps) P
 
 parts_of : (P : Exp → Type 0) (n : ℕ) (p : Part) (ps : List Part) (e : Exp) → Passing (lasts_passed (suc n) (p ∷ ps)) P e → Unchanged p.changes (Unnamed p.names (Passing (lasts_passed n ps) P)) e
 parts_of P n p ps e k =
-    let first : (lasts_part p e ≡ true) × (lasts_passed n ps e ≡ true) = both_are (lasts_part p e) (lasts_passed n ps e) k.0 in
-    let two : (is_unnamed p.names e ≡ true) × (not (reads e && p.changes) ≡ true) = both_are (is_unnamed p.names e) (not (reads e && p.changes)) first.0 in (two.1, (two.0, (first.1, k.1)))
+    let first : (lasts_part p e ≡ true) × (lasts_passed n ps e ≡ true) = and_parts (lasts_part p e) (lasts_passed n ps e) k.0 in
+    let two : (is_unnamed p.names e ≡ true) × (not (reads e && p.changes) ≡ true) = and_parts (is_unnamed p.names e) (not (reads e && p.changes)) first.0 in (two.1, (two.0, (first.1, k.1)))
 
 whole_of : (P : Exp → Type 0) (n : ℕ) (p : Part) (ps : List Part) (e : Exp) → Unchanged p.changes (Unnamed p.names (Passing (lasts_passed n ps) P)) e → Passing (lasts_passed (suc n) (p ∷ ps)) P e
 whole_of P n p ps e k =
-    (both_hold (lasts_part p e) (lasts_passed n ps e) (both_hold (is_unnamed p.names e) (not (reads e && p.changes)) k.1.0 k.0) k.1.1.0, k.1.1.1)
+    (and_from (lasts_part p e) (lasts_passed n ps e) (and_from (is_unnamed p.names e) (not (reads e && p.changes)) k.1.0 k.0) k.1.1.0, k.1.1.1)
 
 through : (P : Exp → Type 0) (n : ℕ) (ps : List Part) (fs : List Fact) → Through P n ps fs → SomeFact P (passed n ps fs)
 through P zero ps fs (inl h) = absurd h
@@ -164,10 +156,10 @@ turned : (P : Exp → Type 0) (t q : Exp → Bool) (fs : List Fact) → SomeFact
 turned P t q fs h = some_with (Lasting P (λ e. t e && q e)) (Passing t (Lasting P q)) fs (λ e k. both e k) h
   where
     both : (e : Exp) → Lasting P (λ e. t e && q e) e → Passing t (Lasting P q) e
-    both e k = let two : (t e ≡ true) × (q e ≡ true) = both_are (t e) (q e) k.1 in (two.0, (k.0, two.1))
+    both e k = let two : (t e ≡ true) × (q e ≡ true) = and_parts (t e) (q e) k.1 in (two.0, (k.0, two.1))
 
 turned_back : (P : Exp → Type 0) (t q : Exp → Bool) (fs : List Fact) → SomeFact (Passing t (Lasting P q)) fs → SomeFact (Lasting P (λ e. t e && q e)) fs
-turned_back P t q fs h = some_with (Passing t (Lasting P q)) (Lasting P (λ e. t e && q e)) fs (λ e k. (k.1.0, both_hold (t e) (q e) k.0 k.1.1)) h
+turned_back P t q fs h = some_with (Passing t (Lasting P q)) (Lasting P (λ e. t e && q e)) fs (λ e k. (k.1.0, and_from (t e) (q e) k.0 k.1.1)) h
 
 pub past_name : (P : Exp → Type 0) (q : Exp → Bool) (x : Name) (fs : List Fact) → SomeFact (Lasting P (λ e. not (names x e) && q e)) fs ↔ SomeFact (Lasting P q) (without_name x fs)
 past_name P q x fs = (

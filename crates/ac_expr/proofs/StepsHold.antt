@@ -3,6 +3,7 @@ use Rattle.std.proofs.Common.{◌≡◌, ℕ, ◌≤◌, ◌==◌, Bool, true, f
 use Rattle.std.proofs.Math.IntN.{+ℤ_idr}
 use Rattle.std.proofs.lemmas.Bool.{and_parts, and_from, true≢false}
 use Rattle.std.proofs.lemmas.Bool.Decides.{Decides-int_eq, Decides-eqb}
+use Rattle.std.proofs.Math.Bool.{not-not, and-true, and-false}
 use Rattle.c_values.specs.Name.{Name}
 use Rattle.c_values.specs.Width.{IsWidth}
 use Rattle.c_values.specs.Word.{Word, IsWord}
@@ -60,22 +61,10 @@ both_same : (b : Bool) (v : Value) → if_truth b v v ≡ v
 both_same true v = refl
 both_same false v = refl
 
-not_not : (b : Bool) → not (not b) ≡ b
-not_not true = refl
-not_not false = refl
-
-and_true : (b : Bool) → (b && true) ≡ b
-and_true true = refl
-and_true false = refl
-
-and_false : (b : Bool) → (b && false) ≡ false
-and_false true = refl
-and_false false = refl
-
 -- 1 is not 0, and 0 is
 flag_shown : (u v w : Word) → IsFlag u v w → (b : Bool) → not (same_value (if_truth b (Bits u) (Bits v)) (Bits w)) ≡ b
 flag_shown u v w h true =
-    ap not (ap (λ x. same_value (Bits x) (Bits w)) h.one ∙ ap (λ n. (w.width == w.width) && (1 == n)) h.bits ∙ and_false (w.width == w.width))
+    ap not (ap (λ x. same_value (Bits x) (Bits w)) h.one ∙ ap (λ n. (w.width == w.width) && (1 == n)) h.bits ∙ and-false (w.width == w.width))
 flag_shown u v w h false = ap not (ap (λ x. same_value (Bits x) (Bits w)) h.zero ∙ same_itself (Bits w))
 
 one_at_least : (n : ℕ) → IsWidth n → 1 ≤ n
@@ -129,7 +118,7 @@ module _ (l : Layout) (laid : IsLayout l) (vs : List GlobalVar) (env : Env) (s :
 
     and_holds : (a b e : Exp) (o : Sort) → sort_of (scope other) (And a b) ≡ Some o → Shortens (scope names) fs (And a b) e → at (And a b) ≡ at e
     and_holds a b e o h (inl k) = ap (λ x. at (And x b)) k.0 ∙ (parted a b o h).1 ∙ ap at (sym k.1)
-    and_holds a b e o h (inr (inl k)) = ap (λ x. at (And a x)) k.0 ∙ ap (λ b. Truth b) (and_true (truth_in (at a))) ∙ (parted a b o h).0 ∙ ap at (sym k.1)
+    and_holds a b e o h (inr (inl k)) = ap (λ x. at (And a x)) k.0 ∙ ap (λ b. Truth b) (and-true (truth_in (at a))) ∙ (parted a b o h).0 ∙ ap at (sym k.1)
     and_holds a b e o h (inr (inr k)) = ap (λ x. at (And x b)) k.0 ∙ ap at (sym k.1)
 
     or_holds : (a b e : Exp) (o : Sort) → sort_of (scope other) (Or a b) ≡ Some o → Shortens (scope names) fs (Or a b) e → at (Or a b) ≡ at e
@@ -197,7 +186,7 @@ module _ (l : Layout) (laid : IsLayout l) (vs : List GlobalVar) (env : Env) (s :
 
     pub shortens_holds : (a e : Exp) (o : Sort) → sort_of (scope other) a ≡ Some o → Shortens (scope names) fs a e → at a ≡ at e
     shortens_holds (Not (Not a)) e o h k =
-        ap (λ b. Truth b) (not_not (truth_in (at a))) ∙ truth a (not_inside a (Of TruthSort) (truth_inv (sort_of (scope other) (Not a)) (not_inside (Not a) o h))) ∙ ap at (sym k)
+        ap (λ b. Truth b) (not-not (truth_in (at a))) ∙ truth a (not_inside a (Of TruthSort) (truth_inv (sort_of (scope other) (Not a)) (not_inside (Not a) o h))) ∙ ap at (sym k)
     shortens_holds (And a b) e o h k = and_holds a b e o h k
     shortens_holds (Or a b) e o h k = or_holds a b e o h k
     shortens_holds (Imp a b) e o h k = imp_holds a b e o h k

@@ -15,10 +15,6 @@ use Rattle.ac_sx.specs.CodeBuilder.{Building, placed, left, left_to, flushed}
 use Rattle.ac_sx.specs.CodeTermReader.{Open, numbers, with_part, building_in, are_open_below, Stands}
 use Rattle.ac_sx.proofs.Tabled.{length-trees_of, trees_of-kept, trees_at-kept}
 
-pub on_ok : {T E P Q : Type 0} (r : Result T E) → (P → Q) → OnOk r P → OnOk r Q
-on_ok (Ok x) f p = f p
-on_ok (Err e) f p = tt
-
 pub keeps_length : (old new : List Entry) → Keeps old new → length old ≤ length new
 keeps_length old new (rest, same) = let n = ap length same in let m = length-append old rest in omega (arith, n, m)
 

@@ -1,6 +1,6 @@
 -- The choices of expressions keep what the stack means.
 use Rattle.std.proofs.Common.{ℕ, ◌≡◌, Bool, true, false, ◌&&◌, ◌==◌, List, [], ◌∷◌, Option, Some, None, suc, nat_le, refl, sym, subst, arith}
-use Rattle.std.proofs.lemmas.Bool.{leb-true, le-leb, eqb-true}
+use Rattle.std.proofs.lemmas.Bool.{leb-true, le-leb, eqb-true, and_parts}
 use Rattle.c_lex.specs.declared.token.Keyword.{Keyword}
 use Rattle.c_lex.specs.declared.token.Keyword.TheVariants as word
 use Rattle.c_lex.specs.declared.token.Punct.{Punct}
@@ -152,11 +152,6 @@ called {ns = ns} {b = b} {es = es} {v = v} a z (is_name {n = n} {a = a0} {z = z0
 fifteen : (r : ℕ) → (r == 15) ≡ true → nat_le 15 r ≡ true
 fifteen r h = let e = eqb-true r 15 h in le-leb 15 r (omega arith)
 
-both : (c d : Bool) → (c && d) ≡ true → (c ≡ true) × (d ≡ true)
-both true true h = (refl, refl)
-both true false h = false≢true h
-both false d h = false≢true h
-
 level_next : (op : BinaryOperator) → nat_le (suc (level op)) 12 ≡ true
 level_next binary.Multiply = refl
 level_next _ = refl
@@ -216,13 +211,13 @@ binary_row : {ns next ns2 next2 : List Name} {s u : List Lexeme} (b : Bool) (w :
 binary_row b w r op a z h j (cons (plain g) (cons (plain same) (cons (plain tail) nil))) = plain (λ l i e v f. let p = g (level_next op) in tail l h (tree.Binary op e p.0) v (spells.binary (loosen (level op) r j f) p.1))
 
 pub binary_sound : (ns next : List Name) (b : Bool) (w : Wanted) (r : ℕ) (op : BinaryOperator) (a z : ℕ) → Sound ns next (symbol.Tail b w r) (mark (binary_sign op) a z) (choice.binary_choice b w r op (punct (binary_sign op)))
-binary_sound ns next b w r op a z = if_sound ns next (symbol.Tail b w r) (mark (binary_sign op) a z) (nat_le (least w) (level op) && nat_le (level op) r) (take (expression b (suc (level op)) ∷ symbol.End (ends.Binary op) ∷ symbol.Tail b w (level op) ∷ [])) (choice.tail_end b w r (punct (binary_sign op))) (λ h s u ns2 next2 all. let p = both (nat_le (least w) (level op)) (nat_le (level op) r) h in binary_row b w r op a z p.0 p.1 all) (λ h. tail_end_sound ns next b w r (punct (binary_sign op)) a z)
+binary_sound ns next b w r op a z = if_sound ns next (symbol.Tail b w r) (mark (binary_sign op) a z) (nat_le (least w) (level op) && nat_le (level op) r) (take (expression b (suc (level op)) ∷ symbol.End (ends.Binary op) ∷ symbol.Tail b w (level op) ∷ [])) (choice.tail_end b w r (punct (binary_sign op))) (λ h s u ns2 next2 all. let p = and_parts (nat_le (least w) (level op)) (nat_le (level op) r) h in binary_row b w r op a z p.0 p.1 all) (λ h. tail_end_sound ns next b w r (punct (binary_sign op)) a z)
 
 pub tail_sound : (ns next : List Name) (b : Bool) (w : Wanted) (r : ℕ) (k : Kind) (a z : ℕ) → Sound ns next (symbol.Tail b w r) (token k a z) (choice.tail b w r k)
 tail_sound ns next b w r (punct sign.LeftBracket) a z = if_sound ns next (symbol.Tail b w r) (mark sign.LeftBracket a z) (nat_le 13 r) (take (expression b 0 ∷ symbol.RightBracket ∷ symbol.End ends.Index ∷ symbol.Tail b w 13 ∷ [])) (choice.tail_end b w r (punct sign.LeftBracket)) (λ h s u ns2 next2 all. index_row b w r a z h all) (λ h. tail_end_sound ns next b w r (punct sign.LeftBracket) a z)
 tail_sound ns next b w r (punct sign.Dot) a z = if_sound ns next (symbol.Tail b w r) (mark sign.Dot a z) (nat_le 13 r) (take (symbol.Identifier ∷ symbol.End ends.Member ∷ symbol.Tail b w 13 ∷ [])) (choice.tail_end b w r (punct sign.Dot)) (λ h s u ns2 next2 all. member_row b w r a z h all) (λ h. tail_end_sound ns next b w r (punct sign.Dot) a z)
 tail_sound ns next b w r (punct sign.Arrow) a z = if_sound ns next (symbol.Tail b w r) (mark sign.Arrow a z) (nat_le 13 r) (take (symbol.Identifier ∷ symbol.End ends.PointerMember ∷ symbol.Tail b w 13 ∷ [])) (choice.tail_end b w r (punct sign.Arrow)) (λ h s u ns2 next2 all. arrow_row b w r a z h all) (λ h. tail_end_sound ns next b w r (punct sign.Arrow) a z)
-tail_sound ns next b w r (punct sign.Question) a z = if_sound ns next (symbol.Tail b w r) (mark sign.Question a z) (nat_le (least w) 0 && nat_le 1 r) (take (expression b 0 ∷ symbol.Colon ∷ expression b 0 ∷ symbol.End ends.Conditional ∷ symbol.Tail b w 0 ∷ [])) (choice.tail_end b w r (punct sign.Question)) (λ h s u ns2 next2 all. let p = both (nat_le (least w) 0) (nat_le 1 r) h in question_row b w r a z p.0 p.1 all) (λ h. tail_end_sound ns next b w r (punct sign.Question) a z)
+tail_sound ns next b w r (punct sign.Question) a z = if_sound ns next (symbol.Tail b w r) (mark sign.Question a z) (nat_le (least w) 0 && nat_le 1 r) (take (expression b 0 ∷ symbol.Colon ∷ expression b 0 ∷ symbol.End ends.Conditional ∷ symbol.Tail b w 0 ∷ [])) (choice.tail_end b w r (punct sign.Question)) (λ h s u ns2 next2 all. let p = and_parts (nat_le (least w) 0) (nat_le 1 r) h in question_row b w r a z p.0 p.1 all) (λ h. tail_end_sound ns next b w r (punct sign.Question) a z)
 tail_sound ns next b w r (punct sign.Star) a z = binary_sound ns next b w r binary.Multiply a z
 tail_sound ns next b w r (punct sign.Slash) a z = binary_sound ns next b w r binary.Divide a z
 tail_sound ns next b w r (punct sign.Percent) a z = binary_sound ns next b w r binary.Remainder a z

@@ -1,7 +1,7 @@
 -- The functions that marks spread to are those that work on bytes.
 use Rattle.std.proofs.Common.{◌≡◌, ℕ, zero, suc, ◌+◌, ◌<◌, ◌≤◌, Bool, true, false, List, [], ◌∷◌, length, get_or, map, Some, ◌⊎◌, inl, inr, sym, ap, ◌∙◌, subst, arith, ltb}
 use Rattle.std.specs.List.{list_all}
-use Rattle.std.proofs.lemmas.Bool.{and_parts, or_cases, or_left, or_right, cases_lt, true≢false, cond-true, cond-false}
+use Rattle.std.proofs.lemmas.Bool.{and_parts, or_cases, or_left, or_right, cases_lt, true≢false, cond-true, cond-false, lt-ltb}
 use Rattle.std.proofs.lemmas.List.{length-map}
 use Rattle.c_values.specs.Name.{Name, same_name, is_among}
 use Rattle.c_values.proofs.Laid.{name_is}
@@ -19,13 +19,10 @@ leads_in u = leads_by (function_names u) (plain_callers (calls_from 0 u.function
 abbrev pub starts : TypedUnit → List Name → List Bool
 starts u chosen = map (is_start (λ x. is_among x chosen)) u.functions
 
-is_less : (k n : ℕ) → k < n → ltb k n ≡ true
-is_less k n lt = grind arith
-
 led : (u : TypedUnit) (k : ℕ) (f : TypedFn) → IsAt u.functions k f → leads_in u k ≡ plain_callers (calls_from 0 u.functions) f.name
 led u k f a =
     let lt : k < length (function_names u) = let b = below u.functions k f a in simp length-map (omega arith) in
-    cond-true (ltb k (length (function_names u))) (plain_callers (calls_from 0 u.functions) (get_or (function_names u) k [])) [] (is_less k (length (function_names u)) lt)
+    cond-true (ltb k (length (function_names u))) (plain_callers (calls_from 0 u.functions) (get_or (function_names u) k [])) [] (lt-ltb k (length (function_names u)) lt)
     ∙ ap (plain_callers (calls_from 0 u.functions)) (made_at (λ h. h.name) [] u.functions k f a)
 
 leads_below : (u : TypedUnit) (k i : ℕ) → Among i (leads_in u k) → k < length u.functions

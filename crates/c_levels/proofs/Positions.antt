@@ -1,7 +1,7 @@
 -- Functions by position and by name, and who calls them.
 use Rattle.std.proofs.Common.{◌≡◌, ℕ, zero, suc, ◌+◌, ◌<◌, Bool, true, false, cond, not, ◌||◌, List, [], ◌∷◌, ◌++◌, length, get_or, map, Some, ◌⊎◌, inl, inr, refl, sym, ap, ◌∙◌, subst, arith}
 use Rattle.std.specs.List.{filter}
-use Rattle.std.proofs.lemmas.Bool.{and_parts, true≢false, cond-true, cond-false}
+use Rattle.std.proofs.lemmas.Bool.{and_parts, true≢false, cond-true, cond-false, not-true}
 use Rattle.c_values.specs.Name.{Name, same_name, is_among, are_distinct}
 use Rattle.c_values.proofs.Laid.{same_name-refl, name_is}
 use Rattle.c_lang.specs.Typed.{TypedFn, typed_fn}
@@ -47,10 +47,6 @@ among_names x (g ∷ gs) (suc k) f a e = among_names x gs k f a (second (same_na
     second true c h = absurd (true≢false h)
     second false c h = h
 
-negated : (b : Bool) → not b ≡ true → b ≡ false
-negated true h = absurd (true≢false (sym h))
-negated false h = refl
-
 -- where names are distinct, a function is found by its name
 pub found : (fs : List TypedFn) (k : ℕ) (f : TypedFn) → are_distinct (names fs) ≡ true → IsAt fs k f → typed_fn fs f.name ≡ Some f
 found [] k f d a = absurd a
@@ -59,7 +55,7 @@ found (g ∷ gs) zero f d a =
     (cond-true (same_name g.name g.name) (Some g) (typed_fn gs g.name) (same_name-refl g.name))
 found (g ∷ gs) (suc k) f d a =
     let p = and_parts (not (is_among g.name (names gs))) (are_distinct (names gs)) d in
-    cond-false (same_name g.name f.name) (Some g) (typed_fn gs f.name) (among_names g.name gs k f a (negated (is_among g.name (names gs)) p.0))
+    cond-false (same_name g.name f.name) (Some g) (typed_fn gs f.name) (among_names g.name gs k f a (not-true (is_among g.name (names gs)) p.0))
     ∙ found gs k f p.1 a
 
 -- what is found by a name stands at a position

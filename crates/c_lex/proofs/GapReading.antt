@@ -1,7 +1,7 @@
 -- What may stand between tokens is read there, and what is read there may.
 use Rattle.std.proofs.Common.{◌≡◌, ℕ, suc, ◌+◌, Bool, true, false, ◌&&◌, ◌||◌, eqb, List, [], ◌∷◌, length, get_or, drop, Option, Some, None, refl, sym, subst}
 use Rattle.std.specs.List.{take_while}
-use Rattle.std.proofs.lemmas.Bool.{and_parts}
+use Rattle.std.proofs.lemmas.Bool.{and_parts, eqb-true}
 use Rattle.c_lex.specs.Bytes.{line_feed, hash, is_blank, is_white, is_word, is_numeral}
 use Rattle.c_lex.specs.Keyword.{keyword_of}
 use Rattle.c_lex.specs.Unsupported.{unsupported_of}
@@ -12,7 +12,6 @@ use Rattle.c_lex.specs.Gap.{star, slash, line_length, comment_length, is_line_ma
 use Rattle.c_lex.specs.Lexeme.{name, punct, character}
 use Rattle.c_lex.specs.Front.{Front, ends, gap, holds, lacks, Cause, bad_byte, word_front, number_front, character_front, comment_front, mark_front, front}
 use Rattle.c_lex.proofs.Cases.{Holds, Each, cond_holds, option_holds, always, weaker}
-use Rattle.c_lex.proofs.TokenSpelling.{is_byte}
 use Rattle.c_lex.proofs.TokenReading.{no_zero}
 
 comment_front_is : (text : List ℕ) (n : ℕ) → comment_length text ≡ Some n → comment_front text ≡ gap (2 + n) false
@@ -68,8 +67,8 @@ line_gapped : (fresh : Bool) (text : List ℕ) → (eqb (get_or text 0 0) slash 
 line_gapped fresh [] e = absurd (cc)
 line_gapped fresh (a ∷ []) e = let no : eqb 0 slash ≡ true = (and_parts _ _ e).1 in absurd (cc)
 line_gapped fresh (a ∷ b ∷ bs) e =
-    let one : slash ≡ a = sym (is_byte a slash (and_parts _ _ e).0) in
-    let two : slash ≡ b = sym (is_byte b slash (and_parts _ _ e).1) in
+    let one : slash ≡ a = sym (eqb-true a slash (and_parts _ _ e).0) in
+    let two : slash ≡ b = sym (eqb-true b slash (and_parts _ _ e).1) in
     subst (λ a. Holds (Gapped fresh (a ∷ b ∷ bs)) (gap (line_length (a ∷ b ∷ bs)) false)) one
     (subst (λ b. Holds (Gapped fresh (slash ∷ b ∷ bs)) (gap (line_length (slash ∷ b ∷ bs)) false)) two (record { holds = line_comment }))
 
@@ -85,8 +84,8 @@ comment_gapped : (fresh : Bool) (text : List ℕ) → (eqb (get_or text 0 0) sla
 comment_gapped fresh [] e = absurd (cc)
 comment_gapped fresh (a ∷ []) e = let no : eqb 0 star ≡ true = (and_parts _ _ e).1 in absurd (cc)
 comment_gapped fresh (a ∷ b ∷ bs) e =
-    let one : slash ≡ a = sym (is_byte a slash (and_parts _ _ e).0) in
-    let two : star ≡ b = sym (is_byte b star (and_parts _ _ e).1) in
+    let one : slash ≡ a = sym (eqb-true a slash (and_parts _ _ e).0) in
+    let two : star ≡ b = sym (eqb-true b star (and_parts _ _ e).1) in
     subst (λ a. Holds (Gapped fresh (a ∷ b ∷ bs)) (comment_front bs)) one (subst (λ b. Holds (Gapped fresh (slash ∷ b ∷ bs)) (comment_front bs)) two (comment_front_gapped fresh bs))
 
 three_parts : (x y z : Bool) → (x && y && z) ≡ true → (x ≡ true) × (y ≡ true) × (z ≡ true)
@@ -97,7 +96,7 @@ mark_gapped fresh [] e = let no : false ≡ true = (three_parts false fresh (is_
 mark_gapped false (a ∷ bs) e = let no : false ≡ true = (three_parts (eqb a hash) false (is_line_mark bs) e).1 in absurd (cc)
 mark_gapped true (a ∷ bs) e =
     let parts = three_parts (eqb a hash) true (is_line_mark bs) e in
-    subst (λ a. Holds (Gapped true (a ∷ bs)) (gap (line_length (a ∷ bs)) false)) (sym (is_byte a hash parts.0)) (record { holds = line_mark parts.2 })
+    subst (λ a. Holds (Gapped true (a ∷ bs)) (gap (line_length (a ∷ bs)) false)) (sym (eqb-true a hash parts.0)) (record { holds = line_mark parts.2 })
 
 front_gapped : (fresh : Bool) (text : List ℕ) → Holds (Gapped fresh text) (front fresh text)
 unfolding front

@@ -5,7 +5,7 @@ use Rattle.std.specs.Option.{option_or}
 use Rattle.std.specs.List.{take_while, AllPass, list_all}
 use Rattle.std.specs.Char.{is_ascii_digit}
 use Rattle.std.proofs.lemmas.Bool.Decides.{nat_tests}
-use Rattle.std.proofs.lemmas.Bool.{and_parts}
+use Rattle.std.proofs.lemmas.Bool.{and_parts, false_from_ne_true, eqb-true}
 use Rattle.std.proofs.lemmas.List.Sums.{prefix_len_is, AllPass-from_list_all}
 use Rattle.std.proofs.lemmas.List.{get_or-take, length-take, length-take-le}
 use Rattle.std.proofs.str.Laws.{order}
@@ -23,7 +23,7 @@ use Rattle.c_lex.specs.Spelling.{punctuator, ellipsis, line_comment, comment, Is
 use Rattle.c_lex.proofs.Spelled.{keyword_of_is, keyword_of-text, unsupported_of_is, punct_of-text}
 use Rattle.c_lex.proofs.WordFront.{word_keyword, word_name}
 use Rattle.c_lex.proofs.FrontFits.{punct_of_fits, punct_positive}
-use Rattle.c_lex.proofs.TokenSpelling.{taken, is_byte}
+use Rattle.c_lex.proofs.TokenSpelling.{taken}
 use Rattle.c_lex.proofs.TokenLength.{punct_short}
 
 -- no class of bytes has a byte of another
@@ -285,11 +285,6 @@ three_bytes (x ∷ []) a b c e f g = absurd (cc)
 three_bytes (x ∷ y ∷ []) a b c e f g = absurd (cc)
 three_bytes (x ∷ y ∷ z ∷ zs) a b c e f g = λ i. e i ∷ f i ∷ g i ∷ []
 
--- a test that can't pass fails
-pub fails : (b : Bool) → (b ≡ true → ⊥) → b ≡ false
-fails true h = absurd (h refl)
-fails false h = refl
-
 module _ (text : List ℕ) (x : Punct) (n : ℕ) (e : take n text ≡ punct_text x) (within : n ≤ length text) (longest : IsLongest (punct x) n text) where
   size : length (punct_text x) ≡ n
   size = ap length (sym e) ∙ length-take-le n text within
@@ -301,29 +296,29 @@ module _ (text : List ℕ) (x : Punct) (n : ℕ) (e : take n text ≡ punct_text
   first = byte 0 (omega (arith, size, punct_positive x))
 
   no_line : (eqb (get_or text 0 0) slash && eqb (get_or text 1 0) slash) ≡ false
-  no_line = fails _ (λ h.
-      let a : get_or text 0 0 ≡ 47 = is_byte _ _ (and_parts _ _ h).0 in
-      let b : get_or text 1 0 ≡ 47 = is_byte _ _ (and_parts _ _ h).1 in
+  no_line = false_from_ne_true _ (λ h.
+      let a : get_or text 0 0 ≡ 47 = eqb-true _ _ (and_parts _ _ h).0 in
+      let b : get_or text 1 0 ≡ 47 = eqb-true _ _ (and_parts _ _ h).1 in
       let long : 2 ≤ n = longest (codes "//") line_comment (two_bytes text 46 46 a b) in
       let never = (no_opener x).0 in
       let same : (eqb (get_or (punct_text x) 0 0) slash && eqb (get_or (punct_text x) 1 0) slash) ≡ true = (λ i. eqb (sym first i) slash && eqb (sym (byte 1 (omega arith)) i) slash) ∙ h in
       absurd (cc (never, same)))
 
   no_comment : (eqb (get_or text 0 0) slash && eqb (get_or text 1 0) star) ≡ false
-  no_comment = fails _ (λ h.
-      let a : get_or text 0 0 ≡ 47 = is_byte _ _ (and_parts _ _ h).0 in
-      let b : get_or text 1 0 ≡ 42 = is_byte _ _ (and_parts _ _ h).1 in
+  no_comment = false_from_ne_true _ (λ h.
+      let a : get_or text 0 0 ≡ 47 = eqb-true _ _ (and_parts _ _ h).0 in
+      let b : get_or text 1 0 ≡ 42 = eqb-true _ _ (and_parts _ _ h).1 in
       let long : 2 ≤ n = longest (codes "/*") comment (two_bytes text 46 41 a b) in
       let never = (no_opener x).1 in
       let same : (eqb (get_or (punct_text x) 0 0) slash && eqb (get_or (punct_text x) 1 0) star) ≡ true = (λ i. eqb (sym first i) slash && eqb (sym (byte 1 (omega arith)) i) star) ∙ h in
       absurd (cc (never, same)))
 
   no_ellipsis : (eqb (get_or text 0 0) dot && eqb (get_or text 1 0) dot && eqb (get_or text 2 0) dot) ≡ false
-  no_ellipsis = fails _ (λ h.
+  no_ellipsis = false_from_ne_true _ (λ h.
       let ab = (and_parts _ _ h).0 in
-      let a : get_or text 0 0 ≡ 46 = is_byte _ _ (and_parts _ _ ab).0 in
-      let b : get_or text 1 0 ≡ 46 = is_byte _ _ (and_parts _ _ ab).1 in
-      let c : get_or text 2 0 ≡ 46 = is_byte _ _ (and_parts _ _ h).1 in
+      let a : get_or text 0 0 ≡ 46 = eqb-true _ _ (and_parts _ _ ab).0 in
+      let b : get_or text 1 0 ≡ 46 = eqb-true _ _ (and_parts _ _ ab).1 in
+      let c : get_or text 2 0 ≡ 46 = eqb-true _ _ (and_parts _ _ h).1 in
       let long : 3 ≤ n = longest (codes "...") ellipsis (three_bytes text 45 45 45 a b c) in
       let never = (no_opener x).2 in
       let same : (eqb (get_or (punct_text x) 0 0) dot && eqb (get_or (punct_text x) 1 0) dot && eqb (get_or (punct_text x) 2 0) dot) ≡ true = (λ i. eqb (sym first i) dot && eqb (sym (byte 1 (omega arith)) i) dot && eqb (sym (byte 2 (omega arith)) i) dot) ∙ h in

@@ -5,7 +5,7 @@ use Rattle.std.specs.List.{prefix_len, take_while, AllPass}
 use Rattle.std.specs.Char.{is_digit, digit_value}
 use Rattle.std.specs.Str.Parse.{IsNumeral, AllDigits, digits_value}
 use Rattle.std.proofs.lemmas.Bool.Decides.{nat_tests}
-use Rattle.std.proofs.lemmas.Bool.{and_parts}
+use Rattle.std.proofs.lemmas.Bool.{and_parts, ltb-true, eqb-true}
 use Rattle.std.proofs.lemmas.List.Sums.{prefix_len_passes, prefix_len-le-length}
 use Rattle.std.proofs.lemmas.List.Folds.{length-prefix_len}
 use Rattle.std.proofs.lemmas.List.{get_or-take, get_or-drop, length-take, take_more, take-append-drop}
@@ -122,11 +122,8 @@ record IsWritten (base : ℕ) (text : List ℕ) (kind : Kind) : Type 0 where
   typed : has_type lp64 (eqb base 10) unsigned longs (digits_value base digits) ≡ true
   kind_is : kind ≡ number (digits_value base digits) (eqb base 10) unsigned longs
 
-below : (m n : ℕ) → ltb m n ≡ true → m < n
-below m n e = grind (arith, nat_tests)
-
 digit_below : (base b : ℕ) → is_digit b base ≡ true → digit_value b < base
-digit_below base b e = below (digit_value b) base e
+digit_below base b e = ltb-true (digit_value b) base e
 
 all_digits : (base : ℕ) (text : List ℕ) (n : ℕ) → n ≤ prefix_len (λ b. is_digit b base) text → AllDigits base (take n text)
 all_digits base text zero h = tt
@@ -193,9 +190,6 @@ first_digit : (digits suffix text : List ℕ) → 0 < length digits → text ≡
 first_digit [] suffix text some e = absurd (omega arith)
 first_digit (d ∷ ds) suffix text some e = ap (λ t. get_or t 0 0) (sym e)
 
-pub is_byte : (m n : ℕ) → eqb m n ≡ true → m ≡ n
-is_byte m n e = grind (arith, nat_tests)
-
 pub is_no_byte : (m n : ℕ) → eqb m n ≡ false → m ≢ n
 is_no_byte m n e = grind (arith, nat_tests)
 
@@ -204,13 +198,13 @@ hexadecimal_says [] e = absurd (cc)
 hexadecimal_says (a ∷ []) e = let no : is_x 0 ≡ true = (and_parts _ _ e).1 in absurd (cc)
 hexadecimal_says (a ∷ x ∷ bs) e =
     weaker (λ kind. Spells kind (a ∷ x ∷ bs)) (written 16 bs)
-    (λ kind w. number_spelled 16 (48 ∷ x ∷ []) bs (a ∷ x ∷ bs) kind (ap (λ z. z ∷ x ∷ bs) (is_byte a 48 (and_parts _ _ e).0)) w (λ digits suffix some whole. is_hexadecimal (and_parts _ _ e).1))
+    (λ kind w. number_spelled 16 (48 ∷ x ∷ []) bs (a ∷ x ∷ bs) kind (ap (λ z. z ∷ x ∷ bs) (eqb-true a 48 (and_parts _ _ e).0)) w (λ digits suffix some whole. is_hexadecimal (and_parts _ _ e).1))
     (written_says 16 bs)
 
 octal_says : (text : List ℕ) → eqb (get_or text 0 0) 48 ≡ true → Each (written 8 text) (λ kind. Spells kind text)
 octal_says text e =
     weaker (λ kind. Spells kind text) (written 8 text)
-    (λ kind w. number_spelled 8 [] text text kind refl w (λ digits suffix some whole. is_octal (first_digit digits suffix text some whole ∙ is_byte _ _ e)))
+    (λ kind w. number_spelled 8 [] text text kind refl w (λ digits suffix some whole. is_octal (first_digit digits suffix text some whole ∙ eqb-true _ _ e)))
     (written_says 8 text)
 
 decimal_says : (text : List ℕ) → eqb (get_or text 0 0) 48 ≡ false → Each (written 10 text) (λ kind. Spells kind text)
@@ -261,7 +255,7 @@ closed_says text body rest value n at front is =
     each_cond {b = eqb (get_or rest 0 0) quote} {x = Some (value, n + 1)} {y = None}
     (λ e.
     let ends : eqb (get_or text n 0) quote ≡ true = ap (λ b. eqb b quote) (sym at) ∙ e in
-    record { given = (body, take_more text n 0 (inside text n 38 ends) ∙ (λ i. front i ++ is_byte _ _ ends i ∷ []), is) })
+    record { given = (body, take_more text n 0 (inside text n 38 ends) ∙ (λ i. front i ++ eqb-true _ _ ends i ∷ []), is) })
     (λ _. each_none)
 
 take_past : (p hs : List ℕ) (n : ℕ) → take (length p + n) (p ++ hs) ≡ p ++ take n hs
@@ -304,7 +298,7 @@ numeric_says base most before hs makes =
 hexadecimal_escape_says : (es : List ℕ) → eqb (get_or es 0 0) 120 ≡ true → Each (numeric_escape 16 2 3 (drop 1 es)) (Quoted (quote ∷ backslash ∷ es))
 hexadecimal_escape_says [] e = absurd (cc)
 hexadecimal_escape_says (x ∷ hs) e =
-    let is_x : 120 ≡ x = sym (is_byte x 120 e) in
+    let is_x : 120 ≡ x = sym (eqb-true x 120 e) in
     subst (λ x. Each (numeric_escape 16 2 3 hs) (Quoted (quote ∷ backslash ∷ x ∷ hs))) is_x
     (numeric_says 16 2 (backslash ∷ 120 ∷ []) hs (λ digits numeral few value. hexadecimal_escape numeral few))
 
@@ -327,7 +321,7 @@ escape_says es =
 
 backslash_says : (t : List ℕ) → eqb (get_or t 0 0) backslash ≡ true → Each (escape_of (drop 1 t)) (Quoted (quote ∷ t))
 backslash_says [] e = absurd (cc)
-backslash_says (b ∷ es) e = subst (λ b. Each (escape_of es) (Quoted (quote ∷ b ∷ es))) (sym (is_byte b backslash e)) (escape_says es)
+backslash_says (b ∷ es) e = subst (λ b. Each (escape_of es) (Quoted (quote ∷ b ∷ es))) (sym (eqb-true b backslash e)) (escape_says es)
 
 plain_says : (t : List ℕ) → is_plain (get_or t 0 0) ≡ true → Each (closed (get_or t 0 0) 2 (drop 1 t)) (Quoted (quote ∷ t))
 plain_says [] e = each_none
@@ -346,7 +340,7 @@ character_front_says t = option_holds {P = Told (quote ∷ t)} (λ (c : ℕ × �
 
 character_says : (text : List ℕ) → eqb (get_or text 0 0) quote ≡ true → Holds (Told text) (character_front (drop 1 text))
 character_says [] e = absurd (cc)
-character_says (b ∷ t) e = subst (λ b. Holds (Told (b ∷ t)) (character_front t)) (sym (is_byte b quote e)) (character_front_says t)
+character_says (b ∷ t) e = subst (λ b. Holds (Told (b ∷ t)) (character_front t)) (sym (eqb-true b quote e)) (character_front_says t)
 
 -- the whole front
 

@@ -4,7 +4,7 @@ use Rattle.std.specs.List.{prefix_len, take_while, list_all}
 use Rattle.std.specs.Char.{is_digit, digit_value, is_ascii_digit}
 use Rattle.std.specs.Str.Parse.{IsNumeral, AllDigits, digits_value}
 use Rattle.std.proofs.lemmas.Bool.Decides.{nat_tests}
-use Rattle.std.proofs.lemmas.Bool.{and_parts, and_from}
+use Rattle.std.proofs.lemmas.Bool.{and_parts, and_from, false_from_ne_true, eqb-true, lt-ltb, ltb-true, or_cases, le-ltb, eq-eqb}
 use Rattle.std.proofs.lemmas.Str.Parse.{digit_from_value}
 use Rattle.std.proofs.lemmas.List.Sums.{AllPass-from_list_all}
 use Rattle.std.proofs.lemmas.List.{get_or-take, length-take-le, length-append, take-append-drop}
@@ -15,18 +15,14 @@ use Rattle.c_lex.specs.Gap.{star, slash}
 use Rattle.c_lex.specs.Lexeme.{Kind, character, number}
 use Rattle.c_lex.specs.Front.{holds, number_front, character_front, front}
 use Rattle.c_lex.specs.Spelling.{IsBase, is_hexadecimal, is_octal, is_decimal, IsNumber, IsCharacter, plain, simple, octal_escape, hexadecimal_escape}
-use Rattle.c_lex.proofs.TokenSpelling.{is_byte}
-use Rattle.c_lex.proofs.TokenReading.{no_zero, begun, fails, run_is}
+use Rattle.c_lex.proofs.TokenReading.{no_zero, begun, run_is}
 
 -- digits, and what ends them
-
-above : (m n : ℕ) → m < n → ltb m n ≡ true
-above m n h = grind (arith, nat_tests)
 
 prefix_digits : (base : ℕ) (digits rest : List ℕ) → AllDigits base digits → prefix_len (λ b. is_digit b base) rest ≡ 0 → prefix_len (λ b. is_digit b base) (digits ++ rest) ≡ length digits
 prefix_digits base [] rest all ends = ends
 prefix_digits base (d ∷ ds) rest all ends =
-    ap (λ c. cond c (1 + prefix_len (λ b. is_digit b base) (ds ++ rest)) 0) (above _ _ all.0)
+    ap (λ c. cond c (1 + prefix_len (λ b. is_digit b base) (ds ++ rest)) 0) (lt-ltb _ _ all.0)
     ∙ (let next = prefix_digits base ds rest all.1 ends in omega arith)
 
 prefix_taken : (base most : ℕ) (digits rest : List ℕ) → AllDigits base digits → length digits ≤ most → is_digit quote base ≡ false → prefix_len (λ b. is_digit b base) (take most (digits ++ quote ∷ rest)) ≡ length digits
@@ -34,7 +30,7 @@ prefix_taken base zero [] rest all few ends = refl
 prefix_taken base (suc most) [] rest all few ends = ap (λ c. cond c (1 + prefix_len (λ b. is_digit b base) (take most rest)) 0) ends
 prefix_taken base zero (d ∷ ds) rest all few ends = absurd (omega arith)
 prefix_taken base (suc most) (d ∷ ds) rest all few ends =
-    ap (λ c. cond c (1 + prefix_len (λ b. is_digit b base) (take most (ds ++ quote ∷ rest))) 0) (above _ _ all.0)
+    ap (λ c. cond c (1 + prefix_len (λ b. is_digit b base) (take most (ds ++ quote ∷ rest))) 0) (lt-ltb _ _ all.0)
     ∙ (let next = prefix_taken base most ds rest all.1 (omega arith) ends in omega arith)
 
 take_front : (xs ys : List ℕ) → take (length xs) (xs ++ ys) ≡ xs
@@ -64,7 +60,7 @@ plain_no_backslash : (c : ℕ) → is_plain c ≡ true → eqb c backslash ≡ f
 plain_no_backslash c e = grind (arith, nat_tests)
 
 simple_no_x : (c v : ℕ) → simple_escape c ≡ Some v → eqb c 120 ≡ false
-simple_no_x c v h = fails _ (λ e. let none : simple_escape 120 ≡ Some v = ap simple_escape (sym (is_byte c 120 e)) ∙ h in absurd (cc))
+simple_no_x c v h = false_from_ne_true _ (λ e. let none : simple_escape 120 ≡ Some v = ap simple_escape (sym (eqb-true c 120 e)) ∙ h in absurd (cc))
 
 apart : (m n : ℕ) → (m < n) ⊎ (n < m) → eqb m n ≡ false
 apart m n (inl h) = grind (arith, nat_tests)
@@ -85,18 +81,15 @@ digit_no_escape c low high =
     let l = apart c 63 (inl (omega arith)) in
     rw (a, b, d, e, f, g, h, i, j, k, l) refl
 
-below : (m n : ℕ) → ltb m n ≡ true → m < n
-below m n e = grind (arith, nat_tests)
-
 simple_no_digit : (c v : ℕ) → simple_escape c ≡ Some v → is_digit c 8 ≡ false
-simple_no_digit c v h = fails _ (λ e.
-    let small : digit_value c < 8 = below (digit_value c) 8 e in
+simple_no_digit c v h = false_from_ne_true _ (λ e.
+    let small : digit_value c < 8 = ltb-true (digit_value c) 8 e in
     let range = digit_from_value c (omega (arith, small)) in
     let none = digit_no_escape c range.0 range.1 in
     absurd (cc))
 
 digit_no_x : (c base : ℕ) → digit_value c < base → base ≤ 16 → eqb c 120 ≡ false
-digit_no_x c base h b = fails _ (λ e. let big : digit_value c ≡ 33 = ap digit_value (is_byte c 120 e) in absurd (omega arith))
+digit_no_x c base h b = false_from_ne_true _ (λ e. let big : digit_value c ≡ 33 = ap digit_value (eqb-true c 120 e) in absurd (omega arith))
 
 two_digits : (digits : List ℕ) → AllDigits 16 digits → length digits ≤ 2 → digits_value 16 digits ≤ 255
 two_digits [] all few = omega arith
@@ -109,7 +102,7 @@ unfolding escape_of
 octal_reads [] rest is few small = absurd (omega (arith, is.0))
 octal_reads (d ∷ ds) rest is few small =
     let no_x = digit_no_x d 8 is.1.0 (omega arith) in
-    let digit : is_digit d 8 ≡ true = above (digit_value d) 8 is.1.0 in
+    let digit : is_digit d 8 ≡ true = lt-ltb (digit_value d) 8 is.1.0 in
     let read = numeric_reads 8 3 2 (d ∷ ds) rest is few small refl in
     rw (no_x, digit) read
 
@@ -152,11 +145,7 @@ letter_l : (a : ℕ) → is_l a ≡ true → is_suffix a ≡ true
 letter_l a e = grind (arith, nat_tests)
 
 same_l : (a b : ℕ) → is_l a ≡ true → eqb a b ≡ true → is_suffix b ≡ true
-same_l a b e h = letter_l b (ap is_l (sym (is_byte a b h)) ∙ e)
-
-either : (x y : Bool) → (x || y) ≡ true → (x ≡ true) ⊎ (y ≡ true)
-either true y h = inl refl
-either false y h = inr h
+same_l a b e h = letter_l b (ap is_l (sym (eqb-true a b h)) ∙ e)
 
 one_letter : (a : ℕ) (x : Bool × ℕ) → suffix_of (a ∷ []) ≡ Some x → is_suffix a ≡ true
 one_letter a x h = ⊎_elim (letter_u a) (λ h. ⊎_elim (letter_l a) (λ none. absurd (cc)) (chosen (is_l a) (false, 1) None x h)) (chosen (is_u a) (true, 0) _ x h)
@@ -165,7 +154,7 @@ two_letters : (a b : ℕ) (x : Bool × ℕ) → suffix_of (a ∷ b ∷ []) ≡ S
 two_letters a b x h =
     ⊎_elim (λ e. let p = and_parts _ _ e in (letter_l a p.0, same_l a b p.0 p.1))
     (λ h. ⊎_elim
-    (λ e. ⊎_elim (λ f. let p = and_parts _ _ f in (letter_u a p.0, letter_l b p.1)) (λ f. let p = and_parts _ _ f in (letter_l a p.0, letter_u b p.1)) (either (is_u a && is_l b) (is_l a && is_u b) e))
+    (λ e. ⊎_elim (λ f. let p = and_parts _ _ f in (letter_u a p.0, letter_l b p.1)) (λ f. let p = and_parts _ _ f in (letter_l a p.0, letter_u b p.1)) (or_cases (is_u a && is_l b) (is_l a && is_u b) e))
     (λ none. absurd (cc))
     (chosen ((is_u a && is_l b) || (is_l a && is_u b)) (true, 1) None x h))
     (chosen (is_l a && eqb a b) (false, 2) _ x h)
@@ -176,7 +165,7 @@ three_letters a b c x h =
     (λ e. ⊎_elim
     (λ f. let p = and_parts _ _ f in let q = and_parts _ _ p.0 in (letter_u a q.0, letter_l b q.1, same_l b c q.1 p.1))
     (λ f. let p = and_parts _ _ f in let q = and_parts _ _ p.0 in (letter_l a q.0, same_l a b q.0 q.1, letter_u c p.1))
-    (either (is_u a && is_l b && eqb b c) (is_l a && eqb a b && is_u c) e))
+    (or_cases (is_u a && is_l b && eqb b c) (is_l a && eqb a b && is_u c) e))
     (λ none. absurd (cc))
     (chosen ((is_u a && is_l b && eqb b c) || (is_l a && eqb a b && is_u c)) (true, 2) None x h)
 
@@ -190,19 +179,16 @@ suffix_letters (a ∷ b ∷ c ∷ d ∷ s) x h = absurd (cc)
 -- a letter of a suffix is no digit and no `x`
 suffix_codes : (b : ℕ) → is_suffix b ≡ true → (b ≡ 117) ⊎ ((b ≡ 85) ⊎ ((b ≡ 108) ⊎ (b ≡ 76)))
 suffix_codes b e =
-    ⊎_elim (λ u. ⊎_elim (λ h. inl (is_byte b 117 h)) (λ h. inr (inl (is_byte b 85 h))) (either (eqb b 117) (eqb b 85) u))
-    (λ l. ⊎_elim (λ h. inr (inr (inl (is_byte b 108 h)))) (λ h. inr (inr (inr (is_byte b 76 h)))) (either (eqb b 108) (eqb b 76) l)) (either (is_u b) (is_l b) e)
+    ⊎_elim (λ u. ⊎_elim (λ h. inl (eqb-true b 117 h)) (λ h. inr (inl (eqb-true b 85 h))) (or_cases (eqb b 117) (eqb b 85) u))
+    (λ l. ⊎_elim (λ h. inr (inr (inl (eqb-true b 108 h)))) (λ h. inr (inr (inr (eqb-true b 76 h)))) (or_cases (eqb b 108) (eqb b 76) l)) (or_cases (is_u b) (is_l b) e)
 
 -- what holds of each letter of a suffix
 by_code : (P : ℕ → Type 0) → P 117 → P 85 → P 108 → P 76 → (b : ℕ) → is_suffix b ≡ true → P b
 by_code P u U l L b e =
     ⊎_elim (λ h. subst P (sym h) u) (λ r. ⊎_elim (λ h. subst P (sym h) U) (λ r. ⊎_elim (λ h. subst P (sym h) l) (λ h. subst P (sym h) L) r) r) (suffix_codes b e)
 
-not_above : (m n : ℕ) → n ≤ m → ltb m n ≡ false
-not_above m n h = grind (arith, nat_tests)
-
 suffix_no_digit : (base : ℕ) → base ≤ 16 → (b : ℕ) → is_suffix b ≡ true → is_digit b base ≡ false
-suffix_no_digit base h = by_code (λ b. is_digit b base ≡ false) (not_above 30 base (omega arith)) (not_above 30 base (omega arith)) (not_above 21 base (omega arith)) (not_above 21 base (omega arith))
+suffix_no_digit base h = by_code (λ b. is_digit b base ≡ false) (le-ltb 30 base (omega arith)) (le-ltb 30 base (omega arith)) (le-ltb 21 base (omega arith)) (le-ltb 21 base (omega arith))
 
 suffix_no_x : (b : ℕ) → is_suffix b ≡ true → is_x b ≡ false
 suffix_no_x = by_code (λ b. is_x b ≡ false) refl refl refl refl
@@ -236,14 +222,11 @@ octal_no_x (d ∷ c ∷ ds) s x is e = no_x c (digit_no_x c 8 is.1.1.0 (omega ar
   no_x c g h = rw (g, h) refl
 
   digit_no_X : (c : ℕ) → digit_value c < 8 → eqb c 88 ≡ false
-  digit_no_X c h = fails _ (λ e. let big : digit_value c ≡ 33 = ap digit_value (is_byte c 88 e) in absurd (omega arith))
+  digit_no_X c h = false_from_ne_true _ (λ e. let big : digit_value c ≡ 33 = ap digit_value (eqb-true c 88 e) in absurd (omega arith))
 
 first_of : (digits s : List ℕ) → 0 < length digits → get_or (digits ++ s) 0 0 ≡ get_or digits 0 0
 first_of [] s h = absurd (omega arith)
 first_of (d ∷ ds) s h = refl
-
-byte_is : (m n : ℕ) → m ≡ n → eqb m n ≡ true
-byte_is m n h = grind (arith, nat_tests)
 
 number_reads : (base : ℕ) (prefix digits s : List ℕ) (u : Bool) (l : ℕ) → IsBase base prefix digits → IsNumeral base digits → suffix_of s ≡ Some (u, l) → has_type lp64 (eqb base 10) u l (digits_value base digits) ≡ true →
     number_of (prefix ++ (digits ++ s)) ≡ Some (number (digits_value base digits) (eqb base 10) u l)
@@ -251,12 +234,12 @@ unfolding number_of
 number_reads _ _ digits s u l (is_hexadecimal x) is e t = let read = written_reads 16 digits s u l (omega arith) is e t in rw x read
 number_reads _ _ digits s u l (is_octal z) is e t =
     let read = written_reads 8 digits s u l (omega arith) is e t in
-    let zero = byte_is _ 48 (first_of digits s is.0 ∙ z) in
+    let zero = eq-eqb _ 48 (first_of digits s is.0 ∙ z) in
     let no_x = octal_no_x digits s (u, l) is e in
     rw (zero, no_x) read
 number_reads _ _ digits s u l (is_decimal z) is e t =
     let read = written_reads 10 digits s u l (omega arith) is e t in
-    let other = fails (eqb (get_or (digits ++ s) 0 0) 48) (λ h. z (sym (first_of digits s is.0) ∙ is_byte _ _ h)) in
+    let other = false_from_ne_true (eqb (get_or (digits ++ s) 0 0) 48) (λ h. z (sym (first_of digits s is.0) ∙ eqb-true _ _ h)) in
     rw other read
 
 -- every byte of a number goes on a number

@@ -1,6 +1,6 @@
 -- What a measure lists are the nodes and the statements in preorder, and the first of them on each level.
 use Rattle.std.proofs.Common.{ℕ, ◌≡◌, ◌∙◌, ◌+◌, ◌++◌, Bool, true, false, cond, List, [], ◌∷◌, Option, Some, None, zero, suc, map, refl, ap, sym, subst, arith}
-use Rattle.std.proofs.lemmas.List.{map-append}
+use Rattle.std.proofs.lemmas.List.{map-append, append-nil}
 use Rattle.std.proofs.lemmas.Bool.Decides.{nat_tests}
 use Rattle.std.specs.List.{slice_get}
 use Rattle.std.specs.Prelude.{nat_eq}
@@ -15,10 +15,6 @@ use Rattle.c_limits.specs.CodeLevels.{first_on, nodes_of, in_type, in_words, in_
 abbrev pub offset : ℕ × ℕ → ℕ
 offset n = n.1
 
-pub append_nil : {A : Type 0} (xs : List A) → xs ++ [] ≡ xs
-append_nil [] = refl
-append_nil (x ∷ xs) = ap (λ l. x ∷ l) (append_nil xs)
-
 get_append_nil : (xs : List ℕ) (k : ℕ) → slice_get xs k ≡ or_else (slice_get xs k) None
 get_append_nil [] k = refl
 get_append_nil (x ∷ xs) zero = refl
@@ -27,7 +23,7 @@ get_append_nil (x ∷ xs) (suc k) = get_append_nil xs k
 pub get_leftmost : (xs ys : List ℕ) (k : ℕ) → slice_get (leftmost xs ys) k ≡ or_else (slice_get xs k) (slice_get ys k)
 get_leftmost [] ys k = refl
 get_leftmost (x ∷ xs) ys zero = refl
-get_leftmost (x ∷ xs) [] (suc k) = ap (λ l. slice_get l k) (append_nil xs) ∙ get_append_nil xs k
+get_leftmost (x ∷ xs) [] (suc k) = ap (λ l. slice_get l k) (append-nil xs) ∙ get_append_nil xs k
 get_leftmost (x ∷ xs) (y ∷ ys) (suc k) = get_leftmost xs ys k
 
 or_else_test : (b : Bool) (a : ℕ) (o p : Option ℕ) → cond b (Some a) (or_else o p) ≡ or_else (cond b (Some a) o) p
@@ -87,8 +83,8 @@ above a c = record { nodes = rows_node a c.nodes; no_statements = c.no_statement
 one : {l : ℕ} {m : Measure} {xs : List (ℕ × ℕ)} → Counts l m xs → Counts l (all (m ∷ [])) xs
 one {l = l} {m = m} {xs = xs} c =
     record {
-      nodes = subst (λ v. Rows l (all (m ∷ [])).nodes (all (m ∷ [])).depth v) (append_nil xs) (rows_beside c.nodes (rows_none l));
-      no_statements = append_nil m.statements ∙ c.no_statements;
+      nodes = subst (λ v. Rows l (all (m ∷ [])).nodes (all (m ∷ [])).depth v) (append-nil xs) (rows_beside c.nodes (rows_none l));
+      no_statements = append-nil m.statements ∙ c.no_statements;
       no_blocks = ap (λ b. leftmost b []) c.no_blocks;
     }
 

@@ -2,13 +2,14 @@
 -- statement on each level.
 use Rattle.std.proofs.Common.{ℕ, ◌≡◌, ◌∙◌, ◌+◌, ◌++◌, List, [], ◌∷◌, Option, Some, None, suc, map, ap, sym, subst, arith}
 use Rattle.std.specs.List.{slice_get}
+use Rattle.std.proofs.lemmas.List.{append-nil}
 use Rattle.c_grammar.specs.Tree as tree
 use Rattle.c_grammar.specs.Tree.{Exp, Call, Rhs, Simple, Init, Local, Label, Start, Stmt, Items, Groups}
 use Rattle.c_limits.specs.FirstToken.{first_of_declarator, first_of_simple}
 use Rattle.c_limits.specs.Limits as limits
 use Rattle.c_limits.specs.Limits.{Measure, nothing, beside, all, outermost}
 use Rattle.c_limits.specs.CodeLevels.{first_on, in_inits, in_local, in_start, statements_of, in_items, in_groups}
-use Rattle.c_limits.proofs.LimitsLevels.{Rows, Counts, append_nil, first_on_other, rows_none, rows_node, rows_beside, exp_counts, words_counts, declarator_counts}
+use Rattle.c_limits.proofs.LimitsLevels.{Rows, Counts, first_on_other, rows_none, rows_node, rows_beside, exp_counts, words_counts, declarator_counts}
 
 -- the measure of a part of a body: its statements
 record Stands (l : ℕ) (m : Measure) (xs : List (ℕ × ℕ)) : Type 0 where
@@ -22,7 +23,7 @@ more s t = record { rows = rows_beside s.rows t.rows }
 
 -- before a part without statements
 last : {l : ℕ} {m n : Measure} {xs : List (ℕ × ℕ)} → Stands l m xs → Stands l n [] → Stands l (beside m n) xs
-last {l = l} {m = m} {n = n} {xs = xs} s t = subst (λ v. Stands l (beside m n) v) (append_nil xs) (more s t)
+last {l = l} {m = m} {n = n} {xs = xs} s t = subst (λ v. Stands l (beside m n) v) (append-nil xs) (more s t)
 
 one : {l : ℕ} {m : Measure} {xs : List (ℕ × ℕ)} → Stands l m xs → Stands l (all (m ∷ [])) xs
 one {l = l} s = last s (none l)

@@ -1,6 +1,6 @@
 -- A tag without a fault is a tag beside the earlier ones.
 use Rattle.std.proofs.Common.{◌≡◌, ℕ, zero, suc, ◌+◌, ◌%◌, ◌<◌, nat_eq, nat_lt, nat_le, ◌⊎◌, inl, inr, Bool, true, false, not, ◌&&◌, ◌||◌, cond, List, [], ◌∷◌, ◌++◌, Option, Some, None, slice_get, refl, subst, arith}
-use Rattle.std.proofs.lemmas.Bool.{and_parts, leb-true}
+use Rattle.std.proofs.lemmas.Bool.{and_parts, leb-true, or_cases}
 use Rattle.std.proofs.lemmas.Bool.Decides.{nat_tests}
 use Rattle.c_memory.specs.declared.faults.HeapFault.{HeapFault}
 use Rattle.c_memory.specs.declared.faults.HeapFault.TheVariants.{Misaligned, Null, Past, Overlap}
@@ -45,10 +45,6 @@ module _ (l : Layout) (earlier : List Tag) (k : ℕ) (t : Tag) (h : tag_fault l 
     object = root.object;
     placed = pointer_ok (t.address % align_of l t.type) t.address (size_of l t.type) (space l) parts.aligned parts.some parts.fits;
   }
-
-or_cases : (a b : Bool) → (a || b) ≡ true → (a ≡ true) ⊎ (b ≡ true)
-or_cases true b h = inl refl
-or_cases false b h = inr h
 
 apart_of : (l : Layout) (t u : Tag) → are_apart l t u ≡ true → AreApart l u t
 apart_of l t u h = by_case (or_cases (nat_le (t.address + size_of l t.type) u.address) (nat_le (u.address + size_of l u.type) t.address) h)

@@ -60,7 +60,3 @@ free l d h =
 pub has_some : {A : Type 0} (f : A → Member) (ms : List A) (n : ℕ) → n ≡ length ms → (n == 0) ≡ false → has_member (map f ms) ≡ true
 has_some f [] n e h = absurd (true≢false (subst (λ m. (m == 0) ≡ false) e h))
 has_some f (m ∷ ms) n e h = refl
-
-pub not_false : (b : Bool) → not b ≡ false → b ≡ true
-not_false true h = refl
-not_false false h = absurd (true≢false h)

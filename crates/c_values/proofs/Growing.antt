@@ -1,6 +1,6 @@
 -- One struct more behind those of a layout.
 use Rattle.std.proofs.Common.{◌≡◌, ℕ, zero, suc, ◌≤◌, Bool, true, false, not, cond, ◌&&◌, ◌||◌, leb, List, [], ◌∷◌, ◌++◌, length, map, refl, sym, ap, ◌∙◌, subst, arith}
-use Rattle.std.proofs.lemmas.Bool.{and_parts, cond-true, true≢false, false≢true}
+use Rattle.std.proofs.lemmas.Bool.{and_parts, cond-true, true≢false, false≢true, and_from, or_parts, not-true, and_right}
 use Rattle.std.proofs.lemmas.List.{map-append}
 use Rattle.std.specs.Str.{bytes_eq}
 use Rattle.std.specs.HashMap.{get_by_text}
@@ -32,13 +32,6 @@ small_more t structs (e ∷ es) d h fits =
     let p = and_parts (leb (size (struct_shape (shape_from t structs) e)) largest_size) (are_small t after es) h in
     rw (p.0) (small_more t after es d p.1 fits)
 
-both : (a b : Bool) → a ≡ true → b ≡ true → (a && b) ≡ true
-both a b h k = rw (h, k) refl
-
-neither : (a b : Bool) → (a || b) ≡ false → (a ≡ false) × (b ≡ false)
-neither true b h = absurd (true≢false h)
-neither false b h = (refl, h)
-
 pub built_more : (t : Target) (structs : Name → Shape) (names : List Name) (ds : List StructDef) (d : StructDef) → are_built t structs names ds ≡ true →
     is_among d.name names ≡ false → is_among d.name (map (λ e. e.name) ds) ≡ false → has_member d.members ≡ true →
     all_members_complete (shape_from t (shapes_after t structs ds)) d.members ≡ true → are_built t structs names (ds ++ (d ∷ [])) ≡ true
@@ -47,9 +40,9 @@ built_more t structs names (e ∷ es) d h apart new some complete =
     let after = with_name e.name (struct_shape (shape_from t structs) e) structs in
     let first = not (is_among e.name names) && has_member e.members && all_members_complete (shape_from t structs) e.members in
     let p = and_parts first (are_built t after (e.name ∷ names) es) h in
-    let q = neither (same_name d.name e.name) (is_among d.name (map (λ e'. e'.name) es)) new in
+    let q = or_parts (same_name d.name e.name) (is_among d.name (map (λ e'. e'.name) es)) new in
     let apart' : is_among d.name (e.name ∷ names) ≡ false = rw (q.0, apart) refl in
-    both first (are_built t after (e.name ∷ names) (es ++ (d ∷ []))) p.0 (built_more t after (e.name ∷ names) es d p.1 apart' q.1 some complete)
+    and_from first (are_built t after (e.name ∷ names) (es ++ (d ∷ []))) p.0 (built_more t after (e.name ∷ names) es d p.1 apart' q.1 some complete)
 
 named_longer : (ds es : List D.StructDef) (x : Name) (k : ℕ) → IsNamed ds x k → IsNamed (ds ++ es) x k
 named_longer [] es x k h = absurd (omega (arith, h.1))
@@ -68,15 +61,11 @@ record Follows (t : Target) (ds : List StructDef) (d : StructDef) : Type 0 where
   some : has_member d.members ≡ true
   complete : all_members_complete (shape_from t (shapes_after t none ds)) d.members ≡ true
 
-negated : (b : Bool) → not b ≡ true → b ≡ false
-negated true h = absurd (false≢true h)
-negated false h = refl
-
 follows : (l : Layout) (d : StructDef) → can_follow l d ≡ true → Follows l.target l.structs d
 follows l d h =
     let p = and_parts (not (is_among d.name (struct_names l)) && has_member d.members) (all_members_complete (shape_of l) d.members) h in
     let q = and_parts (not (is_among d.name (struct_names l))) (has_member d.members) p.0 in
-    record { new = negated (is_among d.name (struct_names l)) q.0; some = q.1; complete = p.1 }
+    record { new = not-true (is_among d.name (struct_names l)) q.0; some = q.1; complete = p.1 }
 
 pub complete_members : (l : Layout) (d : StructDef) → can_follow l d ≡ true → all_members_complete (shape_of l) d.members ≡ true
 complete_members l d h = (follows l d h).complete
@@ -122,12 +111,8 @@ is_fitting m n k e h = grind arith
 
 pub last_is_object : (l : Layout) (d : StructDef) (e : P.Places) → DescribesShape (Some e) (struct_shape (shape_of l) d) → is_object (with_struct l d) (Struct d.name) ≡ true
 last_is_object l d e h =
-    rw (last_shape l d) (both (is_complete (struct_shape (shape_of l) d)) (leb (size (struct_shape (shape_of l) d)) largest_size) h.complete
+    rw (last_shape l d) (and_from (is_complete (struct_shape (shape_of l) d)) (leb (size (struct_shape (shape_of l) d)) largest_size) h.complete
     (is_fitting e.size largest_size (size (struct_shape (shape_of l) d)) h.size e.small))
 
-not_both : (a b : Bool) → b ≡ false → (a && b) ≡ false
-not_both true b h = h
-not_both false b h = refl
-
 pub last_is_large : (l : Layout) (d : StructDef) → leb (size (struct_shape (shape_of l) d)) largest_size ≡ false → is_object (with_struct l d) (Struct d.name) ≡ false
-last_is_large l d h = rw (last_shape l d) (not_both (is_complete (struct_shape (shape_of l) d)) (leb (size (struct_shape (shape_of l) d)) largest_size) h)
+last_is_large l d h = rw (last_shape l d) (and_right (is_complete (struct_shape (shape_of l) d)) (leb (size (struct_shape (shape_of l) d)) largest_size) h)

@@ -1,6 +1,6 @@
 -- A step into an object.
 use Rattle.std.proofs.Common.{◌≡◌, ℕ, ◌*◌, ◌<◌, true, leb, ltb, ℤ, pos, refl, arith}
-use Rattle.std.proofs.lemmas.Bool.{and_parts}
+use Rattle.std.proofs.lemmas.Bool.{and_parts, lt-ltb}
 use Rattle.std.specs.Prelude.{Some, None}
 use Rattle.c_values.specs.Name.{Name}
 use Rattle.c_values.specs.Types.{CType, Struct, Array}
@@ -20,10 +20,7 @@ pub into_struct : (l : Layout) (x : Name) (i : ℤ) → IsLayout l → is_object
 into_struct l x i h object =
     no_element (shape_of l (Struct x)) x i (shape_type l h (Struct x) (and_parts (is_complete (shape_of l (Struct x))) (leb (size_of l (Struct x)) largest_size) object).0)
 
-in_order : (i n : ℕ) → i < n → ltb i n ≡ true
-in_order i n h = grind arith
-
 -- an element of an array
 pub into_array : (l : Layout) (u : CType) (n i m : ℕ) → i < n → m ≡ size_of l u →
     Some (record { offset = pos (i * m); shape = shape_of l u }) ≡ step_into (shape_of l (Array u n)) (Index (pos i))
-into_array l u n i m h e = rw (e, in_order i n h) refl
+into_array l u n i m h e = rw (e, lt-ltb i n h) refl

@@ -3,7 +3,7 @@ use Rattle.std.proofs.Common.{◌≡◌, ℕ, zero, suc, ◌+◌, ◌-◌, ◌^�
 use Rattle.std.proofs.Math.Nat.{pow-suc}
 use Rattle.std.proofs.lemmas.Int.{ints}
 use Rattle.std.proofs.lemmas.Nat.{pow_pos}
-use Rattle.std.proofs.lemmas.Bool.{cases_lt, cond-true, cond-false}
+use Rattle.std.proofs.lemmas.Bool.{cases_lt, cond-true, cond-false, lt-ltb, le-ltb}
 use Rattle.c_values.specs.Number.{is_between, least, greatest}
 use Rattle.c_values.specs.Word.{Word, IsWord, unsigned, signed, word}
 use Rattle.c_values.proofs.Modulo.{AreAlike, word_alike, word_small}
@@ -12,12 +12,6 @@ use Rattle.c_values.proofs.Modulo.{AreAlike, word_alike, word_small}
 pub halves : (width : ℕ) → 1 ≤ width → 2 ^ width ≡ 2 ^ (width - 1) + 2 ^ (width - 1)
 halves (suc n) h = let e : suc n - 1 ≡ n = omega arith in rw e (omega (arith, pow-suc 2 n))
 halves zero h = absurd (omega arith)
-
-below : (m n : ℕ) → m < n → ltb m n ≡ true
-below m n h = grind arith
-
-not_below : (m n : ℕ) → n ≤ m → ltb m n ≡ false
-not_below m n h = grind arith
 
 -- the signed value: the bits, or less than 0 by as much as the bits lack to the whole
 pub data IsSigned (width bits : ℕ) : ℤ → Type 0 where
@@ -31,8 +25,8 @@ pub signed_is : (width bits : ℕ) → bits < 2 ^ width → IsSigned width bits 
 signed_is width bits h = by_cases (cases_lt bits (2 ^ (width - 1)))
   where
     by_cases : (bits < 2 ^ (width - 1)) ⊎ (2 ^ (width - 1) ≤ bits) → IsSigned width bits (signed (record { width = width; bits = bits }))
-    by_cases (inl c) = subst (IsSigned width bits) (sym (cond-true (ltb bits (2 ^ (width - 1))) (pos bits) (pos bits -ℤ pos (2 ^ width)) (below bits (2 ^ (width - 1)) c))) (low c)
-    by_cases (inr c) = subst (IsSigned width bits) (sym (cond-false (ltb bits (2 ^ (width - 1))) (pos bits) (pos bits -ℤ pos (2 ^ width)) (not_below bits (2 ^ (width - 1)) c) ∙ less_than_whole bits (2 ^ width) h)) (high c (omega arith))
+    by_cases (inl c) = subst (IsSigned width bits) (sym (cond-true (ltb bits (2 ^ (width - 1))) (pos bits) (pos bits -ℤ pos (2 ^ width)) (lt-ltb bits (2 ^ (width - 1)) c))) (low c)
+    by_cases (inr c) = subst (IsSigned width bits) (sym (cond-false (ltb bits (2 ^ (width - 1))) (pos bits) (pos bits -ℤ pos (2 ^ width)) (le-ltb bits (2 ^ (width - 1)) c) ∙ less_than_whole bits (2 ^ width) h)) (high c (omega arith))
 
 unsigned_alike : (width bits : ℕ) (n : ℤ) → IsSigned width bits n → AreAlike width n (pos bits)
 unsigned_alike width bits n (low h) = record { left = 0; right = 0; same = omega (arith, ints) }

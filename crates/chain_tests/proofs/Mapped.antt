@@ -9,7 +9,3 @@ mapped f None h = absurd (false≢true h)
 
 pub is_there : {A B : Type 0} (f : A → B) (o : Option A) (p : Option B) → option_map f o ≡ p → is_some o ≡ true → IsSome p
 is_there f o p e h = subst (λ (q : Option _). IsSome q) e (mapped f o h)
-
-pub no_length : {A : Type 0} (xs : List A) → length xs ≡ 0 → xs ≡ []
-no_length [] h = refl
-no_length (x ∷ xs) h = absurd (cc)

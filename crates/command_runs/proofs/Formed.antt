@@ -1,6 +1,6 @@
 -- What well-formedness of a unit says of a function that is called.
 use Rattle.std.proofs.Common.{◌≡◌, true, false, ◌&&◌, List, [], ◌∷◌, Option, Some, None, sym, ap, ◌∙◌, subst}
-use Rattle.std.proofs.lemmas.Bool.{and_parts, false≢true}
+use Rattle.std.proofs.lemmas.Bool.{and_parts, false≢true, cond-true, cond-false}
 use Rattle.c_values.specs.Name.{Name, same_name, are_distinct}
 use Rattle.c_values.proofs.Laid.{name_is}
 use Rattle.expression_lang.specs.Sort.{Kind, are_kinds}
@@ -9,7 +9,7 @@ use Rattle.simpl_lang.specs.Command.{SimplFn, SimplUnit, simpl_fn}
 use Rattle.simpl_lang.specs.Sorted.{is_sorted, scope_of, are_fns_sorted, same_level, come_first, is_kind_of, holds_result, are_signed}
 use Rattle.narrow.specs.Narrow.{IsCommandNarrow, AreFnsNarrow}
 use Rattle.command_runs.proofs.LocalsLaws.{same_kind_is}
-use Rattle.global_changes.proofs.Changed.{by_test, where_true, where_false}
+use Rattle.global_changes.proofs.Changed.{by_test}
 
 same_fn : {f g : SimplFn} → ◌≡◌ {A = Option SimplFn} (Some f) (Some g) → f ≡ g
 same_fn h = cc
@@ -21,8 +21,8 @@ pub found_name : (fs : List SimplFn) (x : Name) (f : SimplFn) → simpl_fn fs x 
 found_name [] x f e = absurd cc
 found_name (g ∷ fs) x f e =
     by_test (same_name g.name x)
-    (λ b. ap (λ h. h.name) (sym (same_fn (sym (where_true (same_name g.name x) (Some g) (simpl_fn fs x) b) ∙ e))) ∙ name_is g.name x b)
-    (λ b. found_name fs x f (sym (where_false (same_name g.name x) (Some g) (simpl_fn fs x) b) ∙ e))
+    (λ b. ap (λ h. h.name) (sym (same_fn (sym (cond-true (same_name g.name x) (Some g) (simpl_fn fs x) b) ∙ e))) ∙ name_is g.name x b)
+    (λ b. found_name fs x f (sym (cond-false (same_name g.name x) (Some g) (simpl_fn fs x) b) ∙ e))
 
 -- a function that is well-sorted
 pub record IsBody (u : SimplUnit) (f : SimplFn) : Type 0 where
@@ -38,19 +38,19 @@ body_sorted u (g ∷ fs) x f h e =
     let r = and_parts (are_kinds (kinds_of g.locals)) (are_distinct (names_of g.locals)) q.0 in
     by_test (same_name g.name x)
     (λ b.
-    let same : g ≡ f = same_fn (sym (where_true (same_name g.name x) (Some g) (simpl_fn fs x) b) ∙ e) in
+    let same : g ≡ f = same_fn (sym (cond-true (same_name g.name x) (Some g) (simpl_fn fs x) b) ∙ e) in
     let own : IsBody u g = record { kinds = r.0; distinct = r.1; sorted = q.1 } in
     subst (λ k. IsBody u k) same own)
-    (λ b. body_sorted u fs x f p.1 (sym (where_false (same_name g.name x) (Some g) (simpl_fn fs x) b) ∙ e))
+    (λ b. body_sorted u fs x f p.1 (sym (cond-false (same_name g.name x) (Some g) (simpl_fn fs x) b) ∙ e))
 
 pub body_narrow : (u : SimplUnit) (fs : List SimplFn) (x : Name) (f : SimplFn) → AreFnsNarrow u fs → simpl_fn fs x ≡ Some f → IsCommandNarrow (scope_of u f) u.globals f.body
 body_narrow u [] x f h e = absurd cc
 body_narrow u (g ∷ fs) x f h e =
     by_test (same_name g.name x)
     (λ b.
-    let same : g ≡ f = same_fn (sym (where_true (same_name g.name x) (Some g) (simpl_fn fs x) b) ∙ e) in
+    let same : g ≡ f = same_fn (sym (cond-true (same_name g.name x) (Some g) (simpl_fn fs x) b) ∙ e) in
     subst (λ k. IsCommandNarrow (scope_of u k) u.globals k.body) same h.0)
-    (λ b. body_narrow u fs x f h.1 (sym (where_false (same_name g.name x) (Some g) (simpl_fn fs x) b) ∙ e))
+    (λ b. body_narrow u fs x f h.1 (sym (cond-false (same_name g.name x) (Some g) (simpl_fn fs x) b) ∙ e))
 
 -- a function with its signature
 pub record IsSigned (f : SimplFn) (s : Signature) : Type 0 where
@@ -76,11 +76,11 @@ module _ (x : Name) (s : Signature) where
       let same : f.name ≡ r.name = name_is f.name r.name w.0 in
       by_test (same_name r.name x)
       (λ b.
-      let own : r ≡ s = same_signature (sym (where_true (same_name r.name x) (Some r) (signature ss x) b) ∙ e) in
-      (f, where_true (same_name f.name x) (Some f) (simpl_fn fs x) (subst (λ n. same_name n x ≡ true) (sym same) b), subst (λ q. IsSigned f q) own w.1))
+      let own : r ≡ s = same_signature (sym (cond-true (same_name r.name x) (Some r) (signature ss x) b) ∙ e) in
+      (f, cond-true (same_name f.name x) (Some f) (simpl_fn fs x) (subst (λ n. same_name n x ≡ true) (sym same) b), subst (λ q. IsSigned f q) own w.1))
       (λ b.
-      let later = signed_fn fs ss w.2 (sym (where_false (same_name r.name x) (Some r) (signature ss x) b) ∙ e) in
-      (later.0, where_false (same_name f.name x) (Some f) (simpl_fn fs x) (subst (λ n. same_name n x ≡ false) (sym same) b) ∙ later.1, later.2))
+      let later = signed_fn fs ss w.2 (sym (cond-false (same_name r.name x) (Some r) (signature ss x) b) ∙ e) in
+      (later.0, cond-false (same_name f.name x) (Some f) (simpl_fn fs x) (subst (λ n. same_name n x ≡ false) (sym same) b) ∙ later.1, later.2))
 
 -- the kind of the local that holds the result
 pub result_there : (k : Kind) (o : Option Kind) → is_kind_of k o ≡ true → o ≡ Some k

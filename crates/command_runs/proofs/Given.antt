@@ -1,6 +1,6 @@
 -- A local takes a value.
 use Rattle.std.proofs.Common.{◌≡◌, ℕ, true, List, [], ◌∷◌, Option, Some, None, refl, sym, ap, ◌∙◌, subst, pos}
-use Rattle.std.proofs.lemmas.Bool.{and_parts}
+use Rattle.std.proofs.lemmas.Bool.{and_parts, cond-true, cond-false}
 use Rattle.correspondence.specs.Outcome.{Done, Then, goes_on, done}
 use Rattle.c_values.specs.Name.{Name, same_name, with_name, is_among, are_distinct}
 use Rattle.c_values.specs.Value.{Value}
@@ -18,7 +18,7 @@ use Rattle.command_runs.specs.declared.outcome.CState as C
 use Rattle.command_runs.specs.Locals.{names_in, env_from, put_in, AreLocals}
 use Rattle.command_runs.specs.CodeRun.{table_of, locals_of, scope_for, picked_value, IsFrame, Fits}
 use Rattle.command_runs.proofs.LocalsLaws.{put_env, put_locals, locals_names, scalar_kind}
-use Rattle.global_changes.proofs.Changed.{by_test, where_true, where_false}
+use Rattle.global_changes.proofs.Changed.{by_test}
 use Rattle.command_runs.proofs.Evaluated.{table_env}
 
 pub record IsPut (f : R.Frame) (bs bs' : Bindings) (s : C.CState) (x : Name) (v : Value) : Type 0 where
@@ -51,8 +51,8 @@ kind_is [] x k h e = absurd cc
 kind_is (b ∷ bs) x k h e =
     let p = and_parts (is_kind b.kind) (are_kinds (kinds_of bs)) h in
     by_test (same_name b.name x)
-    (λ t. let same : b.kind ≡ k = some_same (sym (where_true (same_name b.name x) (Some b.kind) (kind_of bs x) t) ∙ e) in subst (λ j. is_kind j ≡ true) same p.0)
-    (λ t. kind_is bs x k p.1 (sym (where_false (same_name b.name x) (Some b.kind) (kind_of bs x) t) ∙ e))
+    (λ t. let same : b.kind ≡ k = some_same (sym (cond-true (same_name b.name x) (Some b.kind) (kind_of bs x) t) ∙ e) in subst (λ j. is_kind j ≡ true) same p.0)
+    (λ t. kind_is bs x k p.1 (sym (cond-false (same_name b.name x) (Some b.kind) (kind_of bs x) t) ∙ e))
   where
     some_same : {i j : Kind} → ◌≡◌ {A = Option Kind} (Some i) (Some j) → i ≡ j
     some_same q = cc

@@ -1,6 +1,6 @@
 -- The function and the signature at one position are of one name, and are found by it.
 use Rattle.std.proofs.Common.{◌≡◌, ℕ, zero, suc, ◌<◌, Bool, true, false, not, ◌&&◌, ◌||◌, List, [], ◌∷◌, length, get_or, map, Option, Some, refl, sym, ap, ◌∙◌, subst, arith}
-use Rattle.std.proofs.lemmas.Bool.{and_parts, or_parts, false≢true, not-true}
+use Rattle.std.proofs.lemmas.Bool.{and_parts, or_parts, false≢true, not-true, cond-true, cond-false}
 use Rattle.std.specs.Prelude.{string_bytes, slice_get, Result, Ok, Err, IfOk}
 use Rattle.std.specs.Option.{IsSomeAnd}
 use Rattle.correspondence.specs.Outcome.{Ends}
@@ -20,7 +20,7 @@ use Rattle.simpl_lang.specs.Command.{SimplFn, simpl_fn}
 use Rattle.simpl_lang.specs.Sorted.{same_level, come_first, holds_result, are_signed}
 use Rattle.simpl_lang.specs.CodeCommand.{simpl_fn_of}
 use Rattle.command_runs.specs.CodeRun.{HasReturned, IsStateOf, outcome_of, IsEnd, OnLasting}
-use Rattle.global_changes.proofs.Changed.{by_test, where_true, where_false}
+use Rattle.global_changes.proofs.Changed.{by_test}
 
 -- a name that stands at a place is among the names
 
@@ -55,12 +55,12 @@ pub function_at : (fs : List F.SimplFn) (k : ℕ) (f : F.SimplFn) → are_distin
     simpl_fn (map simpl_fn_of fs) (string_bytes f.name) ≡ Some (simpl_fn_of f)
 function_at [] k f d lt e = absurd (omega arith)
 function_at (g ∷ fs) zero f d lt e =
-    where_true (same_name (string_bytes g.name) (string_bytes f.name)) (Some (simpl_fn_of g)) (simpl_fn (map simpl_fn_of fs) (string_bytes f.name)) (ap (λ h. same_name (string_bytes h.name) (string_bytes f.name)) (sym e) ∙ same_name-refl (string_bytes f.name))
+    cond-true (same_name (string_bytes g.name) (string_bytes f.name)) (Some (simpl_fn_of g)) (simpl_fn (map simpl_fn_of fs) (string_bytes f.name)) (ap (λ h. same_name (string_bytes h.name) (string_bytes f.name)) (sym e) ∙ same_name-refl (string_bytes f.name))
     ∙ ap (λ h. Some (simpl_fn_of h)) (sym e)
 function_at (g ∷ fs) (suc k) f d lt e =
     let p = and_parts (not (is_among (string_bytes g.name) (map (λ h. h.name) (map simpl_fn_of fs)))) (are_distinct (map (λ h. h.name) (map simpl_fn_of fs))) d in
     let lt' : k < length fs = omega arith in
-    where_false (same_name (string_bytes g.name) (string_bytes f.name)) (Some (simpl_fn_of g)) (simpl_fn (map simpl_fn_of fs) (string_bytes f.name))
+    cond-false (same_name (string_bytes g.name) (string_bytes f.name)) (Some (simpl_fn_of g)) (simpl_fn (map simpl_fn_of fs) (string_bytes f.name))
     (apart (string_bytes g.name) (string_bytes f.name) (map (λ h. h.name) (map simpl_fn_of fs)) (not-true _ p.0) (among_at fs k f lt' e))
     ∙ function_at fs k f p.1 lt' e
 
@@ -78,7 +78,7 @@ signature_at (g ∷ fs) [] k f s d h lt e q = absurd (false≢true h)
 signature_at (g ∷ fs) (r ∷ ss) zero f s d h lt e q =
     let w = first_signed (simpl_fn_of g) (map simpl_fn_of fs) (signature_of r) (map signature_of ss) h in
     let same : string_bytes f.name ≡ string_bytes r.name = ap (λ i. string_bytes i.name) e ∙ name_is (string_bytes g.name) (string_bytes r.name) w.0 in
-    where_true (same_name (string_bytes r.name) (string_bytes f.name)) (Some (signature_of r)) (signature (map signature_of ss) (string_bytes f.name))
+    cond-true (same_name (string_bytes r.name) (string_bytes f.name)) (Some (signature_of r)) (signature (map signature_of ss) (string_bytes f.name))
     (subst (λ n. same_name (string_bytes r.name) n ≡ true) (sym same) (same_name-refl (string_bytes r.name)))
     ∙ ap (λ i. Some (signature_of i)) (sym q)
 signature_at (g ∷ fs) (r ∷ ss) (suc k) f s d h lt e q =
@@ -86,7 +86,7 @@ signature_at (g ∷ fs) (r ∷ ss) (suc k) f s d h lt e q =
     let p = and_parts (not (is_among (string_bytes g.name) (map (λ i. i.name) (map simpl_fn_of fs)))) (are_distinct (map (λ i. i.name) (map simpl_fn_of fs))) d in
     let lt' : k < length fs = omega arith in
     let other = apart (string_bytes g.name) (string_bytes f.name) (map (λ i. i.name) (map simpl_fn_of fs)) (not-true _ p.0) (among_at fs k f lt' e) in
-    where_false (same_name (string_bytes r.name) (string_bytes f.name)) (Some (signature_of r)) (signature (map signature_of ss) (string_bytes f.name))
+    cond-false (same_name (string_bytes r.name) (string_bytes f.name)) (Some (signature_of r)) (signature (map signature_of ss) (string_bytes f.name))
     (subst (λ n. same_name n (string_bytes f.name) ≡ false) (name_is (string_bytes g.name) (string_bytes r.name) w.0) other)
     ∙ signature_at fs ss k f s p.1 w.1 lt' e q
 

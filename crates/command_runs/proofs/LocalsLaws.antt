@@ -2,7 +2,7 @@
 use Rattle.std.proofs.Common.{◌≡◌, suc, Bool, true, false, not, cond, ◌&&◌, ◌||◌, List, [], ◌∷◌, length, map, Option, Some, None, refl, sym, ap, ap₂, ◌∙◌, subst}
 use Rattle.std.proofs.lemmas.Nat.{pow_pos}
 use Rattle.std.proofs.Math.Path.{fun_ext}
-use Rattle.std.proofs.lemmas.Bool.{and_parts, or_parts, false≢true, not-true, eqb-true}
+use Rattle.std.proofs.lemmas.Bool.{and_parts, or_parts, false≢true, not-true, eqb-true, cond-true, cond-false}
 use Rattle.c_values.specs.Name.{Name, same_name, with_name, is_among, are_distinct}
 use Rattle.c_values.specs.Value.{Value}
 use Rattle.c_values.proofs.Laid.{name_is, other_name, same_name-refl}
@@ -15,7 +15,7 @@ use Rattle.expression_lang.specs.Sorted.{names_with}
 use Rattle.simpl_lang.specs.Command.{kind_of}
 use Rattle.simpl_lang.specs.Exec.{zero_locals}
 use Rattle.simpl_lang.specs.Sorted.{same_kind, come_first}
-use Rattle.global_changes.proofs.Changed.{by_test, where_true, where_false}
+use Rattle.global_changes.proofs.Changed.{by_test}
 use Rattle.command_runs.specs.Locals.{Table, names_in, env_from, put_in, started, AreOfSorts, AreLocals}
 
 cond_swap : (a b : Bool) (v w : Value) (r : Value) → ((a ≡ true) → b ≡ false) → cond a v (cond b w r) ≡ cond b w (cond a v r)
@@ -58,13 +58,13 @@ put_env x v (p ∷ ps) env h k =
     (λ e.
     let same : p.0 ≡ x = name_is p.0 x e in
     let fresh : is_among x (names_in ps) ≡ false = subst (λ n. is_among n (names_in ps) ≡ false) same (not-true (is_among p.0 (names_in ps)) q.0) in
-    ap (λ t. env_from t env) (where_true (same_name p.0 x) ((p.0, v) ∷ ps) (p ∷ put_in x v ps) e)
+    ap (λ t. env_from t env) (cond-true (same_name p.0 x) ((p.0, v) ∷ ps) (p ∷ put_in x v ps) e)
     ∙ ap (λ n. env_from ps (with_name n v env)) same
     ∙ ap (env_from ps) (sym (again x v p.1 env))
     ∙ sym (through x v ps (with_name x p.1 env) fresh)
     ∙ ap (λ n. with_name x v (env_from ps (with_name n p.1 env))) (sym same))
     (λ e.
-    ap (λ t. env_from t env) (where_false (same_name p.0 x) ((p.0, v) ∷ ps) (p ∷ put_in x v ps) e)
+    ap (λ t. env_from t env) (cond-false (same_name p.0 x) ((p.0, v) ∷ ps) (p ∷ put_in x v ps) e)
     ∙ put_env x v ps (with_name p.0 p.1 env) q.1 (other_among x p.0 (names_in ps) (other_name p.0 x e) k))
 
 some_is : {A : Type 0} {a b : A} → Some a ≡ Some b → a ≡ b
@@ -78,13 +78,13 @@ put_locals x v k (b ∷ bs) (p ∷ ps) h e o =
     by_test (same_name p.0 x)
     (λ t.
     let same : same_name b.name x ≡ true = subst (λ n. same_name n x ≡ true) h.0 t in
-    let kind : b.kind ≡ k = some_is (sym (where_true (same_name b.name x) (Some b.kind) (kind_of bs x) same) ∙ e) in
-    subst (λ q. AreLocals (b ∷ bs) q) (sym (where_true (same_name p.0 x) ((p.0, v) ∷ ps) (p ∷ put_in x v ps) t))
+    let kind : b.kind ≡ k = some_is (sym (cond-true (same_name b.name x) (Some b.kind) (kind_of bs x) same) ∙ e) in
+    subst (λ q. AreLocals (b ∷ bs) q) (sym (cond-true (same_name p.0 x) ((p.0, v) ∷ ps) (p ∷ put_in x v ps) t))
     (h.0, subst (λ j. IsOfSort (word_sort_of j) v) (sym kind) o, h.2))
     (λ t.
     let other : same_name b.name x ≡ false = subst (λ n. same_name n x ≡ false) h.0 t in
-    subst (λ q. AreLocals (b ∷ bs) q) (sym (where_false (same_name p.0 x) ((p.0, v) ∷ ps) (p ∷ put_in x v ps) t))
-    (h.0, h.1, put_locals x v k bs ps h.2 (sym (where_false (same_name b.name x) (Some b.kind) (kind_of bs x) other) ∙ e) o))
+    subst (λ q. AreLocals (b ∷ bs) q) (sym (cond-false (same_name p.0 x) ((p.0, v) ∷ ps) (p ∷ put_in x v ps) t))
+    (h.0, h.1, put_locals x v k bs ps h.2 (sym (cond-false (same_name b.name x) (Some b.kind) (kind_of bs x) other) ∙ e) o))
 
 pub locals_names : (bs : List Binder) (ps : Table) → AreLocals bs ps → names_in ps ≡ names_of bs
 locals_names [] [] h = refl
@@ -116,7 +116,7 @@ pub not_among : (bs : List Binder) (names : Name → Option Scalar) (x : Name) �
 not_among [] names x h = refl
 not_among (b ∷ bs) names x h =
     let q = or_parts (same_name x b.name) (is_among x (names_of bs)) h in
-    not_among bs (with_name b.name (Some (word_sort_of b.kind)) names) x q.1 ∙ where_false (same_name b.name x) (Some (word_sort_of b.kind)) (names x) (other_name x b.name q.0)
+    not_among bs (with_name b.name (Some (word_sort_of b.kind)) names) x q.1 ∙ cond-false (same_name b.name x) (Some (word_sort_of b.kind)) (names x) (other_name x b.name q.0)
 
 -- a name in scope is one of the locals, and has a kind of this sort
 
@@ -130,15 +130,15 @@ scalar_kind (b ∷ bs) names x c d h e =
     let same : b.name ≡ x = name_is b.name x t in
     let fresh : is_among x (names_of bs) ≡ false = subst (λ n. is_among n (names_of bs) ≡ false) same (not-true (is_among b.name (names_of bs)) q.0) in
     let here : Some (word_sort_of b.kind) ≡ Some c =
-    sym (where_true (same_name b.name x) (Some (word_sort_of b.kind)) (names x) t) ∙ sym (not_among bs (with_name b.name (Some (word_sort_of b.kind)) names) x fresh) ∙ e in (
+    sym (cond-true (same_name b.name x) (Some (word_sort_of b.kind)) (names x) t) ∙ sym (not_among bs (with_name b.name (Some (word_sort_of b.kind)) names) x fresh) ∙ e in (
       b.kind,
-      where_true (same_name b.name x) (Some b.kind) (kind_of bs x) t,
+      cond-true (same_name b.name x) (Some b.kind) (kind_of bs x) t,
       some_is here,
       subst (λ n. is_among x (n ∷ names_of bs) ≡ true) (sym same) (or_true (same_name x x) (is_among x (names_of bs)) (same_name-refl x)),
     ))
     (λ t.
-    let r = scalar_kind bs (with_name b.name (Some (word_sort_of b.kind)) names) x c q.1 (where_false (same_name b.name x) (Some (word_sort_of b.kind)) (names x) t ∙ h) e in
-    (r.0, where_false (same_name b.name x) (Some b.kind) (kind_of bs x) t ∙ r.1, r.2, or_also (same_name x b.name) (is_among x (names_of bs)) r.3))
+    let r = scalar_kind bs (with_name b.name (Some (word_sort_of b.kind)) names) x c q.1 (cond-false (same_name b.name x) (Some (word_sort_of b.kind)) (names x) t ∙ h) e in
+    (r.0, cond-false (same_name b.name x) (Some b.kind) (kind_of bs x) t ∙ r.1, r.2, or_also (same_name x b.name) (is_among x (names_of bs)) r.3))
   where
     or_true : (a b : Bool) → a ≡ true → (a || b) ≡ true
     or_true true b e = refl
@@ -157,9 +157,9 @@ kind_scalar (b ∷ bs) names x k d e =
     (λ t.
     let same : b.name ≡ x = name_is b.name x t in
     let fresh : is_among x (names_of bs) ≡ false = subst (λ n. is_among n (names_of bs) ≡ false) same (not-true (is_among b.name (names_of bs)) q.0) in
-    let kind : b.kind ≡ k = some_is (sym (where_true (same_name b.name x) (Some b.kind) (kind_of bs x) t) ∙ e) in
-    not_among bs more x fresh ∙ where_true (same_name b.name x) (Some (word_sort_of b.kind)) (names x) t ∙ ap (λ j. Some (word_sort_of j)) kind)
-    (λ t. kind_scalar bs more x k q.1 (sym (where_false (same_name b.name x) (Some b.kind) (kind_of bs x) t) ∙ e))
+    let kind : b.kind ≡ k = some_is (sym (cond-true (same_name b.name x) (Some b.kind) (kind_of bs x) t) ∙ e) in
+    not_among bs more x fresh ∙ cond-true (same_name b.name x) (Some (word_sort_of b.kind)) (names x) t ∙ ap (λ j. Some (word_sort_of j)) kind)
+    (λ t. kind_scalar bs more x k q.1 (sym (cond-false (same_name b.name x) (Some b.kind) (kind_of bs x) t) ∙ e))
 
 -- where a body begins
 

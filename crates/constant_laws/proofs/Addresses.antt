@@ -2,8 +2,9 @@
 use Rattle.std.specs.Prelude.{◌/◌, ◌%◌}
 use Rattle.std.proofs.Common.{◌≡◌, ℕ, zero, suc, ◌+◌, ◌-◌, ◌*◌, ◌^◌, ◌<◌, ℤ, pos, negsuc, neg_ℤ, ◌+ℤ◌, ◌-ℤ◌, ◌*ℤ◌, refl, sym, ap, ap₂, ◌∙◌, arith}
 use Rattle.std.proofs.lemmas.Int.{ints}
-use Rattle.std.proofs.lemmas.Nat.{pow_pos}
-use Rattle.std.proofs.Math.IntN.{neg_ℤ-neg_ℤ, pos-*ℤ-pos, pos-*ℤ-negsuc}
+use Rattle.std.proofs.lemmas.Nat.{pow_pos, mod_below}
+use Rattle.std.proofs.Math.IntN.{neg_ℤ-neg_ℤ, pos-*ℤ-pos, pos-*ℤ-negsuc, +ℤ_comm}
+use Rattle.std.proofs.Math.Nat.{mul_assoc}
 use Rattle.c_values.specs.Word.{Word, IsWord, unsigned, word, word_op, Wadd, Wsub, Wmul}
 use Rattle.c_values.proofs.Modulo.{AreAlike, word_alike, word_small}
 use Rattle.c_values.proofs.WordValues.{word-unsigned}
@@ -14,13 +15,10 @@ split a d h = omega arith
 split_positive : (a d : ℕ) → 0 < d → pos (a % d) +ℤ pos (a / d * d) ≡ pos a +ℤ pos (0 * d)
 split_positive a d h = let e = split a d h in omega (arith, ints)
 
-rest_below : (a d : ℕ) → 0 < d → a % d < d
-rest_below a d h = omega arith
-
 split_negative : (a d : ℕ) → 0 < d → pos (d - 1 - a % d) +ℤ pos (0 * d) ≡ negsuc a +ℤ pos (suc (a / d) * d)
 split_negative a d h =
     let e = split a d h in
-    let r = rest_below a d h in
+    let r = mod_below a d h in
     let s : suc (a / d) * d ≡ d + a / d * d = omega arith in
     omega (arith, ints)
 
@@ -43,11 +41,8 @@ difference_again : (w : ℕ) (x n : ℤ) → word w (x -ℤ unsigned (word w n))
 difference_again w x n =
     let a = again w n in word_alike w (x -ℤ unsigned (word w n)) (x -ℤ n) (record { left = a.right; right = a.left; same = less_alike x (unsigned (word w n)) n (a.left * 2 ^ w) (a.right * 2 ^ w) a.same })
 
-swapped : (m n : ℤ) → m +ℤ n ≡ n +ℤ m
-swapped m n = omega (arith, ints)
-
 pub first_again : (w : ℕ) (n y : ℤ) → word w (unsigned (word w n) +ℤ y) ≡ word w (n +ℤ y)
-first_again w n y = ap (word w) (swapped (unsigned (word w n)) y) ∙ sum_again w y n ∙ ap (word w) (swapped y n)
+first_again w n y = ap (word w) (+ℤ_comm (unsigned (word w n)) y) ∙ sum_again w y n ∙ ap (word w) (+ℤ_comm y n)
 
 -- a multiple of both
 negative_sum : (m n c k : ℕ) → pos m +ℤ pos c ≡ negsuc n +ℤ pos k → m + c + suc n ≡ k
@@ -68,23 +63,20 @@ spread s a b c d e = let h : s * (a + b + c) ≡ s * d = ap (λ x. s * x) e in g
 spread_two : (s a b c d : ℕ) → a + b ≡ c + d → s * a + s * b ≡ s * c + s * d
 spread_two s a b c d e = let h : s * (a + b) ≡ s * (c + d) = ap (λ x. s * x) e in grind arith
 
-regroup : (s j d : ℕ) → s * j * d ≡ s * (j * d)
-regroup s j d = grind arith
-
 times_alike : (w s m : ℕ) (n : ℤ) → AreAlike w (pos m) n → AreAlike w (pos s *ℤ pos m) (pos s *ℤ n)
 times_alike w s m (pos n) h = record {
   left = s * h.left;
   right = s * h.right;
-  same = ap₂ (λ x y. x +ℤ pos y) (pos-*ℤ-pos s m) (regroup s h.left (2 ^ w))
+  same = ap₂ (λ x y. x +ℤ pos y) (pos-*ℤ-pos s m) (mul_assoc s h.left (2 ^ w))
       ∙ back_positive (s * m) (s * n) (s * (h.left * 2 ^ w)) (s * (h.right * 2 ^ w)) (spread_two s m (h.left * 2 ^ w) n (h.right * 2 ^ w) (positive_sum m n (h.left * 2 ^ w) (h.right * 2 ^ w) h.same))
-      ∙ sym (ap₂ (λ x y. x +ℤ pos y) (pos-*ℤ-pos s n) (regroup s h.right (2 ^ w)));
+      ∙ sym (ap₂ (λ x y. x +ℤ pos y) (pos-*ℤ-pos s n) (mul_assoc s h.right (2 ^ w)));
 }
 times_alike w s m (negsuc n) h = record {
   left = s * h.left;
   right = s * h.right;
-  same = ap₂ (λ x y. x +ℤ pos y) (pos-*ℤ-pos s m) (regroup s h.left (2 ^ w))
+  same = ap₂ (λ x y. x +ℤ pos y) (pos-*ℤ-pos s m) (mul_assoc s h.left (2 ^ w))
       ∙ back_negative (s * m) (s * suc n) (s * (h.left * 2 ^ w)) (s * (h.right * 2 ^ w)) (spread s m (h.left * 2 ^ w) (suc n) (h.right * 2 ^ w) (negative_sum m n (h.left * 2 ^ w) (h.right * 2 ^ w) h.same))
-      ∙ sym (ap₂ (λ x y. x +ℤ pos y) (pos-*ℤ-negsuc s n) (regroup s h.right (2 ^ w)));
+      ∙ sym (ap₂ (λ x y. x +ℤ pos y) (pos-*ℤ-negsuc s n) (mul_assoc s h.right (2 ^ w)));
 }
 
 -- so many bytes for a number of objects

@@ -5,6 +5,7 @@ use Rattle.std.proofs.Common.{◌≡◌, ℕ, zero, suc, ◌+◌, ◌*◌, ◌^�
 use Rattle.std.proofs.lemmas.Bool.{false≢true, and_parts, and_from, cond-true, le-leb, ltb-true, lt-ltb}
 use Rattle.std.proofs.lemmas.Int.{ints}
 use Rattle.std.proofs.Math.IntN.{+ℤ_assoc}
+use Rattle.std.specs.Cmp.{first_so, second_so}
 use Rattle.c_values.specs.Types.{Target, Ilp32, Lp64, IntType, CType, Integer, Void, Ptr, Struct, Array, width_of, address_width, is_signed}
 use Rattle.c_values.specs.Word.{Word, IsWord, unsigned, word, word_op, Wmul, Wand, Wor, Wxor}
 use Rattle.c_values.specs.Value as V
@@ -34,12 +35,6 @@ use Rattle.typing_rules.specs.Constant.{is_constant, is_constant_place, is_const
 use Rattle.constant_laws.specs.SameValue.{IsSameValue, plain, HasItsValue}
 use Rattle.constant_laws.proofs.Numbers.{HasNumber, Matches, and_then, mapped, chosen, of_number, of_same, negation_same, complement_same, sum_same, difference_same, product_same, quotient_same, remainder_same, combined_same, left_same, right_same, zero_same}
 use Rattle.constant_laws.proofs.Addresses.{first_again, moved_bytes, moved_on, moved_back}
-
-first : (a b : Bool) → (a && b) ≡ true → a ≡ true
-first a b h = (and_parts a b h).0
-
-second : (a b : Bool) → (a && b) ≡ true → b ≡ true
-second a b h = (and_parts a b h).1
 
 -- ---- parts of an object are objects
 
@@ -76,7 +71,7 @@ small_space Ilp32 n h = omega (arith, lit< {m = 65536} {n = 2 ^ 32} tt)
 small_space Lp64 n h = omega (arith, lit< {m = 65536} {n = 2 ^ 64} tt)
 
 object_small : (l : Layout) (t : CType) → is_object l t ≡ true → size_of l t < 2 ^ address_width l.target
-object_small l t h = small_space l.target (size_of l t) (leb-true (size_of l t) largest_size (second _ _ h))
+object_small l t h = small_space l.target (size_of l t) (leb-true (size_of l t) largest_size (second_so _ _ h))
 
 -- an int of a truth value
 truth_same : (l : Layout) (t u : Bool) → t ≡ u → HasNumber true 32 (F.truth t) (int_of l u)
@@ -275,7 +270,7 @@ module _ (g : Scope) (layout : IsLayout g.layout) (locals : Env) (st : State) wh
       by_steps p o (Ok ps) h = in_bounds p ps o (are_in_bounds path ps) h
 
   object_part : (t : CType) → is_object g.layout t ≡ true → IsPart (shape_of g.layout t)
-  object_part t h = ((shape_good l layout t (object_whole l t h)).formed, leb-true (size_of l t) largest_size (second _ _ h))
+  object_part t h = ((shape_good l layout t (object_whole l t h)).formed, leb-true (size_of l t) largest_size (second_so _ _ h))
 
   row_part : (s : Shape) (n : ℕ) → IsPart (Row s n) → IsPart s
   row_part s n h = (h.0.element, element_size n (size s) largest_size h.0.some h.1)
@@ -294,81 +289,81 @@ module _ (g : Scope) (layout : IsLayout g.layout) (locals : Env) (st : State) wh
     same (C.Constant i n) h k = of_number (is_signed i) (width_of l.target i) (some i) n h
     same (C.Local x t) h k = absurd (false≢true k)
     same (C.Value p) h k = absurd (false≢true k)
-    same (C.Convert t a) h k = mapped _ _ _ _ (folded l a) (value c a) (F.number_at l t) (M.converted l t (C.type_of a)) (same a (second _ _ (second _ _ h)) k) (λ v q. converted_same t (C.type_of a) v (first _ _ h))
-    same (C.ConvertNull t a) h k = mapped _ _ _ _ (folded l a) (value c a) (F.number_at l t) (M.converted l t (C.type_of a)) (same a (second _ _ (second _ _ h)) k) (λ v q. converted_same t (C.type_of a) v (first _ _ h))
+    same (C.Convert t a) h k = mapped _ _ _ _ (folded l a) (value c a) (F.number_at l t) (M.converted l t (C.type_of a)) (same a (second_so _ _ (second_so _ _ h)) k) (λ v q. converted_same t (C.type_of a) v (first_so _ _ h))
+    same (C.ConvertNull t a) h k = mapped _ _ _ _ (folded l a) (value c a) (F.number_at l t) (M.converted l t (C.type_of a)) (same a (second_so _ _ (second_so _ _ h)) k) (λ v q. converted_same t (C.type_of a) v (first_so _ _ h))
     same (C.Negate i a) h k =
-        and_then _ _ _ _ (folded l a) (value c a) (λ n. F.negated l i n) (λ v. M.fitted l c.level i (neg_ℤ (M.number_at i v))) (as_type (Integer i) a (first _ _ h) (same a (second _ _ h) k))
+        and_then _ _ _ _ (folded l a) (value c a) (λ n. F.negated l i n) (λ v. M.fitted l c.level i (neg_ℤ (M.number_at i v))) (as_type (Integer i) a (first_so _ _ h) (same a (second_so _ _ h) k))
         (λ v q. negation_same (is_signed i) (width_of l.target i) (some i) (V.word_in v) (word_at (Integer i) v q))
     same (C.Complement i a) h k =
-        mapped _ _ _ _ (folded l a) (value c a) (F.complement l i) _ (as_type (Integer i) a (first _ _ h) (same a (second _ _ h) k))
+        mapped _ _ _ _ (folded l a) (value c a) (F.complement l i) _ (as_type (Integer i) a (first_so _ _ h) (same a (second_so _ _ h) k))
         (λ v q. complement_same (is_signed i) (width_of l.target i) (some i) (V.word_in v) (word_at (Integer i) v q))
     same (C.Compute op i a b) h k =
-        let left = as_type (Integer i) a (first _ _ (first _ _ h)) (same a (second _ _ (first _ _ h)) (first _ _ k)) in
-        let right = as_type (Integer i) b (first _ _ (second _ _ h)) (same b (second _ _ (second _ _ h)) (second _ _ k)) in
+        let left = as_type (Integer i) a (first_so _ _ (first_so _ _ h)) (same a (second_so _ _ (first_so _ _ h)) (first_so _ _ k)) in
+        let right = as_type (Integer i) b (first_so _ _ (second_so _ _ h)) (same b (second_so _ _ (second_so _ _ h)) (second_so _ _ k)) in
         and_then _ _ _ _ (folded l a) (value c a) _ _ left (λ v q.
         and_then _ _ _ _ (folded l b) (value c b) (λ n. F.computed l op i (number_by (is_signed i) (V.word_in v)) n) (λ z. M.computed l c.level i op (M.number_at i v) (M.number_at i z)) right (λ z r.
         computed_same i op (V.word_in v) (V.word_in z) (word_at (Integer i) v q) (word_at (Integer i) z r)))
     same (C.Combine op i a b) h k =
-        let left = as_type (Integer i) a (first _ _ (first _ _ h)) (same a (second _ _ (first _ _ h)) (first _ _ k)) in
-        let right = as_type (Integer i) b (first _ _ (second _ _ h)) (same b (second _ _ (second _ _ h)) (second _ _ k)) in
+        let left = as_type (Integer i) a (first_so _ _ (first_so _ _ h)) (same a (second_so _ _ (first_so _ _ h)) (first_so _ _ k)) in
+        let right = as_type (Integer i) b (first_so _ _ (second_so _ _ h)) (same b (second_so _ _ (second_so _ _ h)) (second_so _ _ k)) in
         and_then _ _ _ _ (folded l a) (value c a) _ _ left (λ v q.
         mapped _ _ _ _ (folded l b) (value c b) (λ n. F.combined l op i (number_by (is_signed i) (V.word_in v)) n) (λ z. M.combined op (V.word_in v) (V.word_in z)) right (λ z r.
         bitwise_same i op (V.word_in v) (V.word_in z) (word_at (Integer i) v q) (word_at (Integer i) z r)))
     same (C.Shift d i a b) h k =
-        let left = as_type (Integer i) a (first _ _ (first _ _ h)) (same a (second _ _ (first _ _ h)) (first _ _ k)) in
+        let left = as_type (Integer i) a (first_so _ _ (first_so _ _ h)) (same a (second_so _ _ (first_so _ _ h)) (first_so _ _ k)) in
         and_then _ _ _ _ (folded l a) (value c a) _ _ left (λ v q.
-        and_then _ _ _ _ (folded l b) (value c b) (λ n. F.shifted l d i (number_by (is_signed i) (V.word_in v)) n) (λ z. M.shifted l i d (M.number_at i v) (number_of_type (C.type_of b) z)) (same b (second _ _ (second _ _ h)) (second _ _ k)) (λ z r.
+        and_then _ _ _ _ (folded l b) (value c b) (λ n. F.shifted l d i (number_by (is_signed i) (V.word_in v)) n) (λ z. M.shifted l i d (M.number_at i v) (number_of_type (C.type_of b) z)) (same b (second_so _ _ (second_so _ _ h)) (second_so _ _ k)) (λ z r.
         subst (λ n. Matches (is_signed i) (width_of l.target i) (F.shifted l d i (number_by (is_signed i) (V.word_in v)) (number_by (is_signed_type (C.type_of b)) (V.word_in z))) (M.shifted l i d (M.number_at i v) n))
         (sym (number_of_type_is (C.type_of b) z)) (shifted_same i d (V.word_in v) (number_by (is_signed_type (C.type_of b)) (V.word_in z)) (word_at (Integer i) v q))))
     same (C.Compare r i a b) h k =
-        let left = as_type (Integer i) a (first _ _ (first _ _ h)) (same a (second _ _ (first _ _ h)) (first _ _ k)) in
-        let right = as_type (Integer i) b (first _ _ (second _ _ h)) (same b (second _ _ (second _ _ h)) (second _ _ k)) in
+        let left = as_type (Integer i) a (first_so _ _ (first_so _ _ h)) (same a (second_so _ _ (first_so _ _ h)) (first_so _ _ k)) in
+        let right = as_type (Integer i) b (first_so _ _ (second_so _ _ h)) (same b (second_so _ _ (second_so _ _ h)) (second_so _ _ k)) in
         and_then _ _ _ _ (folded l a) (value c a) _ _ left (λ v q.
         mapped _ _ _ _ (folded l b) (value c b) (λ n. F.truth (F.compares r (number_by (is_signed i) (V.word_in v)) n)) (λ z. int_of l (M.compares r (M.number_at i v) (M.number_at i z))) right (λ z p.
         truth_same l _ _ (compares_same r _ _)))
     same (C.Equate e t a b) h k =
-        let left = as_type t a (first _ _ (second _ _ (first _ _ h))) (same a (second _ _ (second _ _ (first _ _ h))) (first _ _ k)) in
-        let right = as_type t b (first _ _ (second _ _ h)) (same b (second _ _ (second _ _ h)) (second _ _ k)) in
+        let left = as_type t a (first_so _ _ (second_so _ _ (first_so _ _ h))) (same a (second_so _ _ (second_so _ _ (first_so _ _ h))) (first_so _ _ k)) in
+        let right = as_type t b (first_so _ _ (second_so _ _ h)) (same b (second_so _ _ (second_so _ _ h)) (second_so _ _ k)) in
         and_then _ _ _ _ (folded l a) (value c a) _ _ left (λ v q.
         mapped _ _ _ _ (folded l b) (value c b) (λ n. F.truth (F.equates e (number_by (is_signed_type t) (V.word_in v)) n)) (λ z. int_of l (M.equates e (number_of_type t v) (number_of_type t z))) right (λ z p.
         truth_same l _ _ (equates_same e _ _ ∙ ap₂ (M.equates e) (sym (number_of_type_is t v)) (sym (number_of_type_is t z)))))
     same (C.Not a) h k =
-        mapped _ _ _ _ (folded l a) (value c a) (λ n. F.truth (not (F.is_true n))) (λ v. int_of l (not (is_true v))) (same a (second _ _ h) k) (λ v q. truth_same l _ _ (ap not (nonzero a v q)))
+        mapped _ _ _ _ (folded l a) (value c a) (λ n. F.truth (not (F.is_true n))) (λ v. int_of l (not (is_true v))) (same a (second_so _ _ h) k) (λ v q. truth_same l _ _ (ap not (nonzero a v q)))
     same (C.And a b) h k =
-        and_then _ _ _ _ (folded l a) (value c a) _ _ (same a (second _ _ (first _ _ h)) (first _ _ k)) (λ v q.
-        chosen true 32 _ _ _ _ _ _ (nonzero a v q) (tested b (same b (second _ _ (second _ _ h)) (second _ _ k))) (truth_same l false false refl))
+        and_then _ _ _ _ (folded l a) (value c a) _ _ (same a (second_so _ _ (first_so _ _ h)) (first_so _ _ k)) (λ v q.
+        chosen true 32 _ _ _ _ _ _ (nonzero a v q) (tested b (same b (second_so _ _ (second_so _ _ h)) (second_so _ _ k))) (truth_same l false false refl))
     same (C.Or a b) h k =
-        and_then _ _ _ _ (folded l a) (value c a) _ _ (same a (second _ _ (first _ _ h)) (first _ _ k)) (λ v q.
-        chosen true 32 _ _ _ _ _ _ (nonzero a v q) (truth_same l true true refl) (tested b (same b (second _ _ (second _ _ h)) (second _ _ k))))
+        and_then _ _ _ _ (folded l a) (value c a) _ _ (same a (second_so _ _ (first_so _ _ h)) (first_so _ _ k)) (λ v q.
+        chosen true 32 _ _ _ _ _ _ (nonzero a v q) (truth_same l true true refl) (tested b (same b (second_so _ _ (second_so _ _ h)) (second_so _ _ k))))
     same (C.Choose t e a b) h k =
-        let j = first _ _ h in
-        and_then _ _ _ _ (folded l e) (value c e) _ _ (same e (second _ _ (second _ _ (first _ _ j))) (first _ _ (first _ _ k))) (λ v q.
-        chosen _ _ _ _ _ _ _ _ (nonzero e v q) (as_type t a (first _ _ (second _ _ j)) (same a (second _ _ (second _ _ j)) (second _ _ (first _ _ k))))
-        (as_type t b (first _ _ (second _ _ h)) (same b (second _ _ (second _ _ h)) (second _ _ k))))
+        let j = first_so _ _ h in
+        and_then _ _ _ _ (folded l e) (value c e) _ _ (same e (second_so _ _ (second_so _ _ (first_so _ _ j))) (first_so _ _ (first_so _ _ k))) (λ v q.
+        chosen _ _ _ _ _ _ _ _ (nonzero e v q) (as_type t a (first_so _ _ (second_so _ _ j)) (same a (second_so _ _ (second_so _ _ j)) (second_so _ _ (first_so _ _ k))))
+        (as_type t b (first_so _ _ (second_so _ _ h)) (same b (second_so _ _ (second_so _ _ h)) (second_so _ _ k))))
     same (C.Move s t p a) h k =
-        let j = first _ _ h in
-        let root = as_type (Ptr t) p (first _ _ (second _ _ j)) (same p (second _ _ (second _ _ j)) (first _ _ k)) in
+        let j = first_so _ _ h in
+        let root = as_type (Ptr t) p (first_so _ _ (second_so _ _ j)) (same p (second_so _ _ (second_so _ _ j)) (first_so _ _ k)) in
         and_then _ _ _ _ (folded l p) (value c p) _ _ root (λ v q.
-        mapped _ _ _ _ (folded l a) (value c a) (λ n. F.moved l s t (unsigned (V.word_in v)) n) (λ z. E.moved l (V.word_in v) (pos (size_of l t) *ℤ M.signed_offset s (number_of_type (C.type_of a) z))) (same a (second _ _ (second _ _ h)) (second _ _ k)) (λ z r.
+        mapped _ _ _ _ (folded l a) (value c a) (λ n. F.moved l s t (unsigned (V.word_in v)) n) (λ z. E.moved l (V.word_in v) (pos (size_of l t) *ℤ M.signed_offset s (number_of_type (C.type_of a) z))) (same a (second_so _ _ (second_so _ _ h)) (second_so _ _ k)) (λ z r.
         subst (λ n. HasNumber false A (F.moved l s t (unsigned (V.word_in v)) (number_by (is_signed_type (C.type_of a)) (V.word_in z))) (E.moved l (V.word_in v) (pos (size_of l t) *ℤ M.signed_offset s n))) (sym (number_of_type_is (C.type_of a) z))
-        (moved_same s t (V.word_in v) (number_by (is_signed_type (C.type_of a)) (V.word_in z)) (first _ _ j) (word_at (Ptr t) v q))))
+        (moved_same s t (V.word_in v) (number_by (is_signed_type (C.type_of a)) (V.word_in z)) (first_so _ _ j) (word_at (Ptr t) v q))))
     same (C.MoveBy t a p) h k =
-        let j = first _ _ h in
-        let root = as_type (Ptr t) p (first _ _ (second _ _ h)) (same p (second _ _ (second _ _ h)) (second _ _ k)) in
-        and_then _ _ _ _ (folded l a) (value c a) _ _ (same a (second _ _ (second _ _ j)) (first _ _ k)) (λ z r.
+        let j = first_so _ _ h in
+        let root = as_type (Ptr t) p (first_so _ _ (second_so _ _ h)) (same p (second_so _ _ (second_so _ _ h)) (second_so _ _ k)) in
+        and_then _ _ _ _ (folded l a) (value c a) _ _ (same a (second_so _ _ (second_so _ _ j)) (first_so _ _ k)) (λ z r.
         mapped _ _ _ _ (folded l p) (value c p) (λ m. F.moved l C.Plus t m (number_by (is_signed_type (C.type_of a)) (V.word_in z))) (λ v. E.moved l (V.word_in v) (pos (size_of l t) *ℤ number_of_type (C.type_of a) z)) root (λ v q.
         subst (λ n. HasNumber false A (F.moved l C.Plus t (unsigned (V.word_in v)) (number_by (is_signed_type (C.type_of a)) (V.word_in z))) (E.moved l (V.word_in v) (pos (size_of l t) *ℤ n))) (sym (number_of_type_is (C.type_of a) z))
-        (moved_same C.Plus t (V.word_in v) (number_by (is_signed_type (C.type_of a)) (V.word_in z)) (first _ _ j) (word_at (Ptr t) v q))))
-    same (C.Address p t) h k = address_same p (second _ _ (first _ _ h)) k
-    same (C.Decay p t) h k = address_same p (second _ _ (first _ _ h)) k
+        (moved_same C.Plus t (V.word_in v) (number_by (is_signed_type (C.type_of a)) (V.word_in z)) (first_so _ _ j) (word_at (Ptr t) v q))))
+    same (C.Address p t) h k = address_same p (second_so _ _ (first_so _ _ h)) k
+    same (C.Decay p t) h k = address_same p (second_so _ _ (first_so _ _ h)) k
 
     address_same : (p : C.Place) → is_typed_place g p ≡ true → is_constant_place p ≡ true → Matches false A (address g.layout p) (located c p >>= λ s. Ok (address_of c s))
     address_same (C.Through t p path u) h k =
-        let j = first _ _ h in
-        let i = first _ _ j in
-        let e = end_of (shape_along (Some (shape_of l t)) path) u (second _ _ h) in
-        place_same t path (folded l p) (value c p) (as_type (Ptr t) p (first _ _ (second _ _ i)) (same p (second _ _ (second _ _ i)) (first _ _ k)))
-        (λ y. path_same path (second _ _ j) (second _ _ k) (shape_of l t) e.0 (object_part t (first _ _ i)) e.1 y)
+        let j = first_so _ _ h in
+        let i = first_so _ _ j in
+        let e = end_of (shape_along (Some (shape_of l t)) path) u (second_so _ _ h) in
+        place_same t path (folded l p) (value c p) (as_type (Ptr t) p (first_so _ _ (second_so _ _ i)) (same p (second_so _ _ (second_so _ _ i)) (first_so _ _ k)))
+        (λ y. path_same path (second_so _ _ j) (second_so _ _ k) (shape_of l t) e.0 (object_part t (first_so _ _ i)) e.1 y)
     address_same (C.InGlobal x path u) h k = absurd (false≢true k)
 
     path_same : (path : C.Path) → are_typed_indices g path ≡ true → is_constant_path path ≡ true → (r q : Shape) → IsPart r → shape_along (Some r) path ≡ Some q → (x : ℤ) →
@@ -388,7 +383,7 @@ module _ (g : Scope) (layout : IsLayout g.layout) (locals : Env) (st : State) wh
     path_same (C.Element n i path) h k (Row r m) q part e x =
         let d = into_row n m r path q e in
         subst (λ z. PathSame x (Row r m) (C.Element z i path) (indexed c (C.Element z i path)) (reached l (C.Element z i path) (Row r m) (unsigned (word A x)))) (sym d.0)
-        (index_step x r m path i part (λ y. path_same path (second _ _ h) (second _ _ k) r q (row_part r m part) d.1 y) (folded l i) (value c i) (same i (second _ _ (first _ _ h)) (first _ _ k)))
+        (index_step x r m path i part (λ y. path_same path (second_so _ _ h) (second_so _ _ k) r q (row_part r m part) d.1 y) (folded l i) (value c i) (same i (second_so _ _ (first_so _ _ h)) (first_so _ _ k)))
     path_same (C.Member m path) h k Incomplete q part e x = absurd (none_is_none e)
     path_same (C.Member m path) h k (Scalar u w) q part e x = absurd (none_is_none e)
     path_same (C.Member m path) h k (Row r n) q part e x = absurd (none_is_none e)

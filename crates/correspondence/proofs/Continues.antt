@@ -1,5 +1,6 @@
 -- Runs at a larger bound, put together.
 use Rattle.std.proofs.Common.{ℕ, zero, suc, ◌≤◌, Option, Some, None, Bool, true, false, List, [], ◌∷◌, ◌⊎◌, inl, inr, arith}
+use Rattle.std.proofs.Math.Bridge.{unsuc}
 use Rattle.correspondence.specs.Outcome.{Turns, Depth, Done, Failed, Ends, done, stop, Then, goes_on, fails, choose, continued, loop}
 use Rattle.correspondence.specs.Bound.{Functions, called, below}
 use Rattle.correspondence.specs.OneEnd.{Continues, Deeper, AllContinue}
@@ -43,9 +44,6 @@ module _ {Call A' F' X A F : Type 0} (enter : X → Ends (X ⊎ A) F) (body body
       then_continues _ _ _ _ (continues_itself _) (continued_continues _ _ (λ y.
       then_continues _ _ _ _ (turn fs gs h.1 y) (continued_continues _ _ (loop_continues fs gs h.1))))
 
-lower : {d e : ℕ} → suc d ≤ suc e → d ≤ e
-lower h = omega arith
-
 pub called_continues : {Call A F : Type 0} (fs gs : List (Functions Call A F)) → AllContinue fs gs → (d e : Option ℕ) → Deeper d e → (c : Call) → Continues (called fs d c) (called gs e c)
 called_continues [] gs h d e k c = continues_stop Turns _
 called_continues (f ∷ fs) [] h d e k c = absurd h
@@ -54,7 +52,7 @@ called_continues (f ∷ fs) (g ∷ gs) h None (Some e) k c = absurd k
 called_continues (f ∷ fs) (g ∷ gs) h (Some zero) e k c = continues_stop Depth _
 called_continues (f ∷ fs) (g ∷ gs) h (Some (suc d)) None k c = h.0 (Some d) None c tt
 called_continues (f ∷ fs) (g ∷ gs) h (Some (suc d)) (Some zero) k c = absurd (omega (arith, k))
-called_continues (f ∷ fs) (g ∷ gs) h (Some (suc d)) (Some (suc e)) k c = h.0 (Some d) (Some e) c (lower k)
+called_continues (f ∷ fs) (g ∷ gs) h (Some (suc d)) (Some (suc e)) k c = h.0 (Some d) (Some e) c (unsuc k)
 
 -- functions whose bodies go on over functions that go on do so at every larger bound
 module _ {Call A F : Type 0} (bodies : List (Functions Call A F) → Functions Call A F)
@@ -63,4 +61,4 @@ module _ {Call A F : Type 0} (bodies : List (Functions Call A F) → Functions C
   below_continues zero n h = tt
   below_continues (suc m) zero h = absurd (omega arith)
   below_continues (suc m) (suc n) h =
-      let k : AllContinue (below bodies m) (below bodies n) = below_continues m n (lower h) in (go_on _ _ k, k)
+      let k : AllContinue (below bodies m) (below bodies n) = below_continues m n (unsuc h) in (go_on _ _ k, k)

@@ -1,6 +1,6 @@
 -- A well-sorted expression can be evaluated, and its value is of its sort.
 use Rattle.std.proofs.Common.{◌≡◌, ℕ, ◌^◌, ◌==◌, ◌⊎◌, nat_lt, Bool, true, false, not, cond, ◌&&◌, ◌||◌, List, Option, Some, None, ℤ, pos, negsuc, ◌*ℤ◌, ◌-◌, inl, inr, refl, sym, ap, ◌∙◌, subst}
-use Rattle.std.proofs.lemmas.Bool.{and_parts, ltb-true, eqb-true}
+use Rattle.std.proofs.lemmas.Bool.{and_parts, ltb-true, eqb-true, or_cases}
 use Rattle.std.specs.Prelude.{IsSome, bit_and, bit_or, bit_xor, int_lt, neg_ℤ, ◌-ℤ◌, ◌+ℤ◌}
 use Rattle.std.specs.Int.{int_div_euclid}
 use Rattle.c_values.specs.Name.{Name}
@@ -82,15 +82,11 @@ cast_word X.Zext n a = is_word n (unsigned a)
 cast_word X.Sext n a = is_word n (signed a)
 cast_word X.Trunc n a = is_word n (unsigned a)
 
-or_true : (a b : Bool) → (a || b) ≡ true → (a ≡ true) ⊎ (b ≡ true)
-or_true true b h = inl refl
-or_true false b h = inr h
-
 pub width_of_test : (n : ℕ) → is_width n ≡ true → IsWidth n
 width_of_test n h =
-    elim (or_true (((n == 8) || (n == 16)) || (n == 32)) (n == 64) h) [
-      | inl a ↦ elim (or_true ((n == 8) || (n == 16)) (n == 32) a) [
-        | inl b ↦ elim (or_true (n == 8) (n == 16) b) [
+    elim (or_cases (((n == 8) || (n == 16)) || (n == 32)) (n == 64) h) [
+      | inl a ↦ elim (or_cases ((n == 8) || (n == 16)) (n == 32) a) [
+        | inl b ↦ elim (or_cases (n == 8) (n == 16) b) [
           | inl c ↦ inl (eqb-true n 8 c)
           | inr c ↦ inr (inl (eqb-true n 16 c))
         ]

@@ -12,10 +12,6 @@ use Rattle.ac_expr.proofs.Itself.{exp_itself}
 found_same : (a b : Exp) → a ≡ b → same_exp a b ≡ true
 found_same a b e = subst (λ x. same_exp a x ≡ true) e (exp_itself a)
 
-either_true : (a b : Bool) → (a || b) ≡ true → (a ≡ true) ⊎ (b ≡ true)
-either_true true b h = inl refl
-either_true false b h = inr h
-
 sum : {P Q : Type 0} (a b : Bool) → (a ≡ true → P) → (b ≡ true → Q) → (a || b) ≡ true → P ⊎ Q
 sum true b f g h = inl (f refl)
 sum false b f g h = inr (g h)

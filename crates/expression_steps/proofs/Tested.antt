@@ -2,6 +2,7 @@
 use Rattle.std.proofs.Common.{◌≡◌, ℕ, zero, suc, ◌-◌, ◌^◌, ◌==◌, Bool, true, false, List, ℤ, pos, negsuc, neg_ℤ, ◌↔◌, IsTrue, refl, sym, ap, ap₂, ◌∙◌, subst, arith}
 use Rattle.std.proofs.lemmas.Bool.{ne_eqb}
 use Rattle.std.specs.Prelude.{unsigned_abs}
+use Rattle.std.specs.Cmp.{both_ways}
 use Rattle.c_values.specs.Number.{least, greatest}
 use Rattle.expression_lang.specs.Expression.{Exp, NumberLit, Between}
 use Rattle.ac_expr.specs.Fact.{Fact}
@@ -13,19 +14,13 @@ use Rattle.expression_steps.specs.Known.{is_known}
 use Rattle.expression_steps.specs.Shortened.{where_true, shorter_sum}
 use Rattle.expression_steps.proofs.KnownIs.{known_exactly}
 
--- a truth value that is true exactly where another one is
-as_other : (b c : Bool) → (b ≡ true → c ≡ true) → (c ≡ true → b ≡ true) → b ≡ c
-as_other true c h k = sym (h refl)
-as_other false true h k = k refl
-as_other false false h k = refl
-
 pub known_tested : (fs : List Fact) (e : Exp) (b : Bool) → IsTrue b ↔ IsKnown fs e → b ≡ is_known fs e
 known_tested fs e b h =
-    as_other b (is_known fs e) (λ k. (known_exactly fs e).1 (h.0 k)) (λ k. h.1 ((known_exactly fs e).0 k))
+    both_ways b (is_known fs e) (λ k. (known_exactly fs e).1 (h.0 k)) (λ k. h.1 ((known_exactly fs e).0 k))
 
 pub same_tested : (x y : Exp) (b : Bool) → IsTrue b ↔ (x ≡ y) → b ≡ same_exp x y
 same_tested x y b h =
-    as_other b (same_exp x y) (λ k. subst (λ z. same_exp x z ≡ true) (h.0 k) (exp_itself x)) (λ k. h.1 (exp_is x y k))
+    both_ways b (same_exp x y) (λ k. subst (λ z. same_exp x z ≡ true) (h.0 k) (exp_itself x)) (λ k. h.1 (exp_is x y k))
 
 pub sum_tested : (a : Exp) (n : ℤ) → where_true (unsigned_abs n == 0) a ≡ shorter_sum a (NumberLit n)
 sum_tested a (pos zero) = refl

@@ -1,6 +1,6 @@
 -- Lists of parts are read as the parts that their trees are of.
 use Rattle.std.proofs.Common.{◌≡◌, ℕ, Bool, true, false, cond, not, ◌&&◌, ◌||◌, List, [], ◌∷◌, ◌++◌, map, Ok, Err, refl, ap, ap₂, sym, ◌∙◌, if◌then◌else◌}
-use Rattle.std.proofs.lemmas.Bool.{and_parts, and_from, cond-false, false≢true}
+use Rattle.std.proofs.lemmas.Bool.{and_parts, and_from, cond-false, false≢true, not-true, not_from_false}
 use Rattle.std.proofs.lemmas.List.Folds.{list_any-append}
 use Rattle.c_values.specs.Name.{Name, same_name, is_among, are_distinct}
 use Rattle.ac_sx.specs.Tree.{Tree, Trees, Atom, Node, no_trees, more}
@@ -92,20 +92,13 @@ new_is before (x ∷ xs) =
 pub new_distinct : (xs : List Name) → are_new [] xs ≡ are_distinct xs
 new_distinct xs = new_is [] xs ∙ ap (λ b. b && are_distinct xs) (none_of_none xs)
 
-not_true : (b : Bool) → not b ≡ true → b ≡ false
-not_true true e = absurd (false≢true e)
-not_true false e = refl
-
-true_not : (b : Bool) → b ≡ false → not b ≡ true
-true_not b e = ap not e
-
 pub named_reads : {A : Type 0} (name : A → Name) (read : List Name → ℕ → Tree → Read A) (tree : A → Tree) (test : A → Bool) → ((before : List Name) (x : A) → test x ≡ true → is_among (name x) before ≡ false → IsReadAs (read before) (tree x) x) →
     (before : List Name) (xs : List A) → each test xs ≡ true → are_new before (map name xs) ≡ true → AreReadAs (named_at name read before) (trees_for tree xs) xs
 named_reads name read tree test h before [] is new = λ at. refl
 named_reads name read tree test h before (x ∷ xs) is new = λ at.
     let p = and_parts (test x) (each test xs) is in
     let q = and_parts (not (is_among (name x) before)) (are_new (before ++ name x ∷ []) (map name xs)) new in
-    ap (λ r. r >>= λ y. named_at name read (before ++ name y.0 ∷ []) y.1 (trees_for tree xs) >>= λ z. Ok (y.0 ∷ z.0, z.1)) (h before x p.0 (not_true (is_among (name x) before) q.0) at)
+    ap (λ r. r >>= λ y. named_at name read (before ++ name y.0 ∷ []) y.1 (trees_for tree xs) >>= λ z. Ok (y.0 ∷ z.0, z.1)) (h before x p.0 (not-true (is_among (name x) before) q.0) at)
     ∙ ap (λ r. r >>= λ z. Ok (x ∷ z.0, z.1)) (named_reads name read tree test h (before ++ name x ∷ []) xs p.1 q.1 (behind at (tree x)))
 
 abbrev pub AreNamed : {A : Type 0} → (A → Name) → (A → Tree) → (A → Bool) → List Name → Trees → List A → Type 0
@@ -126,7 +119,7 @@ named_spells name read tree test h before (more t ts) at xs n e =
     named_moved name tree test before (more t ts) (x.0 ∷ y.0) xs (value_ok (x.0 ∷ y.0) y.1 xs n last) (
       ap₂ more p.0 q.0,
       and_from (test x.0) (each test y.0) p.1 q.1,
-      and_from (not (is_among (name x.0) before)) (are_new (before ++ name x.0 ∷ []) (map name y.0)) (true_not (is_among (name x.0) before) p.2) q.2,
+      and_from (not (is_among (name x.0) before)) (are_new (before ++ name x.0 ∷ []) (map name y.0)) (not_from_false (is_among (name x.0) before) p.2) q.2,
     )
 
 -- expressions

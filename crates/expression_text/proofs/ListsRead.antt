@@ -1,6 +1,6 @@
 -- One part more of a list.
 use Rattle.std.proofs.Common.{◌≡◌, ℕ, ◌+◌, ◌<◌, List, [], ◌∷◌, ◌++◌, length, get_or, drop, map, Ok, Err, refl, ap, ap₂, sym, ◌∙◌, append_assoc}
-use Rattle.std.proofs.lemmas.List.{at_drop_more}
+use Rattle.std.proofs.lemmas.List.{at_drop_more, map_push}
 use Rattle.c_values.specs.Name.{Name}
 use Rattle.ac_sx.specs.declared.sx.Sx as S
 use Rattle.ac_sx.specs.Tree.{Tree, more}
@@ -18,15 +18,11 @@ made_more : {A : Type 0} (before : List A) (x : A) (r : Read (List A)) → made 
 made_more before x (Ok (ys, n)) = ap (λ zs. Ok (zs, n)) (append_assoc before (x ∷ []) ys)
 made_more before x (Err n) = refl
 
-mapped : {X A : Type 0} (view : X → A) (xs : List X) (x : X) → map view (xs ++ x ∷ []) ≡ map view xs ++ view x ∷ []
-mapped view [] x = refl
-mapped view (y ∷ ys) x = ap (λ zs. view y ∷ zs) (mapped view ys x)
-
 pub list_more : {X A : Type 0} (view : X → A) (read : ℕ → Tree → Read A) (before now : List X) (a : X) (at behind : ℕ) (xs : List S.Sx) (k : ℕ) (x : S.Sx) (whole : Read (List A)) → k < length xs → x ≡ get_or xs k x → now ≡ before ++ a ∷ [] → read at (tree_of x) ≡ Ok (view a, behind) →
     made (λ ys. map view before ++ ys) (list_at read at (trees_in (drop k xs))) ≡ whole → made (λ ys. map view now ++ ys) (list_at read behind (trees_in (drop (k + 1) xs))) ≡ whole
 list_more view read before now a at behind xs k x whole lt is pushed given so_far =
     let others = trees_in (drop (k + 1) xs) in
-    ap (λ bs. made (λ ys. bs ++ ys) (list_at read behind others)) (ap (map view) pushed ∙ mapped view before a)
+    ap (λ bs. made (λ ys. bs ++ ys) (list_at read behind others)) (ap (map view) pushed ∙ map_push view before a)
     ∙ made_more (map view before) (view a) (list_at read behind others)
     ∙ ap (λ r. made (λ ys. map view before ++ ys) (r >>= λ z. list_at read z.1 others >>= λ y. Ok (z.0 ∷ y.0, y.1))) (sym given)
     ∙ ap (λ ts. made (λ ys. map view before ++ ys) (list_at read at ts)) (sym (parted xs k x lt is))
@@ -38,7 +34,7 @@ pub named_more : {X A : Type 0} (view : X → A) (name : A → Name) (read : Lis
 named_more view name read before now a at behind xs k x whole lt is pushed given so_far =
     let others = trees_in (drop (k + 1) xs) in
     ap (λ bs. made (λ ys. map view bs ++ ys) (named_at name read (map (λ y. name (view y)) bs) behind others)) pushed
-    ∙ ap₂ (λ vs ns. made (λ ys. vs ++ ys) (named_at name read ns behind others)) (mapped view before a) (mapped (λ y. name (view y)) before a)
+    ∙ ap₂ (λ vs ns. made (λ ys. vs ++ ys) (named_at name read ns behind others)) (map_push view before a) (map_push (λ y. name (view y)) before a)
     ∙ made_more (map view before) (view a) (named_at name read (map (λ y. name (view y)) before ++ name (view a) ∷ []) behind others)
     ∙ ap (λ r. made (λ ys. map view before ++ ys) (r >>= λ z. named_at name read (map (λ y. name (view y)) before ++ name z.0 ∷ []) z.1 others >>= λ y. Ok (z.0 ∷ y.0, y.1))) (sym given)
     ∙ ap (λ ts. made (λ ys. map view before ++ ys) (named_at name read (map (λ y. name (view y)) before) at ts)) (sym (parted xs k x lt is))

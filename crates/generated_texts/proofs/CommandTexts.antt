@@ -1,6 +1,7 @@
 -- What is generated for a statement has a text.
 use Rattle.std.proofs.Common.{◌≡◌, ℕ, Bool, true, false, ◌&&◌, List, [], ◌∷◌, Option, Some, None, ℤ, inl, inr, refl}
 use Rattle.std.proofs.lemmas.Bool.{false≢true, and_from}
+use Rattle.std.specs.Cmp.{first_so, second_so}
 use Rattle.c_values.specs.Name.{Name}
 use Rattle.c_values.specs.Types.{Target, IntType, CType}
 use Rattle.c_values.specs.Layout.{Layout}
@@ -20,7 +21,7 @@ use Rattle.generation.specs.Guards.{word_of, exp, exps, truth, conversion, guard
 use Rattle.generation.specs.Generate.{exception_local, call_local, switch_local, first_local, returned, broken, continued, jump, stops_at, body_of_loop, looped, guarded, assignment, target_guards, call, call_of, test_guards, test_truth, after_first, do_while, is_one_of, cases, in_order, is_empty, command, commands, before, cases_of, default_of, whole_body}
 use Rattle.generated_texts.proofs.NumberTexts.{word_is, call_named, switch_named, first_named}
 use Rattle.generated_texts.proofs.PathNumbers.{through_fits, global_fits}
-use Rattle.generated_texts.proofs.ExpressionTexts.{first, second, HasText, AllHaveText, none, more, parted, append, two, word_literal, conversion_text, IsNamed, expression_text, path_text, accesses_text, guards_text, place_guards_text}
+use Rattle.generated_texts.proofs.ExpressionTexts.{HasText, AllHaveText, none, more, parted, append, two, word_literal, conversion_text, IsNamed, expression_text, path_text, accesses_text, guards_text, place_guards_text}
 
 pub record CommandHasText (c : Simpl) : Type 0 where
   pub text : is_command c ≡ true
@@ -118,25 +119,25 @@ module _ (g : Scope) (level : Level) (named : IsNamed g) (called : (f : Name) (k
   assignment_text : (d : C.Destination) (e : E.Exp) → is_typed_target g d ≡ true → target_has_types d ≡ true → HasText e → CommandHasText (assignment g.layout d e)
   assignment_text (C.ToLocal y t) e h k j = set_text y e (named.variable y t h) j
   assignment_text (C.ToPlace (C.Through t p path u)) e h k j =
-      let i = first _ _ k in
-      let typed = first _ _ h in
-      let root = value_text p (second _ _ (second _ _ (first _ _ typed))) (second _ _ (first _ _ i)) in
-      let steps = path_text g named path (second _ _ typed) (second _ _ i) (through_fits g.layout named.layout t u path (first _ _ (first _ _ typed)) (second _ _ h)) in
-      record { text = and_from _ _ (first _ _ (first _ _ i)) (and_from _ _ root.text (and_from _ _ steps.text j.text)) }
+      let i = first_so _ _ k in
+      let typed = first_so _ _ h in
+      let root = value_text p (second_so _ _ (second_so _ _ (first_so _ _ typed))) (second_so _ _ (first_so _ _ i)) in
+      let steps = path_text g named path (second_so _ _ typed) (second_so _ _ i) (through_fits g.layout named.layout t u path (first_so _ _ (first_so _ _ typed)) (second_so _ _ h)) in
+      record { text = and_from _ _ (first_so _ _ (first_so _ _ i)) (and_from _ _ root.text (and_from _ _ steps.text j.text)) }
   assignment_text (C.ToPlace (C.InGlobal y path u)) e h k j =
-      let found = global_fits g.layout named.layout g.globals named.globals y u path (second _ _ h) in
-      let steps = path_text g named path (first _ _ h) (first _ _ k) found.0 in
+      let found = global_fits g.layout named.layout g.globals named.globals y u path (second_so _ _ h) in
+      let steps = path_text g named path (first_so _ _ h) (first_so _ _ k) found.0 in
       record { text = and_from _ _ (named.global y found.1.0 found.1.1) (and_from _ _ steps.text j.text) }
 
   arguments_text : (vs : List C.Variable) (es : List C.Expr) → are_arguments g vs es ≡ true → each has_types es ≡ true → each is_exp (exps g.layout es) ≡ true
   arguments_text [] [] h k = refl
-  arguments_text (v ∷ vs) (e ∷ es) h k = and_from _ _ (value_text e (second _ _ (first _ _ h)) (first _ _ k)).text (arguments_text vs es (second _ _ h) (second _ _ k))
+  arguments_text (v ∷ vs) (e ∷ es) h k = and_from _ _ (value_text e (second_so _ _ (first_so _ _ h)) (first_so _ _ k)).text (arguments_text vs es (second_so _ _ h) (second_so _ _ k))
   arguments_text [] (e ∷ es) h k = absurd (false≢true h)
   arguments_text (v ∷ vs) [] h k = absurd (false≢true h)
 
   argument_conditions_text : (vs : List C.Variable) (es : List C.Expr) → are_arguments g vs es ≡ true → each has_types es ≡ true → AllHaveText (argument_guards g.layout level es)
   argument_conditions_text [] [] h k = none
-  argument_conditions_text (v ∷ vs) (e ∷ es) h k = append _ _ (conditions_text e (second _ _ (first _ _ h)) (first _ _ k)) (argument_conditions_text vs es (second _ _ h) (second _ _ k))
+  argument_conditions_text (v ∷ vs) (e ∷ es) h k = append _ _ (conditions_text e (second_so _ _ (first_so _ _ h)) (first_so _ _ k)) (argument_conditions_text vs es (second_so _ _ h) (second_so _ _ k))
   argument_conditions_text [] (e ∷ es) h k = absurd (false≢true h)
   argument_conditions_text (v ∷ vs) [] h k = absurd (false≢true h)
 
@@ -150,7 +151,7 @@ module _ (g : Scope) (level : Level) (named : IsNamed g) (called : (f : Name) (k
   use_text None n f es C.NoResult name h k j = record { text = and_from _ _ name h }
   use_text (Some t) n f es (C.Ignored from) name h k j = called_text n f es name h
   use_text (Some t) n f es (C.Assigned from d) name h k j =
-      let typed = second _ _ k in
+      let typed = second_so _ _ k in
       seq_text (called_text n f es name h) (guarded_text _ _ (target_text d typed j) (assignment_text d _ typed j (result_text n (C.target_type d) from)))
   use_text (Some t) n f es (C.Returned from to) name h k j =
       seq_text (called_text n f es name h) (seq_text (set_text result_local _ refl (result_text n to from)) (jump_text returned))
@@ -160,16 +161,16 @@ module _ (g : Scope) (level : Level) (named : IsNamed g) (called : (f : Name) (k
       CommandHasText (call_of g.layout level n f es u)
   call_text None n f es u found h k = absurd (false≢true h)
   call_text (Some c) n f es u found h k =
-      guarded_text _ _ (argument_conditions_text c.params es (first _ _ h) (first _ _ k))
-      (use_text c.result n f (exps g.layout es) u (called f c found) (arguments_text c.params es (first _ _ h) (first _ _ k)) (second _ _ h) (second _ _ k))
+      guarded_text _ _ (argument_conditions_text c.params es (first_so _ _ h) (first_so _ _ k))
+      (use_text c.result n f (exps g.layout es) u (called f c found) (arguments_text c.params es (first_so _ _ h) (first_so _ _ k)) (second_so _ _ h) (second_so _ _ k))
 
   test_conditions_text : (t : C.Test) → is_typed_test g t ≡ true → test_has_types t ≡ true → AllHaveText (test_guards g.layout level t)
   test_conditions_text C.Always h k = none
-  test_conditions_text (C.Tested e) h k = conditions_text e (second _ _ h) k
+  test_conditions_text (C.Tested e) h k = conditions_text e (second_so _ _ h) k
 
   test_text : (t : C.Test) → is_typed_test g t ≡ true → test_has_types t ≡ true → HasText (test_truth g.layout t)
   test_text C.Always h k = record { text = refl }
-  test_text (C.Tested e) h k = truth_text e (second _ _ h) k
+  test_text (C.Tested e) h k = truth_text e (second_so _ _ h) k
 
   mutual
     command_text : (r : Around) (s : C.Statement) → is_statement g r s ≡ true → statement_has_types s ≡ true → CommandHasText (command g.layout level s)
@@ -177,56 +178,56 @@ module _ (g : Scope) (level : Level) (named : IsNamed g) (called : (f : Name) (k
     command_text r (C.Block ss) h k = commands_text r ss h k
     command_text r (C.Declare y t) h k = record { text = named.variable y t h }
     command_text r (C.Assign d e) h k =
-        let typed = second _ _ (second _ _ h) in
-        guarded_text _ _ (append _ _ (conditions_text e typed (second _ _ k)) (target_text d (first _ _ h) (first _ _ k)))
-        (assignment_text d (exp g.layout e) (first _ _ h) (first _ _ k) (value_text e typed (second _ _ k)))
+        let typed = second_so _ _ (second_so _ _ h) in
+        guarded_text _ _ (append _ _ (conditions_text e typed (second_so _ _ k)) (target_text d (first_so _ _ h) (first_so _ _ k)))
+        (assignment_text d (exp g.layout e) (first_so _ _ h) (first_so _ _ k) (value_text e typed (second_so _ _ k)))
     command_text r (C.Call n f es u) h k = call_text (C.typed_fn g.functions f) n f es u refl h k
     command_text r (C.If e a b) h k =
-        let typed = second _ _ (first _ _ (first _ _ h)) in
-        let named' = first _ _ (first _ _ k) in
+        let typed = second_so _ _ (first_so _ _ (first_so _ _ h)) in
+        let named' = first_so _ _ (first_so _ _ k) in
         guarded_text _ _ (conditions_text e typed named')
-        (cond_text (truth_text e typed named') (command_text r a (second _ _ (first _ _ h)) (second _ _ (first _ _ k))) (command_text r b (second _ _ h) (second _ _ k)))
+        (cond_text (truth_text e typed named') (command_text r a (second_so _ _ (first_so _ _ h)) (second_so _ _ (first_so _ _ k))) (command_text r b (second_so _ _ h) (second_so _ _ k)))
     command_text r (C.While e a) h k =
-        let typed = second _ _ (first _ _ h) in
-        loop_text (conditions_text e typed (first _ _ k)) (truth_text e typed (first _ _ k)) (body_text (command_text in_a_loop a (second _ _ h) (second _ _ k)))
+        let typed = second_so _ _ (first_so _ _ h) in
+        loop_text (conditions_text e typed (first_so _ _ k)) (truth_text e typed (first_so _ _ k)) (body_text (command_text in_a_loop a (second_so _ _ h) (second_so _ _ k)))
     command_text r (C.DoWhile n a e) h k =
-        let typed = second _ _ (second _ _ h) in
-        do_while_text n _ _ _ (conditions_text e typed (second _ _ k)) (truth_text e typed (second _ _ k)) (command_text in_a_loop a (first _ _ h) (first _ _ k))
+        let typed = second_so _ _ (second_so _ _ h) in
+        do_while_text n _ _ _ (conditions_text e typed (second_so _ _ k)) (truth_text e typed (second_so _ _ k)) (command_text in_a_loop a (first_so _ _ h) (first_so _ _ k))
     command_text r (C.For init test step a) h k =
-        let typed = second _ _ (first _ _ (first _ _ h)) in
-        let named' = second _ _ (first _ _ (first _ _ k)) in
-        before_text init _ (first _ _ (first _ _ (first _ _ h))) (first _ _ (first _ _ (first _ _ k)))
+        let typed = second_so _ _ (first_so _ _ (first_so _ _ h)) in
+        let named' = second_so _ _ (first_so _ _ (first_so _ _ k)) in
+        before_text init _ (first_so _ _ (first_so _ _ (first_so _ _ h))) (first_so _ _ (first_so _ _ (first_so _ _ k)))
         (loop_text (test_conditions_text test typed named') (test_text test typed named')
-        (seq_text (body_text (command_text in_a_loop a (second _ _ h) (second _ _ k))) (command_text nowhere step (second _ _ (first _ _ h)) (second _ _ (first _ _ k)))))
+        (seq_text (body_text (command_text in_a_loop a (second_so _ _ h) (second_so _ _ k))) (command_text nowhere step (second_so _ _ (first_so _ _ h)) (second_so _ _ (first_so _ _ k)))))
     command_text r (C.Switch n i e gs) h k =
-        let typed = second _ _ (first _ _ (first _ _ (first _ _ (first _ _ h)))) in
-        guarded_text _ _ (conditions_text e typed (first _ _ k))
-        (seq_text (set_text (switch_local n) _ (switch_named n) (value_text e typed (first _ _ k)))
-        (catch_text (cases_text _ _ (default_text (in_a_switch r) gs (second _ _ h) (second _ _ k)) (groups_text (in_a_switch r) n i gs (second _ _ h) (second _ _ k))) (stops_text broken)))
+        let typed = second_so _ _ (first_so _ _ (first_so _ _ (first_so _ _ (first_so _ _ h)))) in
+        guarded_text _ _ (conditions_text e typed (first_so _ _ k))
+        (seq_text (set_text (switch_local n) _ (switch_named n) (value_text e typed (first_so _ _ k)))
+        (catch_text (cases_text _ _ (default_text (in_a_switch r) gs (second_so _ _ h) (second_so _ _ k)) (groups_text (in_a_switch r) n i gs (second_so _ _ h) (second_so _ _ k))) (stops_text broken)))
     command_text r C.Break h k = jump_text broken
     command_text r C.Continue h k = jump_text continued
     command_text r C.ReturnNothing h k = jump_text returned
     command_text r (C.Return e) h k =
-        let typed = second _ _ h in guarded_text _ _ (conditions_text e typed k) (seq_text (set_text result_local _ refl (value_text e typed k)) (jump_text returned))
+        let typed = second_so _ _ h in guarded_text _ _ (conditions_text e typed k) (seq_text (set_text result_local _ refl (value_text e typed k)) (jump_text returned))
 
     pub commands_text : (r : Around) (ss : C.Statements) → are_statements g r ss ≡ true → statements_have_types ss ≡ true → CommandHasText (commands g.layout level ss)
     commands_text r C.no_statements h k = skip_text
-    commands_text r (C.next s ss) h k = in_order_text _ (is_empty ss) _ (command_text r s (first _ _ h) (first _ _ k)) (commands_text r ss (second _ _ h) (second _ _ k))
+    commands_text r (C.next s ss) h k = in_order_text _ (is_empty ss) _ (command_text r s (first_so _ _ h) (first_so _ _ k)) (commands_text r ss (second_so _ _ h) (second_so _ _ k))
 
     before_text : (ss : C.Statements) (rest : Simpl) → are_statements g nowhere ss ≡ true → statements_have_types ss ≡ true → CommandHasText rest → CommandHasText (before g.layout level ss rest)
     before_text C.no_statements rest h k j = j
-    before_text (C.next s ss) rest h k j = seq_text (command_text nowhere s (first _ _ h) (first _ _ k)) (before_text ss rest (second _ _ h) (second _ _ k) j)
+    before_text (C.next s ss) rest h k j = seq_text (command_text nowhere s (first_so _ _ h) (first_so _ _ k)) (before_text ss rest (second_so _ _ h) (second_so _ _ k) j)
 
     groups_text : (r : Around) (n : ℕ) (i : IntType) (gs : C.Groups) → are_groups g r gs ≡ true → groups_have_types gs ≡ true → CasesHaveText (cases_of g.layout level n i gs)
     groups_text r n i C.no_groups h k = tt
-    groups_text r n i (C.group labels true ss gs) h k = groups_text r n i gs (second _ _ h) (second _ _ k)
+    groups_text r n i (C.group labels true ss gs) h k = groups_text r n i gs (second_so _ _ h) (second_so _ _ k)
     groups_text r n i (C.group labels false ss gs) h k =
-        (label_text g.layout.target i n labels, commands_text r ss (first _ _ h) (first _ _ k), groups_text r n i gs (second _ _ h) (second _ _ k))
+        (label_text g.layout.target i n labels, commands_text r ss (first_so _ _ h) (first_so _ _ k), groups_text r n i gs (second_so _ _ h) (second_so _ _ k))
 
     default_text : (r : Around) (gs : C.Groups) → are_groups g r gs ≡ true → groups_have_types gs ≡ true → CommandHasText (default_of g.layout level gs)
     default_text r C.no_groups h k = skip_text
-    default_text r (C.group labels true ss gs) h k = commands_text r ss (first _ _ h) (first _ _ k)
-    default_text r (C.group labels false ss gs) h k = default_text r gs (second _ _ h) (second _ _ k)
+    default_text r (C.group labels true ss gs) h k = commands_text r ss (first_so _ _ h) (first_so _ _ k)
+    default_text r (C.group labels false ss gs) h k = default_text r gs (second_so _ _ h) (second_so _ _ k)
 
 pub whole_text : (t : Option CType) (c : Simpl) → CommandHasText c → CommandHasText (whole_body t c)
 whole_text None c h = catch_text h skip_text

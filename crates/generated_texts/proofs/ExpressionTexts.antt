@@ -2,6 +2,7 @@
 use Rattle.std.specs.Prelude.{nat_lt}
 use Rattle.std.proofs.Common.{◌≡◌, ◌==◌, ◌^◌, ◌-◌, ℕ, ℤ, pos, Bool, true, ◌&&◌, List, [], ◌∷◌, ◌++◌, Some, refl}
 use Rattle.std.proofs.lemmas.Bool.{and_parts, and_from, lt-ltb}
+use Rattle.std.specs.Cmp.{first_so, second_so}
 use Rattle.c_values.specs.Name.{Name}
 use Rattle.c_values.specs.Types.{Target, IntType, CType, Integer, Ptr, is_signed, width_of}
 use Rattle.c_values.specs.Width.{IsWidth}
@@ -24,12 +25,6 @@ use Rattle.generation.proofs.ExactTests.{by_test}
 use Rattle.generation.proofs.SortedExpressions.{scalar_wide}
 use Rattle.generated_texts.proofs.NumberTexts.{width_is, least_of_is, greatest_of_is, last_is, index_is, word_is}
 use Rattle.generated_texts.proofs.PathNumbers.{PathFits, through_fits, global_fits}
-
-pub first : (a b : Bool) → (a && b) ≡ true → a ≡ true
-first a b h = (and_parts a b h).0
-
-pub second : (a b : Bool) → (a && b) ≡ true → b ≡ true
-second a b h = (and_parts a b h).1
 
 pub record HasText (e : E.Exp) : Type 0 where
   pub text : is_exp e ≡ true
@@ -161,51 +156,51 @@ module _ (g : Scope) (named : IsNamed g) where
     expression_text (C.Constant i n) h k = valued g.layout (Integer i) _ (word_literal g.layout.target i n)
     expression_text (C.Local x t) h k = valued g.layout t (E.Var x) (record { text = named.variable x t h })
     expression_text (C.Value p) h k = valued g.layout _ _ (place_text p h k).0
-    expression_text (C.Convert t a) h k = valued g.layout t _ (conversion_text g.layout.target t (C.type_of a) _ (expression_text a (second _ _ (second _ _ h)) (second _ _ k)).0)
-    expression_text (C.ConvertNull t a) h k = valued g.layout t _ (conversion_text g.layout.target t (C.type_of a) _ (expression_text a (second _ _ (second _ _ h)) (second _ _ k)).0)
-    expression_text (C.Negate i a) h k = valued g.layout (Integer i) _ (record { text = (expression_text a (second _ _ h) k).0.text })
-    expression_text (C.Complement i a) h k = valued g.layout (Integer i) _ (record { text = (expression_text a (second _ _ h) k).0.text })
+    expression_text (C.Convert t a) h k = valued g.layout t _ (conversion_text g.layout.target t (C.type_of a) _ (expression_text a (second_so _ _ (second_so _ _ h)) (second_so _ _ k)).0)
+    expression_text (C.ConvertNull t a) h k = valued g.layout t _ (conversion_text g.layout.target t (C.type_of a) _ (expression_text a (second_so _ _ (second_so _ _ h)) (second_so _ _ k)).0)
+    expression_text (C.Negate i a) h k = valued g.layout (Integer i) _ (record { text = (expression_text a (second_so _ _ h) k).0.text })
+    expression_text (C.Complement i a) h k = valued g.layout (Integer i) _ (record { text = (expression_text a (second_so _ _ h) k).0.text })
     expression_text (C.Compute op i a b) h k =
-        valued g.layout (Integer i) _ (record { text = two (expression_text a (second _ _ (first _ _ h)) (first _ _ k)).0 (expression_text b (second _ _ (second _ _ h)) (second _ _ k)).0 })
+        valued g.layout (Integer i) _ (record { text = two (expression_text a (second_so _ _ (first_so _ _ h)) (first_so _ _ k)).0 (expression_text b (second_so _ _ (second_so _ _ h)) (second_so _ _ k)).0 })
     expression_text (C.Combine op i a b) h k =
-        valued g.layout (Integer i) _ (record { text = two (expression_text a (second _ _ (first _ _ h)) (first _ _ k)).0 (expression_text b (second _ _ (second _ _ h)) (second _ _ k)).0 })
+        valued g.layout (Integer i) _ (record { text = two (expression_text a (second_so _ _ (first_so _ _ h)) (first_so _ _ k)).0 (expression_text b (second_so _ _ (second_so _ _ h)) (second_so _ _ k)).0 })
     expression_text (C.Shift d i a b) h k =
-        valued g.layout (Integer i) _ (shift_text i d _ _ (expression_text a (second _ _ (first _ _ h)) (first _ _ k)).0 (number_text (C.type_of b) _ (expression_text b (second _ _ (second _ _ h)) (second _ _ k)).0))
+        valued g.layout (Integer i) _ (shift_text i d _ _ (expression_text a (second_so _ _ (first_so _ _ h)) (first_so _ _ k)).0 (number_text (C.type_of b) _ (expression_text b (second_so _ _ (second_so _ _ h)) (second_so _ _ k)).0))
     expression_text (C.Compare r i a b) h k =
-        truthful _ (comparison_text r (is_signed i) _ _ (expression_text a (second _ _ (first _ _ h)) (first _ _ k)).0 (expression_text b (second _ _ (second _ _ h)) (second _ _ k)).0)
+        truthful _ (comparison_text r (is_signed i) _ _ (expression_text a (second_so _ _ (first_so _ _ h)) (first_so _ _ k)).0 (expression_text b (second_so _ _ (second_so _ _ h)) (second_so _ _ k)).0)
     expression_text (C.Equate q t a b) h k =
-        truthful _ (equation_text q _ _ (expression_text a (second _ _ (second _ _ (first _ _ h))) (first _ _ k)).0 (expression_text b (second _ _ (second _ _ h)) (second _ _ k)).0)
-    expression_text (C.Not a) h k = truthful _ (record { text = (expression_text a (second _ _ h) k).1.text })
-    expression_text (C.And a b) h k = truthful _ (record { text = two (expression_text a (second _ _ (first _ _ h)) (first _ _ k)).1 (expression_text b (second _ _ (second _ _ h)) (second _ _ k)).1 })
-    expression_text (C.Or a b) h k = truthful _ (record { text = two (expression_text a (second _ _ (first _ _ h)) (first _ _ k)).1 (expression_text b (second _ _ (second _ _ h)) (second _ _ k)).1 })
+        truthful _ (equation_text q _ _ (expression_text a (second_so _ _ (second_so _ _ (first_so _ _ h))) (first_so _ _ k)).0 (expression_text b (second_so _ _ (second_so _ _ h)) (second_so _ _ k)).0)
+    expression_text (C.Not a) h k = truthful _ (record { text = (expression_text a (second_so _ _ h) k).1.text })
+    expression_text (C.And a b) h k = truthful _ (record { text = two (expression_text a (second_so _ _ (first_so _ _ h)) (first_so _ _ k)).1 (expression_text b (second_so _ _ (second_so _ _ h)) (second_so _ _ k)).1 })
+    expression_text (C.Or a b) h k = truthful _ (record { text = two (expression_text a (second_so _ _ (first_so _ _ h)) (first_so _ _ k)).1 (expression_text b (second_so _ _ (second_so _ _ h)) (second_so _ _ k)).1 })
     expression_text (C.Choose t c a b) h k =
-        let j = first _ _ h in
-        let test = (expression_text c (second _ _ (second _ _ (first _ _ j))) (second _ _ (first _ _ (first _ _ k)))).1 in
-        let left = (expression_text a (second _ _ (second _ _ j)) (second _ _ (first _ _ k))).0 in
-        let right = (expression_text b (second _ _ (second _ _ h)) (second _ _ k)).0 in
+        let j = first_so _ _ h in
+        let test = (expression_text c (second_so _ _ (second_so _ _ (first_so _ _ j))) (second_so _ _ (first_so _ _ (first_so _ _ k)))).1 in
+        let left = (expression_text a (second_so _ _ (second_so _ _ j)) (second_so _ _ (first_so _ _ k))).0 in
+        let right = (expression_text b (second_so _ _ (second_so _ _ h)) (second_so _ _ k)).0 in
         valued g.layout t _ (record { text = and_from _ _ test.text (two left right) })
     expression_text (C.Move s t p a) h k =
-        let root = (expression_text p (second _ _ (second _ _ (first _ _ h))) (second _ _ (first _ _ k))).0 in
-        let index = (expression_text a (second _ _ (second _ _ h)) (second _ _ k)).0 in
-        valued g.layout (Ptr t) _ (record { text = and_from _ _ (first _ _ (first _ _ k)) (two root (moved_text s _ (number_text (C.type_of a) _ index))) })
+        let root = (expression_text p (second_so _ _ (second_so _ _ (first_so _ _ h))) (second_so _ _ (first_so _ _ k))).0 in
+        let index = (expression_text a (second_so _ _ (second_so _ _ h)) (second_so _ _ k)).0 in
+        valued g.layout (Ptr t) _ (record { text = and_from _ _ (first_so _ _ (first_so _ _ k)) (two root (moved_text s _ (number_text (C.type_of a) _ index))) })
     expression_text (C.MoveBy t a p) h k =
-        let root = (expression_text p (second _ _ (second _ _ h)) (second _ _ k)).0 in
-        let index = (expression_text a (second _ _ (second _ _ (first _ _ h))) (second _ _ (first _ _ k))).0 in
-        valued g.layout (Ptr t) _ (record { text = and_from _ _ (first _ _ (first _ _ k)) (two root (number_text (C.type_of a) _ index)) })
-    expression_text (C.Address p t) h k = valued g.layout (Ptr t) _ (place_text p (second _ _ (first _ _ h)) (second _ _ k)).1
-    expression_text (C.Decay p t) h k = valued g.layout (Ptr t) _ (place_text p (second _ _ (first _ _ h)) (second _ _ k)).1
+        let root = (expression_text p (second_so _ _ (second_so _ _ h)) (second_so _ _ k)).0 in
+        let index = (expression_text a (second_so _ _ (second_so _ _ (first_so _ _ h))) (second_so _ _ (first_so _ _ k))).0 in
+        valued g.layout (Ptr t) _ (record { text = and_from _ _ (first_so _ _ (first_so _ _ k)) (two root (number_text (C.type_of a) _ index)) })
+    expression_text (C.Address p t) h k = valued g.layout (Ptr t) _ (place_text p (second_so _ _ (first_so _ _ h)) (second_so _ _ k)).1
+    expression_text (C.Decay p t) h k = valued g.layout (Ptr t) _ (place_text p (second_so _ _ (first_so _ _ h)) (second_so _ _ k)).1
 
     -- what lies at a place, and its address
     pub place_text : (p : C.Place) → is_typed_place g p ≡ true → place_has_types p ≡ true → HasText (content g.layout p) × HasText (address g.layout p)
     place_text (C.Through t p path u) h k =
-        let j = first _ _ h in
-        let i = first _ _ k in
-        let root = (expression_text p (second _ _ (second _ _ (first _ _ j))) (second _ _ (first _ _ i))).0 in
-        let steps = path_text path (second _ _ j) (second _ _ i) (through_fits g.layout named.layout t u path (first _ _ (first _ _ j)) (second _ _ h)) in
-        (record { text = along t (first _ _ (first _ _ i)) root steps }, record { text = along t (first _ _ (first _ _ i)) root steps })
+        let j = first_so _ _ h in
+        let i = first_so _ _ k in
+        let root = (expression_text p (second_so _ _ (second_so _ _ (first_so _ _ j))) (second_so _ _ (first_so _ _ i))).0 in
+        let steps = path_text path (second_so _ _ j) (second_so _ _ i) (through_fits g.layout named.layout t u path (first_so _ _ (first_so _ _ j)) (second_so _ _ h)) in
+        (record { text = along t (first_so _ _ (first_so _ _ i)) root steps }, record { text = along t (first_so _ _ (first_so _ _ i)) root steps })
     place_text (C.InGlobal x path u) h k =
-        let found = global_fits g.layout named.layout g.globals named.globals x u path (second _ _ h) in
-        let steps = path_text path (first _ _ h) (first _ _ k) found.0 in
+        let found = global_fits g.layout named.layout g.globals named.globals x u path (second_so _ _ h) in
+        let steps = path_text path (first_so _ _ h) (first_so _ _ k) found.0 in
         let name = named.global x found.1.0 found.1.1 in
         (record { text = and_from _ _ name steps.text }, record { text = and_from _ _ name steps.text })
 
@@ -213,21 +208,21 @@ module _ (g : Scope) (named : IsNamed g) where
     path_text C.Here h k f = record { text = refl }
     path_text (C.Member n path) h k f = record { text = and_from _ _ (lt-ltb n (2 ^ 32) f.0) (path_text path h k f.1).text }
     path_text (C.Element n e path) h k f =
-        let index = number_text (C.type_of e) _ (expression_text e (second _ _ (first _ _ h)) (second _ _ (first _ _ k))).0 in
-        record { text = and_from _ _ index.text (path_text path (second _ _ h) (second _ _ k) f.1).text }
+        let index = number_text (C.type_of e) _ (expression_text e (second_so _ _ (first_so _ _ h)) (second_so _ _ (first_so _ _ k))).0 in
+        record { text = and_from _ _ index.text (path_text path (second_so _ _ h) (second_so _ _ k) f.1).text }
 
   bounds_text : (path : C.Path) → are_typed_indices g path ≡ true → path_has_types path ≡ true → PathFits path → AllHaveText (bounds g.layout path)
   bounds_text C.Here h k f = none
   bounds_text (C.Member n path) h k f = bounds_text path h k f.1
   bounds_text (C.Element n e path) h k f =
-      let index = number_text (C.type_of e) _ (expression_text e (second _ _ (first _ _ h)) (second _ _ (first _ _ k))).0 in
-      more (record { text = and_from _ _ index.text (index_is n f.0) }) (bounds_text path (second _ _ h) (second _ _ k) f.1)
+      let index = number_text (C.type_of e) _ (expression_text e (second_so _ _ (first_so _ _ h)) (second_so _ _ (first_so _ _ k))).0 in
+      more (record { text = and_from _ _ index.text (index_is n f.0) }) (bounds_text path (second_so _ _ h) (second_so _ _ k) f.1)
 
   pub accesses_text : (level : Level) (p : C.Place) → is_typed_place g p ≡ true → place_has_types p ≡ true → AllHaveText (accesses g.layout level p)
   accesses_text level (C.Through t p path u) h k =
-      let i = first _ _ (first _ _ k) in
-      let root = (expression_text p (second _ _ (second _ _ (first _ _ (first _ _ h)))) (second _ _ i)).0 in
-      let ok = and_from _ _ (first _ _ i) root.text in
+      let i = first_so _ _ (first_so _ _ k) in
+      let root = (expression_text p (second_so _ _ (second_so _ _ (first_so _ _ (first_so _ _ h)))) (second_so _ _ i)).0 in
+      let ok = and_from _ _ (first_so _ _ i) root.text in
       more (record { text = ok }) (by_test AllHaveText (is_lifted level) _ _ (λ b. more (record { text = ok }) none) (λ b. none))
   accesses_text level (C.InGlobal y path u) h k = none
 
@@ -237,56 +232,56 @@ module _ (g : Scope) (named : IsNamed g) where
       guards_text (C.Constant i n) h k = none
       guards_text (C.Local y t) h k = none
       guards_text (C.Value p) h k = append _ _ (place_guards_text p h k) (accesses_text level p h k)
-      guards_text (C.Convert t a) h k = guards_text a (second _ _ (second _ _ h)) (second _ _ k)
-      guards_text (C.ConvertNull t a) h k = guards_text a (second _ _ (second _ _ h)) (second _ _ k)
+      guards_text (C.Convert t a) h k = guards_text a (second_so _ _ (second_so _ _ h)) (second_so _ _ k)
+      guards_text (C.ConvertNull t a) h k = guards_text a (second_so _ _ (second_so _ _ h)) (second_so _ _ k)
       guards_text (C.Negate i a) h k =
-          let j = second _ _ h in
+          let j = second_so _ _ h in
           append _ _ (guards_text a j k) (fits_text g.layout.target level i (E.Negate _) (record { text = (number_text (Integer i) _ (expression_text a j k).0).text }))
-      guards_text (C.Complement i a) h k = guards_text a (second _ _ h) k
+      guards_text (C.Complement i a) h k = guards_text a (second_so _ _ h) k
       guards_text (C.Compute op i a b) h k =
-          let ja = second _ _ (first _ _ h) in
-          let jb = second _ _ (second _ _ h) in
-          append _ _ (append _ _ (guards_text a ja (first _ _ k)) (guards_text b jb (second _ _ k)))
-          (computes_text g.layout.target level i op _ _ (expression_text a ja (first _ _ k)).0 (expression_text b jb (second _ _ k)).0)
-      guards_text (C.Combine op i a b) h k = append _ _ (guards_text a (second _ _ (first _ _ h)) (first _ _ k)) (guards_text b (second _ _ (second _ _ h)) (second _ _ k))
+          let ja = second_so _ _ (first_so _ _ h) in
+          let jb = second_so _ _ (second_so _ _ h) in
+          append _ _ (append _ _ (guards_text a ja (first_so _ _ k)) (guards_text b jb (second_so _ _ k)))
+          (computes_text g.layout.target level i op _ _ (expression_text a ja (first_so _ _ k)).0 (expression_text b jb (second_so _ _ k)).0)
+      guards_text (C.Combine op i a b) h k = append _ _ (guards_text a (second_so _ _ (first_so _ _ h)) (first_so _ _ k)) (guards_text b (second_so _ _ (second_so _ _ h)) (second_so _ _ k))
       guards_text (C.Shift d i a b) h k =
-          let ja = second _ _ (first _ _ h) in
-          let jb = second _ _ (second _ _ h) in
-          append _ _ (append _ _ (guards_text a ja (first _ _ k)) (guards_text b jb (second _ _ k)))
-          (shifts_text g.layout.target i d _ _ (expression_text a ja (first _ _ k)).0 (number_text (C.type_of b) _ (expression_text b jb (second _ _ k)).0))
-      guards_text (C.Compare r i a b) h k = append _ _ (guards_text a (second _ _ (first _ _ h)) (first _ _ k)) (guards_text b (second _ _ (second _ _ h)) (second _ _ k))
-      guards_text (C.Equate q t a b) h k = append _ _ (guards_text a (second _ _ (second _ _ (first _ _ h))) (first _ _ k)) (guards_text b (second _ _ (second _ _ h)) (second _ _ k))
-      guards_text (C.Not a) h k = guards_text a (second _ _ h) k
+          let ja = second_so _ _ (first_so _ _ h) in
+          let jb = second_so _ _ (second_so _ _ h) in
+          append _ _ (append _ _ (guards_text a ja (first_so _ _ k)) (guards_text b jb (second_so _ _ k)))
+          (shifts_text g.layout.target i d _ _ (expression_text a ja (first_so _ _ k)).0 (number_text (C.type_of b) _ (expression_text b jb (second_so _ _ k)).0))
+      guards_text (C.Compare r i a b) h k = append _ _ (guards_text a (second_so _ _ (first_so _ _ h)) (first_so _ _ k)) (guards_text b (second_so _ _ (second_so _ _ h)) (second_so _ _ k))
+      guards_text (C.Equate q t a b) h k = append _ _ (guards_text a (second_so _ _ (second_so _ _ (first_so _ _ h))) (first_so _ _ k)) (guards_text b (second_so _ _ (second_so _ _ h)) (second_so _ _ k))
+      guards_text (C.Not a) h k = guards_text a (second_so _ _ h) k
       guards_text (C.And a b) h k =
-          let j = second _ _ (first _ _ h) in
-          append _ _ (guards_text a j (first _ _ k)) (under_text _ _ (expression_text a j (first _ _ k)).1 (guards_text b (second _ _ (second _ _ h)) (second _ _ k)))
+          let j = second_so _ _ (first_so _ _ h) in
+          append _ _ (guards_text a j (first_so _ _ k)) (under_text _ _ (expression_text a j (first_so _ _ k)).1 (guards_text b (second_so _ _ (second_so _ _ h)) (second_so _ _ k)))
       guards_text (C.Or a b) h k =
-          let j = second _ _ (first _ _ h) in
-          append _ _ (guards_text a j (first _ _ k))
-          (under_text (E.Not (truth g.layout a)) _ (record { text = (expression_text a j (first _ _ k)).1.text }) (guards_text b (second _ _ (second _ _ h)) (second _ _ k)))
+          let j = second_so _ _ (first_so _ _ h) in
+          append _ _ (guards_text a j (first_so _ _ k))
+          (under_text (E.Not (truth g.layout a)) _ (record { text = (expression_text a j (first_so _ _ k)).1.text }) (guards_text b (second_so _ _ (second_so _ _ h)) (second_so _ _ k)))
       guards_text (C.Choose t c a b) h k =
-          let i = first _ _ h in
-          let j = second _ _ (second _ _ (first _ _ i)) in
-          let kc = second _ _ (first _ _ (first _ _ k)) in
-          append _ _ (append _ _ (guards_text c j kc) (under_text _ _ (expression_text c j kc).1 (guards_text a (second _ _ (second _ _ i)) (second _ _ (first _ _ k)))))
-          (under_text (E.Not (truth g.layout c)) _ (record { text = (expression_text c j kc).1.text }) (guards_text b (second _ _ (second _ _ h)) (second _ _ k)))
-      guards_text (C.Move s t p a) h k = append _ _ (guards_text p (second _ _ (second _ _ (first _ _ h))) (second _ _ (first _ _ k))) (guards_text a (second _ _ (second _ _ h)) (second _ _ k))
-      guards_text (C.MoveBy t a p) h k = append _ _ (guards_text a (second _ _ (second _ _ (first _ _ h))) (second _ _ (first _ _ k))) (guards_text p (second _ _ (second _ _ h)) (second _ _ k))
-      guards_text (C.Address p t) h k = place_guards_text p (second _ _ (first _ _ h)) (second _ _ k)
-      guards_text (C.Decay p t) h k = place_guards_text p (second _ _ (first _ _ h)) (second _ _ k)
+          let i = first_so _ _ h in
+          let j = second_so _ _ (second_so _ _ (first_so _ _ i)) in
+          let kc = second_so _ _ (first_so _ _ (first_so _ _ k)) in
+          append _ _ (append _ _ (guards_text c j kc) (under_text _ _ (expression_text c j kc).1 (guards_text a (second_so _ _ (second_so _ _ i)) (second_so _ _ (first_so _ _ k)))))
+          (under_text (E.Not (truth g.layout c)) _ (record { text = (expression_text c j kc).1.text }) (guards_text b (second_so _ _ (second_so _ _ h)) (second_so _ _ k)))
+      guards_text (C.Move s t p a) h k = append _ _ (guards_text p (second_so _ _ (second_so _ _ (first_so _ _ h))) (second_so _ _ (first_so _ _ k))) (guards_text a (second_so _ _ (second_so _ _ h)) (second_so _ _ k))
+      guards_text (C.MoveBy t a p) h k = append _ _ (guards_text a (second_so _ _ (second_so _ _ (first_so _ _ h))) (second_so _ _ (first_so _ _ k))) (guards_text p (second_so _ _ (second_so _ _ h)) (second_so _ _ k))
+      guards_text (C.Address p t) h k = place_guards_text p (second_so _ _ (first_so _ _ h)) (second_so _ _ k)
+      guards_text (C.Decay p t) h k = place_guards_text p (second_so _ _ (first_so _ _ h)) (second_so _ _ k)
 
       pub place_guards_text : (p : C.Place) → is_typed_place g p ≡ true → place_has_types p ≡ true → AllHaveText (place_guards g.layout level p)
       place_guards_text (C.Through t p path u) h k =
-          let j = first _ _ h in
-          let i = first _ _ k in
-          let f = through_fits g.layout named.layout t u path (first _ _ (first _ _ j)) (second _ _ h) in
-          append _ _ (append _ _ (guards_text p (second _ _ (second _ _ (first _ _ j))) (second _ _ (first _ _ i))) (index_guards_text path (second _ _ j) (second _ _ i)))
-          (bounds_text path (second _ _ j) (second _ _ i) f)
+          let j = first_so _ _ h in
+          let i = first_so _ _ k in
+          let f = through_fits g.layout named.layout t u path (first_so _ _ (first_so _ _ j)) (second_so _ _ h) in
+          append _ _ (append _ _ (guards_text p (second_so _ _ (second_so _ _ (first_so _ _ j))) (second_so _ _ (first_so _ _ i))) (index_guards_text path (second_so _ _ j) (second_so _ _ i)))
+          (bounds_text path (second_so _ _ j) (second_so _ _ i) f)
       place_guards_text (C.InGlobal y path u) h k =
-          let f = (global_fits g.layout named.layout g.globals named.globals y u path (second _ _ h)).0 in
-          append _ _ (index_guards_text path (first _ _ h) (first _ _ k)) (bounds_text path (first _ _ h) (first _ _ k) f)
+          let f = (global_fits g.layout named.layout g.globals named.globals y u path (second_so _ _ h)).0 in
+          append _ _ (index_guards_text path (first_so _ _ h) (first_so _ _ k)) (bounds_text path (first_so _ _ h) (first_so _ _ k) f)
 
       index_guards_text : (path : C.Path) → are_typed_indices g path ≡ true → path_has_types path ≡ true → AllHaveText (index_guards g.layout level path)
       index_guards_text C.Here h k = none
       index_guards_text (C.Member n path) h k = index_guards_text path h k
-      index_guards_text (C.Element n e path) h k = append _ _ (guards_text e (second _ _ (first _ _ h)) (second _ _ (first _ _ k))) (index_guards_text path (second _ _ h) (second _ _ k))
+      index_guards_text (C.Element n e path) h k = append _ _ (guards_text e (second_so _ _ (first_so _ _ h)) (second_so _ _ (first_so _ _ k))) (index_guards_text path (second_so _ _ h) (second_so _ _ k))

@@ -1,6 +1,6 @@
 -- The members and the lengths along a typed path are those of an object, which has few bytes.
 use Rattle.std.proofs.Common.{◌≡◌, ℕ, zero, suc, ◌+◌, ◌*◌, ◌^◌, ◌<◌, ◌≤◌, ◌==◌, true, List, [], ◌∷◌, Option, Some, None, refl, sym, ap, ◌∙◌, subst, arith}
-use Rattle.std.proofs.lemmas.Bool.{false≢true, and_parts, leb-true, eqb-true}
+use Rattle.std.proofs.lemmas.Bool.{false≢true, and_parts, leb-true, eqb-true, and_parts as all_of_two}
 use Rattle.std.proofs.Math.Nat.{mul-le-mul_left, mul-le-mul_right}
 use Rattle.c_values.specs.Name.{Name, same_name}
 use Rattle.c_values.specs.Types.{CType}
@@ -9,7 +9,7 @@ use Rattle.c_values.proofs.Formed.{IsFormed, AreFormed, size_some, members_end}
 use Rattle.c_values.proofs.Laid.{shape_good}
 use Rattle.c_lang.specs.Typed as C
 use Rattle.c_lang.specs.WellTyped.{are_globals, member_shape, shape_along, leads_to, shape_in}
-use Rattle.generation.proofs.ExactTests.{all_of_two, by_cases, where_true, where_false, same_some, none_is_none}
+use Rattle.generation.proofs.ExactTests.{by_cases, where_true, where_false, same_some, none_is_none}
 
 -- numbers that have 32 bits
 abbrev pub PathFits : C.Path → Type 0

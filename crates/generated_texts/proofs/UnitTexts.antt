@@ -1,6 +1,6 @@
 -- What is generated for a unit has texts.
 use Rattle.std.proofs.Common.{◌≡◌, ℕ, true, List, [], ◌∷◌, ◌++◌, map, Option, Some, None, refl, sym, ap, ◌∙◌, subst}
-use Rattle.std.proofs.lemmas.Bool.{false≢true, and_from}
+use Rattle.std.proofs.lemmas.Bool.{false≢true, and_from, and_parts}
 use Rattle.c_values.specs.Name.{Name, same_name}
 use Rattle.c_values.specs.Types.{Target, CType, Integer, Void, Ptr, Struct, Array, is_signed, width_of}
 use Rattle.c_values.specs.Layout.{GlobalVar, scalar_width, global_type}
@@ -14,7 +14,7 @@ use Rattle.c_lang.specs.Typed as C
 use Rattle.c_lang.specs.WellTyped.{IsWellTyped, scope_in, variable_type, is_type, are_variables, is_result, is_function, are_functions, are_statements, nowhere}
 use Rattle.c_meaning.specs.Kinds.{variables}
 use Rattle.generation.specs.Generate.{call_local, switch_local, first_local, result_binder, use_binder, Added, none_added, both_added, added, added_in, added_of, locals, function_of, signature_of, generated}
-use Rattle.generation.proofs.ExactTests.{all_of_two, all_of_four, none_is_none, by_test, by_cases, where_false}
+use Rattle.generation.proofs.ExactTests.{all_of_four, none_is_none, by_test, by_cases, where_false}
 use Rattle.generation.proofs.SortedExpressions.{scalar_wide}
 use Rattle.unit_names.specs.HasNames.{HasNames, has_name, function_has_names, global_has_name, statements_have_types}
 use Rattle.generated_texts.specs.HasTexts.{HasTexts, is_binder, function_has_text, signature_has_text}
@@ -28,7 +28,7 @@ use Rattle.generated_texts.proofs.CommandTexts.{commands_text, whole_text}
 variable_named : (vs : List C.Variable) → each has_name vs ≡ true → (x : Name) (t : CType) → is_type (variable_type vs x) t ≡ true → is_name x ≡ true
 variable_named [] h x t e = absurd (false≢true e)
 variable_named (v ∷ vs) h x t e =
-    let p = all_of_two (is_name v.name) (each has_name vs) h in
+    let p = and_parts (is_name v.name) (each has_name vs) h in
     by_cases _ (same_name v.name x)
     (λ b. subst (λ y. is_name y ≡ true) (name_is v.name x b) p.0)
     (λ b. variable_named vs p.1 x t (sym (ap (λ o. is_type o t) (where_false (same_name v.name x) (Some v.type) (variable_type vs x) b)) ∙ e))
@@ -36,7 +36,7 @@ variable_named (v ∷ vs) h x t e =
 global_named : (vs : List GlobalVar) → each global_has_name vs ≡ true → (x : Name) (t : CType) → global_type vs x ≡ Some t → is_name x ≡ true
 global_named [] h x t e = absurd (none_is_none e)
 global_named (v ∷ vs) h x t e =
-    let p = all_of_two (is_name v.name) (each global_has_name vs) h in
+    let p = and_parts (is_name v.name) (each global_has_name vs) h in
     by_cases _ (same_name v.name x)
     (λ b. subst (λ y. is_name y ≡ true) (name_is v.name x b) p.0)
     (λ b. global_named vs p.1 x t (sym (where_false (same_name v.name x) (Some v.type) (global_type vs x) b) ∙ e))
@@ -44,14 +44,14 @@ global_named (v ∷ vs) h x t e =
 called_named : (fs : List C.TypedFn) → each function_has_names fs ≡ true → (x : Name) (k : C.TypedFn) → C.typed_fn fs x ≡ Some k → is_name x ≡ true
 called_named [] h x k e = absurd (none_is_none e)
 called_named (f ∷ fs) h x k e =
-    let p = all_of_two (function_has_names f) (each function_has_names fs) h in
+    let p = and_parts (function_has_names f) (each function_has_names fs) h in
     by_cases _ (same_name f.name x)
     (λ b. subst (λ y. is_name y ≡ true) (name_is f.name x b) (all_of_four (is_name f.name) _ _ _ p.0).0)
     (λ b. called_named fs p.1 x k (sym (where_false (same_name f.name x) (Some f) (C.typed_fn fs x) b) ∙ e))
 
 both_named : (vs ws : List C.Variable) → each has_name vs ≡ true → each has_name ws ≡ true → each has_name (vs ++ ws) ≡ true
 both_named [] ws h k = k
-both_named (v ∷ vs) ws h k = let p = all_of_two (is_name v.name) (each has_name vs) h in and_from _ _ p.0 (both_named vs ws p.1 k)
+both_named (v ∷ vs) ws h k = let p = and_parts (is_name v.name) (each has_name vs) h in and_from _ _ p.0 (both_named vs ws p.1 k)
 
 -- locals
 
@@ -63,7 +63,7 @@ no_binders = record { are = refl }
 
 append : {bs cs : List Binder} → AreBinders bs → AreBinders cs → AreBinders (bs ++ cs)
 append {bs = []} h k = k
-append {bs = b ∷ bs} h k = let p = all_of_two (is_binder b) (each is_binder bs) h.are in record { are = and_from _ _ p.0 (append {bs = bs} (record { are = p.1 }) k).are }
+append {bs = b ∷ bs} h k = let p = and_parts (is_binder b) (each is_binder bs) h.are in record { are = and_from _ _ p.0 (append {bs = bs} (record { are = p.1 }) k).are }
 
 type_kind : (t : Target) (level : Level) (u : CType) → is_kind (kind_at t level u) ≡ true
 type_kind t Bytes u = width_is (scalar_width t u) (scalar_wide t u)
@@ -82,7 +82,7 @@ module _ (t : Target) (level : Level) where
   variable_binders : (vs : List C.Variable) → each has_name vs ≡ true → AreBinders (variables t level vs)
   variable_binders [] h = no_binders
   variable_binders (v ∷ vs) h =
-      let p = all_of_two (is_name v.name) (each has_name vs) h in record { are = and_from _ _ (and_from _ _ p.0 (type_kind t level v.type)) (variable_binders vs p.1).are }
+      let p = and_parts (is_name v.name) (each has_name vs) h in record { are = and_from _ _ (and_from _ _ p.0 (type_kind t level v.type)) (variable_binders vs p.1).are }
 
   result_binders : (r : Option CType) → AreBinders (result_binder t level r)
   result_binders None = no_binders
@@ -169,14 +169,14 @@ module _ (u : C.TypedUnit) (w : IsWellTyped u) (n : HasNames u) (levels : Name �
   functions_text : (fs : List C.TypedFn) → are_functions u fs ≡ true → each function_has_names fs ≡ true → each function_has_text (map (λ f. function_of u.layout (levels f.name) f) fs) ≡ true
   functions_text [] h k = refl
   functions_text (f ∷ fs) h k =
-      let p = all_of_two (is_function u f) (are_functions u fs) h in
-      let q = all_of_two (function_has_names f) (each function_has_names fs) k in
+      let p = and_parts (is_function u f) (are_functions u fs) h in
+      let q = and_parts (function_has_names f) (each function_has_names fs) k in
       and_from _ _ (function_text f p.0 q.0) (functions_text fs p.1 q.1)
 
   signatures_text : (fs : List C.TypedFn) → each function_has_names fs ≡ true → each signature_has_text (map (λ f. signature_of u.layout (levels f.name) f) fs) ≡ true
   signatures_text [] k = refl
   signatures_text (f ∷ fs) k =
-      let q = all_of_two (function_has_names f) (each function_has_names fs) k in
+      let q = and_parts (function_has_names f) (each function_has_names fs) k in
       let named = all_of_four (is_name f.name) (each has_name f.params) (each has_name f.locals) (statements_have_types f.body) q.0 in
       and_from _ _ (and_from _ _ (and_from _ _ named.0 (variable_binders u.layout.target (levels f.name) f.params named.1).are) (result_text u.layout.target (levels f.name) f.result)) (signatures_text fs q.1)
 

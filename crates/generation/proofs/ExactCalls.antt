@@ -1,6 +1,6 @@
 -- Returns, and calls with what becomes of their results.
 use Rattle.std.proofs.Common.{◌≡◌, ℕ, true, List, Option, Some, None, refl, sym, subst}
-use Rattle.std.proofs.lemmas.Bool.{false≢true}
+use Rattle.std.proofs.lemmas.Bool.{false≢true, and_parts}
 use Rattle.correspondence.specs.Outcome.{Ends, done, Then}
 use Rattle.correspondence.specs.Bound.{called}
 use Rattle.correspondence.specs.Corresponds.{Corresponds, Paired}
@@ -29,7 +29,7 @@ use Rattle.generation.specs.Guards.{exps, conversion, argument_guards}
 use Rattle.generation.specs.Generate.{guarded, jump, returned, call, call_of, call_local, assignment, target_guards}
 use Rattle.c_meaning.specs.Fitting.{IsOfType, IsResultOf}
 use Rattle.expression_lang.specs.States.{IsState}
-use Rattle.generation.proofs.ExactTests.{all_of_two, all_of_three, where_true}
+use Rattle.generation.proofs.ExactTests.{all_of_three, where_true}
 use Rattle.correspondence.proofs.Steps.{SameEnds, same_on_right, after_done, in_brackets}
 use Rattle.generation.proofs.ExactGuards.{SameKind, evaluated_guarded}
 use Rattle.generation.proofs.ExactTruth.{scalar_shaped}
@@ -84,7 +84,7 @@ module _ (g : Scope) (level : Level) (p : Choice) (locals : List Binder) (h : St
         assigned_same g level p locals h r depth fs' (conversion g.layout.target (C.target_type target) from (Exp.Var (call_local n'))) (converted g.layout (C.target_type target) from v)
         (machine_with m.locals s) o (result_kept v s is) w.0 target q.2 (scalar_shaped g.layout (C.target_type target) (converted g.layout (C.target_type target) from v) q.1 w.1)
     used_same (Some t) i (C.Returned from to) u (Some v) s x is =
-        let q = all_of_two (same_type t from) (is_type g.result to) u in
+        let q = and_parts (same_type t from) (is_type g.result to) u in
         let o : Machine = result_into (Some (call_local n')) (record { result = Some v; state = s }) n.locals in
         let b = is_declared g.result to q.1 in
         let w = conversion_exact g.layout o.locals o.state to from (Exp.Var (call_local n')) v (subst (λ z. is_result z ≡ true) b h.result) (found_there (call_local n') v n.locals)
@@ -150,7 +150,7 @@ module _ (g : Scope) (level : Level) (p : Choice) (locals : List Binder) (h : St
         (execs g.layout p locals (call_of g.layout level n' f es use') depth fs' n)
     call_by_function fs same f es use' None is t = absurd (false≢true t)
     call_by_function fs same f es use' (Some fn) is t =
-        let q = all_of_two (are_arguments g fn.params es) (is_use_of g fn.result use') t in
+        let q = and_parts (are_arguments g fn.params es) (is_use_of g fn.result use') t in
         evaluated_guarded (IsEnd g r) g.layout p locals depth fs' n (argument_guards g.layout level es) (call g.layout level n' f (exps g.layout es) use') (values (context (setting g p level) m) es)
         (AreValuesOn g n fn.params es) (λ vs. Then (called fs depth (calling f vs m)) (and_use (setting g p level) use' m))
         (arguments_same g level p locals h m n a fn.params (h.callees f fn is).0 es q.0) (λ vs k. command_same fs same f fn is es vs k use' q.1)

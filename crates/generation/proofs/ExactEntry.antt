@@ -1,7 +1,7 @@
 -- Where a function begins: its arguments stand over zeros on both sides, and its declared locals have their kinds.
 use Rattle.std.proofs.Common.{◌≡◌, Bool, true, false, List, [], ◌∷◌, ◌++◌, Option, Some, None, refl, sym, subst, ap, ◌∙◌}
 use Rattle.std.specs.Prelude.{not, if◌then◌else◌}
-use Rattle.std.proofs.lemmas.Bool.{false≢true}
+use Rattle.std.proofs.lemmas.Bool.{false≢true, or_parts, not-true, and_parts}
 use Rattle.std.proofs.lemmas.Nat.{pow_pos}
 use Rattle.c_values.specs.Name.{Name, same_name, with_name, is_among, are_distinct}
 use Rattle.c_values.specs.Types.{Target, CType, Integer, Void, Ptr, Struct, Array, is_signed, width_of}
@@ -19,8 +19,7 @@ use Rattle.c_lang.specs.WellTyped.{variable_type, are_variables, is_own_name}
 use Rattle.c_meaning.specs.CRun as R
 use Rattle.c_meaning.specs.Kinds.{variables}
 use Rattle.c_meaning.specs.Fitting.{IsOfType, AreOfTypes}
-use Rattle.generation.proofs.ExactTests.{all_of_two, all_of_three, same_some, none_is_none, by_test, by_cases, where_true, where_false}
-use Rattle.generation.proofs.ExactLabels.{neither, not_true}
+use Rattle.generation.proofs.ExactTests.{all_of_three, same_some, none_is_none, by_test, by_cases, where_true, where_false}
 
 pub names_are : (t : Target) (level : Level) (vs : List C.Variable) → names_of (variables t level vs) ≡ C.variable_names vs
 names_are t level [] = refl
@@ -53,7 +52,7 @@ declared_behind x (v ∷ vs) ws h =
 pub undeclared : (x : Name) (vs : List C.Variable) → is_among x (C.variable_names vs) ≡ false → variable_type vs x ≡ None
 undeclared x [] h = refl
 undeclared x (v ∷ vs) h =
-    let k = neither (same_name x v.name) (is_among x (C.variable_names vs)) h in
+    let k = or_parts (same_name x v.name) (is_among x (C.variable_names vs)) h in
     where_false (same_name v.name x) (Some v.type) (variable_type vs x) (other_name x v.name k.0) ∙ undeclared x vs k.1
 
 -- arguments leave the other names
@@ -74,12 +73,12 @@ module _ (l : Layout) (x : Name) (t : CType) where
   parameter_bound [] vs d h e = absurd (none_is_none e)
   parameter_bound (y ∷ xs) [] d h e = absurd h
   parameter_bound (y ∷ xs) (v ∷ vs) d h e =
-      let q = all_of_two (not (is_among y.name (C.variable_names xs))) (are_distinct (C.variable_names xs)) d in
+      let q = and_parts (not (is_among y.name (C.variable_names xs))) (are_distinct (C.variable_names xs)) d in
       by_cases (IsBound (y ∷ xs) (v ∷ vs)) (same_name y.name x)
       (λ b. (
         v,
         subst (λ u. IsOfType l u v) (same_some (sym (where_true (same_name y.name x) (Some y.type) (variable_type xs x) b) ∙ e)) h.0,
-        λ env. bound_leaves l x xs vs h.1 (ap (λ z. variable_type xs z) (sym (name_is y.name x b)) ∙ undeclared y.name xs (not_true (is_among y.name (C.variable_names xs)) q.0)) (with_name y.name v env)
+        λ env. bound_leaves l x xs vs h.1 (ap (λ z. variable_type xs z) (sym (name_is y.name x b)) ∙ undeclared y.name xs (not-true (is_among y.name (C.variable_names xs)) q.0)) (with_name y.name v env)
             ∙ where_true (same_name y.name x) v (env x) b,
       ))
       (λ b. let k = parameter_bound xs vs q.1 h.1 (sym (where_false (same_name y.name x) (Some y.type) (variable_type xs x) b) ∙ e) in (k.0, k.1, λ env. k.2 (with_name y.name v env)))

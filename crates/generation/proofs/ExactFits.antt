@@ -1,6 +1,7 @@
 -- The conditions of arithmetic: a result of the type, and a divisor that isn't zero.
 use Rattle.std.proofs.Common.{◌≡◌, ℕ, ◌-◌, ◌^◌, ◌<◌, Bool, true, false, not, ◌||◌, [], ◌∷◌, None, Ok, cond, ℤ, pos, int_eq, refl, sym, ap, ap₂, ◌∙◌, subst, arith}
 use Rattle.std.proofs.lemmas.Int.{ints}
+use Rattle.std.proofs.Math.Bool.{or-false, or-true}
 use Rattle.c_values.specs.Types.{IntType, CType, Integer, Void, Ptr, Struct, Array, width_of, is_signed}
 use Rattle.c_values.specs.Number.{is_between, least, greatest, is_of_type, quotient, NumberOp, Div, number_op}
 use Rattle.c_values.specs.Word.{Word, IsWord, unsigned, signed, word, word_op, Wudiv}
@@ -32,14 +33,6 @@ below_whole m p h = grind (arith, ints)
 
 pub unsigned_in_range : (width : ℕ) (a : Word) → IsWord width a → is_between (least false width) (unsigned a) (greatest false width) ≡ true
 unsigned_in_range width a h = below_whole a.bits (2 ^ width) h.fits
-
-or_false : (t : Bool) → (t || false) ≡ t
-or_false true = refl
-or_false false = refl
-
-or_true : (t : Bool) → (t || true) ≡ true
-or_true true = refl
-or_true false = refl
 
 module _ (l : Layout) (env : Env) (s : State) where
   -- the number of a word at its type
@@ -74,9 +67,9 @@ module _ (l : Layout) (env : Env) (s : State) where
         (λ v. (v ≡ value_at l i n) × (b ≡ true → is_of_type l.target i n ≡ true))
     plainly true =
         same_unless l env s (is_of_type l.target i n || false) K.Signed (in_type l.target i e) [] (Ok (value_at l i n)) (λ v. (v ≡ value_at l i n) × (true ≡ true → is_of_type l.target i n ≡ true))
-        (in_type_holds ∙ sym (or_false (is_of_type l.target i n))) (λ t. (refl, (refl, λ u. sym (or_false (is_of_type l.target i n)) ∙ t)))
+        (in_type_holds ∙ sym (or-false (is_of_type l.target i n))) (λ t. (refl, (refl, λ u. sym (or-false (is_of_type l.target i n)) ∙ t)))
     plainly false =
-        same_holds (is_of_type l.target i n || true) K.Signed (value_at l i n) (λ v. (v ≡ value_at l i n) × (false ≡ true → is_of_type l.target i n ≡ true)) (or_true (is_of_type l.target i n)) (refl, λ u. absurd cc)
+        same_holds (is_of_type l.target i n || true) K.Signed (value_at l i n) (λ v. (v ≡ value_at l i n) × (false ≡ true → is_of_type l.target i n ≡ true)) (or-true (is_of_type l.target i n)) (refl, λ u. absurd cc)
 
     pub fits_exact : (level : Level) → Same (fitted l level i n) (refused l env s (fits l.target level i e)) (IsFitted i n)
     fits_exact Numbers = watched (is_signed i)

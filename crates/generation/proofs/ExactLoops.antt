@@ -1,6 +1,6 @@
 -- Loops: break leaves the loop, and continue its body, by an exception that is caught there.
 use Rattle.std.proofs.Common.{◌≡◌, ℕ, true, List, Option, ◌⊎◌, inl, inr, refl, sym}
-use Rattle.std.proofs.lemmas.Bool.{false≢true}
+use Rattle.std.proofs.lemmas.Bool.{false≢true, and_parts}
 use Rattle.correspondence.specs.Outcome.{Ends, done, Then, choose, loop}
 use Rattle.correspondence.specs.Corresponds.{Corresponds, Either, Paired}
 use Rattle.correspondence.proofs.Corresponds.{done_corresponds, then_corresponds, choose_corresponds, loop_corresponds}
@@ -21,7 +21,6 @@ use Rattle.c_meaning.specs.CRun as R
 use Rattle.c_meaning.specs.CRun.{Next, Broken, Continued, Returning, Ended, context, tested, turned, stepped}
 use Rattle.generation.specs.Guards.{guards, truth}
 use Rattle.generation.specs.Generate.{returned, broken, continued, stops_at, body_of_loop, looped, test_guards, test_truth}
-use Rattle.generation.proofs.ExactTests.{all_of_two}
 use Rattle.correspondence.proofs.Steps.{same_on_right, after_done, in_brackets, right_goes_on}
 use Rattle.generation.proofs.ExactGuards.{SameKind, evaluated_checked}
 use Rattle.generation.proofs.ExactMachines.{Alike, setting}
@@ -117,7 +116,7 @@ module _ (g : Scope) (level : Level) (p : Choice) (locals : List Binder) (h : St
       Corresponds (IsTurnEnd g) SameKind (tested (setting g p level) test m) (entered g.layout (test_guards g.layout level test) (test_truth g.layout test) n)
   tested_same C.Always t m n a = done_corresponds (IsTurnEnd g) SameKind (inl m) (inl n) a
   tested_same (C.Tested e) t m n a =
-      let q = all_of_two (is_scalar (C.type_of e)) (is_typed g e) t in
+      let q = and_parts (is_scalar (C.type_of e)) (is_typed g e) t in
       evaluated_checked (IsTurnEnd g) g.layout n (guards g.layout level e) (value (context (setting g p level) m) e) (IsValueOn g n e) (λ v. choose (is_true v) (done (inl m)) (done (inr (Next m))))
       (choose (holds_on g.layout n (truth g.layout e)) (done (inl n)) (done (inr (Normal n)))) (value_same g level p locals h m n a e q.1)
       (λ v k. choose_corresponds (IsTurnEnd g) SameKind (is_true v) (holds_on g.layout n (truth g.layout e)) (done (inl m)) (done (inr (Next m))) (done (inl n)) (done (inr (Normal n))) (sym (k.truth q.0))

@@ -2,7 +2,7 @@
 -- smaller bound.
 use Rattle.std.proofs.Common.{◌≡◌, ℕ, true, List, Option, Some, None, ℤ, refl, sym, subst}
 use Rattle.std.specs.Prelude.{◌&&◌}
-use Rattle.std.proofs.lemmas.Bool.{false≢true}
+use Rattle.std.proofs.lemmas.Bool.{false≢true, and_parts}
 use Rattle.correspondence.specs.Outcome.{Ends, done, Then, choose, loop}
 use Rattle.correspondence.specs.Corresponds.{Corresponds}
 use Rattle.correspondence.proofs.Corresponds.{done_corresponds, then_corresponds, choose_corresponds}
@@ -27,7 +27,7 @@ use Rattle.c_meaning.specs.CRun.{Next, Broken, Continued, Returning, Ended, and_
 use Rattle.generation.specs.Guards.{guards, truth, exp}
 use Rattle.generation.specs.Generate.{returned, broken, continued, jump, assignment, target_guards, test_guards, test_truth, looped, body_of_loop, before, command, commands}
 use Rattle.c_meaning.specs.Fitting.{IsResultOf}
-use Rattle.generation.proofs.ExactTests.{all_of_two, all_of_three, all_of_four, all_of_five}
+use Rattle.generation.proofs.ExactTests.{all_of_three, all_of_four, all_of_five}
 use Rattle.generation.proofs.ExactPicks.{IsWordIn, kind_picked}
 use Rattle.correspondence.proofs.Steps.{same_on_left, after_done, in_brackets, left_goes_on}
 use Rattle.generation.proofs.ExactGuards.{SameKind, evaluated_guarded, evaluated_twice_guarded}
@@ -121,15 +121,15 @@ module _ (g : Scope) (level : Level) (p : Choice) (locals : List Binder) (h : St
 
     assign_same : (target : C.Destination) (e : C.Expr) → (is_typed_target g target && is_typed_at g (C.target_type target) e) ≡ true → Same r depth (C.Assign target e)
     assign_same target e t fs fs' paired m n a =
-        let q = all_of_two (is_typed_target g target) (is_typed_at g (C.target_type target) e) t in
-        let y = all_of_two (same_type (C.type_of e) (C.target_type target)) (is_typed g e) q.1 in
+        let q = and_parts (is_typed_target g target) (is_typed_at g (C.target_type target) e) t in
+        let y = and_parts (same_type (C.type_of e) (C.target_type target)) (is_typed g e) q.1 in
         evaluated_twice_guarded (IsEnd g r) g.layout p locals depth fs' n (guards g.layout level e) (target_guards g.layout level target) (assignment g.layout target (exp g.layout e)) (value (context (setting g p level) m) e)
         (IsValueOn g n e) (λ v. assigned (setting g p level) target v m) (value_same g level p locals h m n a e y.1)
         (λ v k. assigned_same g level p locals h r depth fs' (exp g.layout e) v m n a k.is target q.0 (subst (λ z. HasShape (shape_of g.layout z) v) (type_is (C.type_of e) (C.target_type target) y.0) k.shaped))
 
     if_same : (e : C.Expr) (a b : C.Statement) → is_typed_scalar g e ≡ true → Same r depth a → Same r depth b → Same r depth (C.If e a b)
     if_same e a b t k j fs fs' paired m n x =
-        let y = all_of_two (is_scalar (C.type_of e)) (is_typed g e) t in
+        let y = and_parts (is_scalar (C.type_of e)) (is_typed g e) t in
         evaluated_guarded (IsEnd g r) g.layout p locals depth fs' n (guards g.layout level e) (Cond (truth g.layout e) (command g.layout level a) (command g.layout level b)) (value (context (setting g p level) m) e)
         (IsValueOn g n e) (λ v. choose (is_true v) (statement (setting g p level) a depth fs m) (statement (setting g p level) b depth fs m)) (value_same g level p locals h m n x e y.1)
         (λ v z. choose_corresponds (IsEnd g r) SameKind (is_true v) (holds_on g.layout n (truth g.layout e)) (statement (setting g p level) a depth fs m) (statement (setting g p level) b depth fs m)
@@ -137,7 +137,7 @@ module _ (g : Scope) (level : Level) (p : Choice) (locals : List Binder) (h : St
 
     value_returned_same : (e : C.Expr) → (is_type g.result (C.type_of e) && is_typed g e) ≡ true → Same r depth (C.Return e)
     value_returned_same e t fs fs' paired m n a =
-        let y = all_of_two (is_type g.result (C.type_of e)) (is_typed g e) t in
+        let y = and_parts (is_type g.result (C.type_of e)) (is_typed g e) t in
         let d = is_declared g.result (C.type_of e) y.0 in
         evaluated_guarded (IsEnd g r) g.layout p locals depth fs' n (guards g.layout level e) (Seq (Set result_local (exp g.layout e)) (jump returned)) (value (context (setting g p level) m) e)
         (IsValueOn g n e) (λ v. done (Returning (Some v) m)) (value_same g level p locals h m n a e y.1)
@@ -155,10 +155,10 @@ module _ (g : Scope) (level : Level) (p : Choice) (locals : List Binder) (h : St
         let q = all_of_three (is_typed_scalar g e) (is_statement g r a) (is_statement g r b) t in
         if_same r depth e a b q.0 (statement_same a r q.1 depth) (statement_same b r q.2 depth)
     statement_same (C.While e a) r t depth =
-        let q = all_of_two (is_typed_scalar g e) (is_statement g in_a_loop a) t in
+        let q = and_parts (is_typed_scalar g e) (is_statement g in_a_loop a) t in
         while_same g level p locals h depth (λ fs m. statement (setting g p level) a depth fs m) (command g.layout level a) (statement_same a in_a_loop q.1 depth) r (C.Tested e) q.0
     statement_same (C.DoWhile k a e) r t depth =
-        let q = all_of_two (is_statement g in_a_loop a) (is_typed_scalar g e) t in
+        let q = and_parts (is_statement g in_a_loop a) (is_typed_scalar g e) t in
         do_while_same g level p locals h k e q.1 depth (λ fs m. statement (setting g p level) a depth fs m) (command g.layout level a) (statement_same a in_a_loop q.0 depth) r
     statement_same (C.For init test step a) r t depth =
         let q = all_of_four (are_statements g nowhere init) (is_typed_test g test) (is_statement g nowhere step) (is_statement g in_a_loop a) t in
@@ -178,13 +178,13 @@ module _ (g : Scope) (level : Level) (p : Choice) (locals : List Binder) (h : St
     pub statements_same : (ss : C.Statements) (r : Around) → are_statements g r ss ≡ true → (depth : Option ℕ) → SameStatements r depth ss
     statements_same C.no_statements r t depth = tt
     statements_same (C.next s ss) r t depth =
-        let q = all_of_two (is_statement g r s) (are_statements g r ss) t in
+        let q = and_parts (is_statement g r s) (are_statements g r ss) t in
         (statement_same s r q.0 depth, statements_same ss r q.1 depth)
 
     groups_same : (gs : C.Groups) (r : Around) → are_groups g r gs ≡ true → (depth : Option ℕ) → SameGroups g level p locals h r depth gs
     groups_same C.no_groups r t depth = tt
     groups_same (C.group ks d ss gs) r t depth =
-        let q = all_of_two (are_statements g r ss) (are_groups g r gs) t in
+        let q = and_parts (are_statements g r ss) (are_groups g r gs) t in
         (all_same r depth ss (statements_same ss r q.0 depth), groups_same gs r q.1 depth)
 
   -- a function's statements

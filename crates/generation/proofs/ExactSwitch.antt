@@ -1,7 +1,7 @@
 -- A switch: the group of the label in C is the one whose test holds, and the default's comes last, without a test.
 use Rattle.std.proofs.Common.{◌≡◌, ℕ, Bool, true, false, List, Option, ℤ, refl, sym, subst, ap, ◌∙◌}
 use Rattle.std.specs.Prelude.{not, ◌||◌}
-use Rattle.std.proofs.lemmas.Bool.{false≢true}
+use Rattle.std.proofs.lemmas.Bool.{false≢true, or_parts, not-true, and_parts}
 use Rattle.correspondence.specs.Outcome.{Ends, done, Then, choose}
 use Rattle.correspondence.specs.Corresponds.{Corresponds, Paired}
 use Rattle.correspondence.proofs.Corresponds.{done_corresponds, then_corresponds, choose_corresponds}
@@ -26,7 +26,6 @@ use Rattle.c_meaning.specs.CRun as R
 use Rattle.c_meaning.specs.CRun.{Next, Broken, Continued, Returning, Ended, switched, statements, groups, evaluated, context}
 use Rattle.generation.specs.Guards.{guards, exp}
 use Rattle.generation.specs.Generate.{guarded, returned, broken, continued, stops_at, cases, cases_of, default_of, commands, is_one_of, switch_local}
-use Rattle.generation.proofs.ExactTests.{all_of_two}
 use Rattle.correspondence.proofs.Steps.{same_on_right, after_done}
 use Rattle.generation.proofs.ExactGuards.{SameKind, evaluated_guarded}
 use Rattle.generation.proofs.ExactTruth.{scalar_bits}
@@ -35,7 +34,7 @@ use Rattle.generation.proofs.ExactEnds.{IsEnd, SameCalls, Stands, stops_here, th
 use Rattle.generation.proofs.ExactStores.{IsValueOn, value_same}
 use Rattle.generation.proofs.ExactCalls.{found_there}
 use Rattle.generation.proofs.ExactLoops.{SameRuns}
-use Rattle.generation.proofs.ExactLabels.{labels_tested, values_apart, label_in_groups, neither, different_apart, not_true}
+use Rattle.generation.proofs.ExactLabels.{labels_tested, values_apart, label_in_groups, different_apart}
 
 -- break ends a switch
 module _ (g : Scope) (p : Choice) (locals : List Binder) (r : Around) (depth : Option ℕ) (fs : List Runs) where
@@ -69,10 +68,10 @@ module _ (g : Scope) (level : Level) (p : Choice) (locals : List Binder) (h : St
         execs g.layout p locals (cases d (cases_of g.layout level s i gs)) depth fs' n ≡ execs g.layout p locals d depth fs' n
     no_group_taken d C.no_groups t e = refl
     no_group_taken d (C.group ks true ss gs) t e =
-        no_group_taken d gs (values_apart g.layout.target i ks (all_labels gs) t).1 (neither (is_label number ks) (has_label number gs) e).1
+        no_group_taken d gs (values_apart g.layout.target i ks (all_labels gs) t).1 (or_parts (is_label number ks) (has_label number gs) e).1
     no_group_taken d (C.group ks false ss gs) t e =
         let q = values_apart g.layout.target i ks (all_labels gs) t in
-        let f = neither (is_label number ks) (has_label number gs) e in
+        let f = or_parts (is_label number ks) (has_label number gs) e in
         ap (λ b. choose b (execs g.layout p locals (commands g.layout level ss) depth fs' n) (execs g.layout p locals (cases d (cases_of g.layout level s i gs)) depth fs' n))
         (labels_tested g.layout.target i g.layout n s v is word ks q.0 ∙ f.0)
         ∙ no_group_taken d gs q.1 f.1
@@ -100,10 +99,10 @@ module _ (g : Scope) (level : Level) (p : Choice) (locals : List Binder) (h : St
     group_same d (C.group ks true ss gs) k t u o e l =
         let q = values_apart g.layout.target i ks (all_labels gs) t in
         let w = different_apart number ks (all_labels gs) u in
-        let z = all_of_two (not (has_default gs)) (has_one_default gs) o in
+        let z = and_parts (not (has_default gs)) (has_one_default gs) o in
         beside_default d ks ss gs
         (subst (λ c. Corresponds (IsEnd g r) SameKind (statements (setting g p level) ss depth fs m) (execs g.layout p locals c depth fs' n)) (sym (e refl)) (k.0 fs fs' paired m n a)) q.1 w.1
-        (λ c. group_same d gs k.1 q.1 w.0 z.1 (λ f. absurd (false≢true (sym (not_true (has_default gs) z.0) ∙ f))) (sym (ap (λ b. b || has_label number gs) c) ∙ l))
+        (λ c. group_same d gs k.1 q.1 w.0 z.1 (λ f. absurd (false≢true (sym (not-true (has_default gs) z.0) ∙ f))) (sym (ap (λ b. b || has_label number gs) c) ∙ l))
         (is_label number ks) refl
     group_same d (C.group ks false ss gs) k t u o e l =
         let q = values_apart g.layout.target i ks (all_labels gs) t in
@@ -124,7 +123,7 @@ module _ (g : Scope) (level : Level) (p : Choice) (locals : List Binder) (h : St
       SameRuns g level p locals h r' depth (λ fs m. evaluated (value (context (setting g p level) m) e) (λ v. Then (groups (setting g p level) (number_at i v) (has_label (number_at i v) gs) gs depth fs m) switched))
       (guarded (guards g.layout level e) (Seq (Set (switch_local s) (exp g.layout e)) (Catch (cases (default_of g.layout level gs) (cases_of g.layout level s i gs)) (stops_at broken))))
   switch_same s i e gs x t u o r' q k fs fs' paired m n a =
-      let y = all_of_two (same_type (C.type_of e) (Integer i)) (is_typed g e) x in
+      let y = and_parts (same_type (C.type_of e) (Integer i)) (is_typed g e) x in
       let whole = Catch (cases (default_of g.layout level gs) (cases_of g.layout level s i gs)) (stops_at broken) in
       evaluated_guarded (IsEnd g r') g.layout p locals depth fs' n (guards g.layout level e) (Seq (Set (switch_local s) (exp g.layout e)) whole) (value (context (setting g p level) m) e) (IsValueOn g n e)
       (λ v. Then (groups (setting g p level) (number_at i v) (has_label (number_at i v) gs) gs depth fs m) switched) (value_same g level p locals h m n a e y.1)

@@ -3,11 +3,6 @@ use Rattle.std.proofs.Common.{◌≡◌, Bool, true, false, Option, Some, None, 
 use Rattle.std.specs.Prelude.{◌&&◌, if◌then◌else◌}
 use Rattle.std.proofs.lemmas.Bool.{false≢true}
 
-pub all_of_two : (a b : Bool) → (a && b) ≡ true → (a ≡ true) × (b ≡ true)
-all_of_two true true h = (refl, refl)
-all_of_two true false h = absurd (false≢true h)
-all_of_two false b h = absurd (false≢true h)
-
 pub all_of_three : (a b c : Bool) → (a && b && c) ≡ true → (a ≡ true) × (b ≡ true) × (c ≡ true)
 all_of_three true true true h = (refl, refl, refl)
 all_of_three true true false h = absurd (false≢true h)

@@ -1,6 +1,7 @@
 -- Generated Simpl has exactly the ends of the C function, in a unit that is well-typed.
 use Rattle.std.proofs.Common.{◌≡◌, ℕ, zero, suc, true, false, List, [], ◌∷◌, ◌++◌, Option, Some, refl, sym, subst, ap, ◌∙◌, ap₂, not, ◌||◌}
 use Rattle.std.specs.Prelude.{◌&&◌}
+use Rattle.std.proofs.lemmas.Bool.{or_parts, not-true, and_parts}
 use Rattle.correspondence.specs.Outcome.{Done, Then}
 use Rattle.correspondence.specs.Bound.{below}
 use Rattle.correspondence.specs.Corresponds.{Corresponds, Paired}
@@ -20,9 +21,8 @@ use Rattle.c_meaning.specs.CRun.{Runs, c_runs}
 use Rattle.generation.specs.Generate.{function_of, signature_of, generated, locals, commands, whole_body}
 use Rattle.c_meaning.specs.Fitting.{AreOfTypes, IsReturned}
 use Rattle.expression_lang.specs.States.{IsState}
-use Rattle.generation.proofs.ExactTests.{all_of_two, all_of_four}
+use Rattle.generation.proofs.ExactTests.{all_of_four}
 use Rattle.generation.proofs.ExactGuards.{SameKind}
-use Rattle.generation.proofs.ExactLabels.{neither, not_true}
 use Rattle.generation.proofs.ExactMachines.{Alike, setting}
 use Rattle.generation.proofs.ExactEnds.{IsGiven, SameCalls, Stands}
 use Rattle.generation.proofs.ExactStatements.{body_same}
@@ -33,14 +33,14 @@ use Rattle.generation.proofs.ExactFunctions.{locals_kind, entered_alike, whole_e
 among_first : (x : Name) (xs ys : List C.Variable) → is_among x (C.variable_names (xs ++ ys)) ≡ false → is_among x (C.variable_names xs) ≡ false
 among_first x [] ys h = refl
 among_first x (y ∷ xs) ys h =
-    let k = neither (same_name x y.name) (is_among x (C.variable_names (xs ++ ys))) h in
+    let k = or_parts (same_name x y.name) (is_among x (C.variable_names (xs ++ ys))) h in
     ap (λ b. b || is_among x (C.variable_names xs)) k.0 ∙ among_first x xs ys k.1
 
 distinct_first : (xs ys : List C.Variable) → are_distinct (C.variable_names (xs ++ ys)) ≡ true → are_distinct (C.variable_names xs) ≡ true
 distinct_first [] ys h = refl
 distinct_first (x ∷ xs) ys h =
-    let p = all_of_two (not (is_among x.name (C.variable_names (xs ++ ys)))) (are_distinct (C.variable_names (xs ++ ys))) h in
-    ap₂ (λ a b. not a && b) (among_first x.name xs ys (not_true (is_among x.name (C.variable_names (xs ++ ys))) p.0)) (distinct_first xs ys p.1)
+    let p = and_parts (not (is_among x.name (C.variable_names (xs ++ ys)))) (are_distinct (C.variable_names (xs ++ ys))) h in
+    ap₂ (λ a b. not a && b) (among_first x.name xs ys (not-true (is_among x.name (C.variable_names (xs ++ ys))) p.0)) (distinct_first xs ys p.1)
 
 module _ (u : C.TypedUnit) (w : IsWellTyped u) (levels : Name → Level) (p : Choice) where
   abbrev AllSame : Runs → Runs → Type 0

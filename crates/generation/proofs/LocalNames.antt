@@ -4,10 +4,11 @@ use Rattle.std.proofs.Common.{◌≡◌, ℕ, ◌+◌, ◌==◌, ◌^◌, ◌<�
 use Rattle.std.specs.Prelude.{nat_lt}
 use Rattle.std.specs.List.{list_any, list_all}
 use Rattle.std.specs.Str.Parse.{AllDigits}
-use Rattle.std.proofs.lemmas.Bool.{false≢true, true≢false, ltb-true, or_cases, or_from, not_from_false, not-true, false_from_ne_true, eq-eqb, eqb-true}
+use Rattle.std.proofs.lemmas.Bool.{false≢true, true≢false, ltb-true, or_cases, or_from, not_from_false, not-true, false_from_ne_true, eq-eqb, eqb-true, and_parts}
 use Rattle.std.proofs.lemmas.Fmt.{decimal_injective, decimal_is_IsNumeral}
 use Rattle.std.proofs.lemmas.Str.Parse.{digit_at}
 use Rattle.std.proofs.lemmas.List.Folds.{list_any-append}
+use Rattle.std.specs.Cmp.Derive.{both_true}
 use Rattle.c_values.specs.Name.{Name, same_name, is_among, are_distinct}
 use Rattle.c_values.specs.Types.{Target, CType}
 use Rattle.c_values.specs.Layout.{is_scalar}
@@ -20,7 +21,7 @@ use Rattle.c_lang.specs.WellTyped.{IsWellTyped, is_own_name, is_result, are_vari
 use Rattle.c_meaning.specs.Kinds.{variables}
 use Rattle.simpl_lang.specs.Flag.{thrown_local}
 use Rattle.generation.specs.Generate.{call_local, switch_local, first_local, exception_local, result_binder, use_binder, Added, added, added_in, added_of, locals, function_of, generated}
-use Rattle.generation.proofs.ExactTests.{all_of_two, all_of_three, all_of_four}
+use Rattle.generation.proofs.ExactTests.{all_of_three, all_of_four}
 use Rattle.generation.proofs.ExactEntry.{names_are}
 
 -- the second and the third byte of a name
@@ -67,14 +68,11 @@ avoids_append k xs ys h m x c e = by_cases (among_append x xs ys c)
     by_cases (inl a) = h x a e
     by_cases (inr a) = m x a e
 
-both : {a b : Bool} → a ≡ true → b ≡ true → (a && b) ≡ true
-both {a} {b} h k = rw (h, k) refl
-
 distinct_append : (k : ℕ) (xs ys : List Name) → are_distinct xs ≡ true → are_distinct ys ≡ true → Avoids k xs → AreOf k ys → are_distinct (xs ++ ys) ≡ true
 distinct_append k [] ys h m a o = m
 distinct_append k (x ∷ xs) ys h m a o =
-    let p = all_of_two (not (is_among x xs)) (are_distinct xs) h in
-    both (not_from_false (is_among x (xs ++ ys)) (list_any-append (same_name x) xs ys ∙ or_from (is_among x xs) (is_among x ys) (not-true (is_among x xs) p.0) (false_from_ne_true (is_among x ys) (λ e. a x (here (same_name x x) (is_among x xs) (same_name-refl x)) (family_of k ys x o e)))))
+    let p = and_parts (not (is_among x xs)) (are_distinct xs) h in
+    both_true (not_from_false (is_among x (xs ++ ys)) (list_any-append (same_name x) xs ys ∙ or_from (is_among x xs) (is_among x ys) (not-true (is_among x xs) p.0) (false_from_ne_true (is_among x ys) (λ e. a x (here (same_name x x) (is_among x xs) (same_name-refl x)) (family_of k ys x o e)))))
     (distinct_append k xs ys p.1 m (λ y b e. a y (there (same_name y x) (is_among y xs) b) e) o)
   where
     here : (b c : Bool) → b ≡ true → (b || c) ≡ true
@@ -136,7 +134,7 @@ module _ (name : ℕ → Name) (injective : (m n : ℕ) → m < 2 ^ 64 → n < 2
   named_distinct (skipped m {bs} {ns} r) a = named_distinct r (all_of_three (nat_lt m (2 ^ 64)) (not (list_any (λ k. k == m) ns)) (are_apart ns) a).2
   named_distinct (taken b m {bs} {ns} e r) a =
       let p = all_of_three (nat_lt m (2 ^ 64)) (not (list_any (λ k. k == m) ns)) (are_apart ns) a in
-      both (not_from_false (is_among b.name (names_of bs)) (subst (λ x. is_among x (names_of bs) ≡ false) (sym e) (not_named m r p.2 (ltb-true m (2 ^ 64) p.0) (not-true (list_any (λ k. k == m) ns) p.1)))) (named_distinct r p.2)
+      both_true (not_from_false (is_among b.name (names_of bs)) (subst (λ x. is_among x (names_of bs) ≡ false) (sym e) (not_named m r p.2 (ltb-true m (2 ^ 64) p.0) (not-true (list_any (λ k. k == m) ns) p.1)))) (named_distinct r p.2)
 
   named_of : (k : ℕ) {bs : List Binder} {ns : List ℕ} → ((n : ℕ) → n < 2 ^ 64 → family (name n) ≡ k) → Named name bs ns → are_apart ns ≡ true → AreOf k (names_of bs)
   named_of k f none a = tt
@@ -305,10 +303,10 @@ module _ (t : Target) (level : Level) where
 functions_different : (u : C.TypedUnit) (levels : Name → Level) (fs : List C.TypedFn) → are_functions u fs ≡ true → are_numbered fs ≡ true → list_all (λ f. are_distinct (names_of f.locals)) (map (λ f. function_of u.layout (levels f.name) f) fs) ≡ true
 functions_different u levels [] h k = refl
 functions_different u levels (f ∷ fs) h k =
-    let p = all_of_two (is_function u f) (are_functions u fs) h in
-    let q = all_of_two (are_numbers (numbers_in f.body)) (are_numbered fs) k in
+    let p = and_parts (is_function u f) (are_functions u fs) h in
+    let q = and_parts (are_numbers (numbers_in f.body)) (are_numbered fs) k in
     let r = all_of_four (are_variables (f.params ++ f.locals)) (are_distinct (C.variable_names (f.params ++ f.locals))) (is_result f.result) (are_statements (scope_in u f) nowhere f.body) p.0 in
-    both (locals_distinct u.layout.target (levels f.name) f r.0 r.1 q.0) (functions_different u levels fs p.1 q.1)
+    both_true (locals_distinct u.layout.target (levels f.name) f r.0 r.1 q.0) (functions_different u levels fs p.1 q.1)
 
 pub locals_are_different : (u : C.TypedUnit) → IsWellTyped u → (levels : Name → Level) → list_all (λ f. are_distinct (names_of f.locals)) (generated u levels).functions ≡ true
 locals_are_different u h levels = functions_different u levels u.functions h.functions h.numbers

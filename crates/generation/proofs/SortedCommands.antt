@@ -1,6 +1,7 @@
 -- The commands of a well-typed statement are well-sorted, where the locals that they add are in scope.
 use Rattle.std.proofs.Common.{◌≡◌, ℕ, Bool, true, false, List, [], ◌∷◌, ◌++◌, map, Option, Some, None, ℤ, refl, sym, ap, ap₂, ◌∙◌, cond, subst, eq-eqb, inl, inr}
 use Rattle.std.proofs.lemmas.Bool.{false≢true, and_from, cond-true, cond-false}
+use Rattle.std.specs.Cmp.{first_so, second_so}
 use Rattle.c_values.specs.Name.{Name}
 use Rattle.c_values.specs.Types.{Target, IntType, CType, Integer, Void, Ptr, Struct, Array, is_signed, width_of, address_width}
 use Rattle.c_values.specs.Layout.{Layout, Shape, Incomplete, Scalar, Record, Row, type_of, shape_of, is_object, is_scalar, scalar_width}
@@ -24,7 +25,7 @@ use Rattle.generation.specs.Generate.{exception_local, call_local, switch_local,
 use Rattle.generation.proofs.ExactTests.{by_test, none_is_none, all_of_three}
 use Rattle.generation.proofs.ExactMachines.{is_declared, declared_scalar}
 use Rattle.generation.proofs.SortedRows as R
-use Rattle.generation.proofs.SortedRows.{first, second, Has, HasWord, HasTruth, HasPath, Truths, none, more, in_program, truth_in_program, conditions_sorted, truths_append}
+use Rattle.generation.proofs.SortedRows.{Has, HasWord, HasTruth, HasPath, Truths, none, more, in_program, truth_in_program, conditions_sorted, truths_append}
 use Rattle.generation.proofs.SortedExpressions as X
 use Rattle.generation.proofs.SortedExpressions.{IsScope, simpl_scope, scalar_wide, conversion_sorted, expression_sorted, accesses_sorted, guards_sorted, place_guards_sorted}
 
@@ -207,7 +208,7 @@ module _ (g : Scope) (names : Name → Option S.Scalar) (sigs : List Signature) 
   value e h = (expression_sorted g names is.scope e h).0
 
   value_at : (t : CType) (e : C.Expr) → is_typed_at g t e ≡ true → Has s (sort_at (shape_of g.layout t)) (exp g.layout e)
-  value_at t e h = X.typed_as g names is.scope t e _ (first _ _ h) (value e (second _ _ h))
+  value_at t e h = X.typed_as g names is.scope t e _ (first_so _ _ h) (value e (second_so _ _ h))
 
   conditions : (e : C.Expr) → is_typed g e ≡ true → Truths s (guards g.layout level e)
   conditions e h = guards_sorted g names is.scope level e h
@@ -223,9 +224,9 @@ module _ (g : Scope) (names : Name → Option S.Scalar) (sigs : List Signature) 
       let d = is_declared (variable_type g.variables y) t h in
       set_sorted s sigs y (WordSort (scalar_width l.target t)) e (is.scope.known y t d) (X.word_from g names is.scope t e (declared_scalar g.variables is.scope.own y t d).1 k)
   assignment_sorted (C.ToPlace (C.Through t p path u)) e h k =
-      let j = first _ _ (first _ _ h) in
+      let j = first_so _ _ (first_so _ _ h) in
       let w = X.path_in_memory g names is.scope t p path u h in
-      store_sorted s sigs t _ _ (shape_of l u) e (first _ _ j) (X.pointer g names is.scope t p (second _ _ j)) w.0 (part_fits l.target (structs_of l) (shape_of l u) w.1) k
+      store_sorted s sigs t _ _ (shape_of l u) e (first_so _ _ j) (X.pointer g names is.scope t p (second_so _ _ j)) w.0 (part_fits l.target (structs_of l) (shape_of l u) w.1) k
   assignment_sorted (C.ToPlace (C.InGlobal x path u)) e h k =
       let w = X.path_in_global g names is.scope x path u h in set_global_sorted s sigs x w.0 _ (shape_of l u) e w.1 w.2 w.3.0 (part_fits l.target (structs_of l) (shape_of l u) w.3.1) k
 
@@ -242,14 +243,14 @@ module _ (g : Scope) (names : Name → Option S.Scalar) (sigs : List Signature) 
   arguments_sorted t (v ∷ vs) (e ∷ es) h k =
       let p = all_of_three (is_scalar v.type) (is_own_name v.name) (are_variables vs) h in
       ap₂ with_scalar
-      (ap scalar_in (in_program s _ _ (X.word_from g names is.scope v.type _ p.0 (value_at v.type e (first _ _ k)))) ∙ ap Some (sym (kind_word l.target t v.type)))
-      (arguments_sorted t vs es p.2 (second _ _ k))
+      (ap scalar_in (in_program s _ _ (X.word_from g names is.scope v.type _ p.0 (value_at v.type e (first_so _ _ k)))) ∙ ap Some (sym (kind_word l.target t v.type)))
+      (arguments_sorted t vs es p.2 (second_so _ _ k))
   arguments_sorted t [] (e ∷ es) h k = absurd (false≢true k)
   arguments_sorted t (v ∷ vs) [] h k = absurd (false≢true k)
 
   argument_conditions : (vs : List C.Variable) (es : List C.Expr) → are_arguments g vs es ≡ true → Truths s (argument_guards g.layout level es)
   argument_conditions [] [] k = none
-  argument_conditions (v ∷ vs) (e ∷ es) k = truths_append (conditions e (second _ _ (first _ _ k))) (argument_conditions vs es (second _ _ k))
+  argument_conditions (v ∷ vs) (e ∷ es) k = truths_append (conditions e (second_so _ _ (first_so _ _ k))) (argument_conditions vs es (second_so _ _ k))
   argument_conditions [] (e ∷ es) k = absurd (false≢true k)
   argument_conditions (v ∷ vs) [] k = absurd (false≢true k)
 
@@ -279,13 +280,13 @@ module _ (g : Scope) (names : Name → Option S.Scalar) (sigs : List Signature) 
   use_sorted None n f es C.NoResult h k d = record { sorted = ap (λ o. fits_target s None o) h.1 }
   use_sorted (Some t) n f es (C.Ignored from) h k d = called_into n f es t from h (type_is t from k) d.0
   use_sorted (Some t) n f es (C.Assigned from target) h k d =
-      let j = first _ _ k in
-      let typed = second _ _ k in
-      seq_sorted s sigs (called_into n f es t from h (type_is t from (first _ _ j)) d.0)
-      (guarded_sorted s sigs (target_sorted target typed) (assignment_sorted target _ typed (X.word_to g names is.scope (C.target_type target) _ (second _ _ j) (call_value n from (C.target_type target) d.0))))
+      let j = first_so _ _ k in
+      let typed = second_so _ _ k in
+      seq_sorted s sigs (called_into n f es t from h (type_is t from (first_so _ _ j)) d.0)
+      (guarded_sorted s sigs (target_sorted target typed) (assignment_sorted target _ typed (X.word_to g names is.scope (C.target_type target) _ (second_so _ _ j) (call_value n from (C.target_type target) d.0))))
   use_sorted (Some t) n f es (C.Returned from to) h k d =
-      seq_sorted s sigs (called_into n f es t from h (type_is t from (first _ _ k)) d.0)
-      (seq_sorted s sigs (set_result to _ (is_declared g.result to (second _ _ k)) (call_value n from to d.0)) (jumps returned))
+      seq_sorted s sigs (called_into n f es t from h (type_is t from (first_so _ _ k)) d.0)
+      (seq_sorted s sigs (set_result to _ (is_declared g.result to (second_so _ _ k)) (call_value n from to d.0)) (jumps returned))
   use_sorted None n f es (C.Ignored from) h k d = absurd (false≢true k)
   use_sorted None n f es (C.Assigned from target) h k d = absurd (false≢true k)
   use_sorted None n f es (C.Returned from to) h k d = absurd (false≢true k)
@@ -294,13 +295,13 @@ module _ (g : Scope) (names : Name → Option S.Scalar) (sigs : List Signature) 
   call_sorted : (o : Option C.TypedFn) (n : ℕ) (f : Name) (es : List C.Expr) (u : C.Use) → C.typed_fn g.functions f ≡ o → is_call_of g o es u ≡ true → AreIn names (use_binder g.layout.target level n u) → Good (call_of g.layout level n f es u)
   call_sorted None n f es u e h d = absurd (false≢true h)
   call_sorted (Some k) n f es u e h d =
-      guarded_sorted s sigs (argument_conditions k.params es (first _ _ h)) (use_sorted k.result n f (exps l es) u (call_gives f k es e (first _ _ h)) (second _ _ h) d)
+      guarded_sorted s sigs (argument_conditions k.params es (first_so _ _ h)) (use_sorted k.result n f (exps l es) u (call_gives f k es e (first_so _ _ h)) (second_so _ _ h) d)
 
   -- tests
 
   test_conditions : (t : C.Test) → is_typed_test g t ≡ true → Truths s (test_guards g.layout level t)
   test_conditions C.Always h = none
-  test_conditions (C.Tested e) h = conditions e (second _ _ h)
+  test_conditions (C.Tested e) h = conditions e (second_so _ _ h)
 
   test_sorted : (t : C.Test) → is_typed_test g t ≡ true → HasTruth s (test_truth g.layout t)
   test_sorted C.Always h = R.truth_literal s true
@@ -316,39 +317,39 @@ module _ (g : Scope) (names : Name → Option S.Scalar) (sigs : List Signature) 
     command_sorted r (C.Block ss) h a = commands_sorted r ss h a
     command_sorted r (C.Declare y t) h a = pick_sorted s sigs y _ (is.scope.known y t (is_declared (variable_type g.variables y) t h))
     command_sorted r (C.Assign d e) h a =
-        guarded_sorted s sigs (truths_append (conditions e (second _ _ (second _ _ h))) (target_sorted d (first _ _ h))) (assignment_sorted d _ (first _ _ h) (value_at (C.target_type d) e (second _ _ h)))
+        guarded_sorted s sigs (truths_append (conditions e (second_so _ _ (second_so _ _ h))) (target_sorted d (first_so _ _ h))) (assignment_sorted d _ (first_so _ _ h) (value_at (C.target_type d) e (second_so _ _ h)))
     command_sorted r (C.Call n f es u) h a = call_sorted (C.typed_fn g.functions f) n f es u refl h a.calls
     command_sorted r (C.If e b c) h a =
-        let k = first _ _ h in
+        let k = first_so _ _ h in
         let d = both_parts names (added l.target level b) (added l.target level c) a in
-        guarded_sorted s sigs (conditions e (second _ _ (first _ _ k)))
-        (cond_sorted s sigs (X.test g names is.scope e (first _ _ k)) (command_sorted r b (second _ _ k) d.0) (command_sorted r c (second _ _ h) d.1))
+        guarded_sorted s sigs (conditions e (second_so _ _ (first_so _ _ k)))
+        (cond_sorted s sigs (X.test g names is.scope e (first_so _ _ k)) (command_sorted r b (second_so _ _ k) d.0) (command_sorted r c (second_so _ _ h) d.1))
     command_sorted r (C.While e b) h a =
-        loop_sorted s sigs is.exception (conditions e (second _ _ (first _ _ h))) (X.test g names is.scope e (first _ _ h)) (body_sorted s sigs is.exception (command_sorted in_a_loop b (second _ _ h) a))
+        loop_sorted s sigs is.exception (conditions e (second_so _ _ (first_so _ _ h))) (X.test g names is.scope e (first_so _ _ h)) (body_sorted s sigs is.exception (command_sorted in_a_loop b (second_so _ _ h) a))
     command_sorted r (C.DoWhile k b e) h a =
         let d = both_parts names (record { calls = []; switches = []; firsts = binder (first_local k) BoolKind ∷ [] }) (added l.target level b) a in
-        do_while_sorted s sigs is.exception k d.0.firsts.0 _ _ _ (conditions e (second _ _ (second _ _ h))) (X.test g names is.scope e (second _ _ h)) (command_sorted in_a_loop b (first _ _ h) d.1)
+        do_while_sorted s sigs is.exception k d.0.firsts.0 _ _ _ (conditions e (second_so _ _ (second_so _ _ h))) (X.test g names is.scope e (second_so _ _ h)) (command_sorted in_a_loop b (first_so _ _ h) d.1)
     command_sorted r (C.For init test step b) h a =
-        let k = first _ _ h in
-        let j = first _ _ k in
+        let k = first_so _ _ h in
+        let j = first_so _ _ k in
         let d = both_parts names (added_in l.target level init) (both_added (added l.target level step) (added l.target level b)) a in
         let c = both_parts names (added l.target level step) (added l.target level b) d.1 in
-        before_sorted init _ (first _ _ j) d.0
-        (loop_sorted s sigs is.exception (test_conditions test (second _ _ j)) (test_sorted test (second _ _ j))
-        (seq_sorted s sigs (body_sorted s sigs is.exception (command_sorted in_a_loop b (second _ _ h) c.1)) (command_sorted nowhere step (second _ _ k) c.0)))
+        before_sorted init _ (first_so _ _ j) d.0
+        (loop_sorted s sigs is.exception (test_conditions test (second_so _ _ j)) (test_sorted test (second_so _ _ j))
+        (seq_sorted s sigs (body_sorted s sigs is.exception (command_sorted in_a_loop b (second_so _ _ h) c.1)) (command_sorted nowhere step (second_so _ _ k) c.0)))
     command_sorted r (C.Switch n i e gs) h a =
-        let typed = first _ _ (first _ _ (first _ _ (first _ _ h))) in
+        let typed = first_so _ _ (first_so _ _ (first_so _ _ (first_so _ _ h))) in
         let d = both_parts names (record { calls = []; switches = binder (switch_local n) (kind_at l.target level (Integer i)) ∷ []; firsts = [] }) (added_of l.target level gs) a in
         let known : names (switch_local n) ≡ Some (WordSort (width_of l.target i)) = d.0.switches.0 ∙ ap Some (kind_word l.target level (Integer i)) in
-        guarded_sorted s sigs (conditions e (second _ _ typed))
+        guarded_sorted s sigs (conditions e (second_so _ _ typed))
         (seq_sorted s sigs (set_sorted s sigs (switch_local n) _ _ known (value_at (Integer i) e typed))
-        (catch_sorted s sigs (cases_sorted s sigs _ _ (default_sorted (in_a_switch r) gs (second _ _ h) d.1) (groups_sorted (in_a_switch r) n i known gs (second _ _ h) d.1)) (stops_sorted s sigs is.exception broken)))
+        (catch_sorted s sigs (cases_sorted s sigs _ _ (default_sorted (in_a_switch r) gs (second_so _ _ h) d.1) (groups_sorted (in_a_switch r) n i known gs (second_so _ _ h) d.1)) (stops_sorted s sigs is.exception broken)))
     command_sorted r C.Break h a = jumps broken
     command_sorted r C.Continue h a = jumps continued
     command_sorted r C.ReturnNothing h a = jumps returned
     command_sorted r (C.Return e) h a =
-        let k = is_declared g.result (C.type_of e) (first _ _ h) in
-        let typed = second _ _ h in
+        let k = is_declared g.result (C.type_of e) (first_so _ _ h) in
+        let typed = second_so _ _ h in
         guarded_sorted s sigs (conditions e typed)
         (seq_sorted s sigs (set_result (C.type_of e) _ k (X.word_from g names is.scope (C.type_of e) _ (result_scalar g.result (C.type_of e) is.results k) (value e typed))) (jumps returned))
 
@@ -356,26 +357,26 @@ module _ (g : Scope) (names : Name → Option S.Scalar) (sigs : List Signature) 
     commands_sorted r C.no_statements h a = skip_sorted s sigs
     commands_sorted r (C.next c ss) h a =
         let d = both_parts names (added l.target level c) (added_in l.target level ss) a in
-        in_order_sorted s sigs _ (is_empty ss) _ (command_sorted r c (first _ _ h) d.0) (commands_sorted r ss (second _ _ h) d.1)
+        in_order_sorted s sigs _ (is_empty ss) _ (command_sorted r c (first_so _ _ h) d.0) (commands_sorted r ss (second_so _ _ h) d.1)
 
     before_sorted : (ss : C.Statements) (rest : Simpl) → are_statements g nowhere ss ≡ true → HasAdded names (added_in g.layout.target level ss) → Good rest → Good (before g.layout level ss rest)
     before_sorted C.no_statements rest h a k = k
     before_sorted (C.next c ss) rest h a k =
         let d = both_parts names (added l.target level c) (added_in l.target level ss) a in
-        seq_sorted s sigs (command_sorted nowhere c (first _ _ h) d.0) (before_sorted ss rest (second _ _ h) d.1 k)
+        seq_sorted s sigs (command_sorted nowhere c (first_so _ _ h) d.0) (before_sorted ss rest (second_so _ _ h) d.1 k)
 
     groups_sorted : (r : Around) (n : ℕ) (i : IntType) → names (switch_local n) ≡ Some (WordSort (width_of g.layout.target i)) → (gs : C.Groups) → are_groups g r gs ≡ true → HasAdded names (added_of g.layout.target level gs) →
         CasesSorted s sigs (cases_of g.layout level n i gs)
     groups_sorted r n i e C.no_groups h a = tt
-    groups_sorted r n i e (C.group labels true ss gs) h a = groups_sorted r n i e gs (second _ _ h) (both_parts names (added_in l.target level ss) (added_of l.target level gs) a).1
+    groups_sorted r n i e (C.group labels true ss gs) h a = groups_sorted r n i e gs (second_so _ _ h) (both_parts names (added_in l.target level ss) (added_of l.target level gs) a).1
     groups_sorted r n i e (C.group labels false ss gs) h a =
         let d = both_parts names (added_in l.target level ss) (added_of l.target level gs) a in
-        (label_sorted s sigs l.target i n e labels, commands_sorted r ss (first _ _ h) d.0, groups_sorted r n i e gs (second _ _ h) d.1)
+        (label_sorted s sigs l.target i n e labels, commands_sorted r ss (first_so _ _ h) d.0, groups_sorted r n i e gs (second_so _ _ h) d.1)
 
     default_sorted : (r : Around) (gs : C.Groups) → are_groups g r gs ≡ true → HasAdded names (added_of g.layout.target level gs) → Good (default_of g.layout level gs)
     default_sorted r C.no_groups h a = skip_sorted s sigs
-    default_sorted r (C.group labels true ss gs) h a = commands_sorted r ss (first _ _ h) (both_parts names (added_in l.target level ss) (added_of l.target level gs) a).0
-    default_sorted r (C.group labels false ss gs) h a = default_sorted r gs (second _ _ h) (both_parts names (added_in l.target level ss) (added_of l.target level gs) a).1
+    default_sorted r (C.group labels true ss gs) h a = commands_sorted r ss (first_so _ _ h) (both_parts names (added_in l.target level ss) (added_of l.target level gs) a).0
+    default_sorted r (C.group labels false ss gs) h a = default_sorted r gs (second_so _ _ h) (both_parts names (added_in l.target level ss) (added_of l.target level gs) a).1
 
   pub whole_sorted : (t : Option CType) (c : Simpl) → Good c → Good (whole_body t c)
   whole_sorted None c h = catch_sorted s sigs h (skip_sorted s sigs)

@@ -4,6 +4,7 @@ use Rattle.std.specs.Prelude.{nat_lt}
 use Rattle.std.proofs.Common.{◌≡◌, ℕ, zero, suc, ◌==◌, Bool, true, false, ◌&&◌, Option, Some, None, pos, refl, sym, ap, ◌∙◌, subst, arith, inl, inr, eqb-true}
 use Rattle.std.proofs.lemmas.Bool.{false≢true}
 use Rattle.std.proofs.lemmas.Bool.Decides.{nat_tests}
+use Rattle.std.specs.Cmp.{first_so, second_so}
 use Rattle.c_values.specs.Name.{Name}
 use Rattle.c_values.specs.Types.{Target, Ilp32, Lp64, IntType, Char, SChar, UChar, Short, UShort, Int, UInt, Long, ULong, LLong, ULLong, CType, Integer, Void, Ptr, Struct, Array, width_of, address_width, is_signed}
 use Rattle.c_values.specs.Width.{IsWidth}
@@ -26,7 +27,7 @@ use Rattle.generation.proofs.ExactMachines.{is_declared, declared_scalar}
 use Rattle.generation.proofs.ExactPath.{nowhere, end_of, into_row}
 use Rattle.generation.proofs.ExactPlaces.{global_object}
 use Rattle.generation.proofs.SortedRows as R
-use Rattle.generation.proofs.SortedRows.{first, second, Has, HasWord, HasNumber, HasTruth, HasPath, Truths, none, more, truths_append, resorted}
+use Rattle.generation.proofs.SortedRows.{Has, HasWord, HasNumber, HasTruth, HasPath, Truths, none, more, truths_append, resorted}
 
 -- widths
 
@@ -263,40 +264,40 @@ module _ (g : Scope) (names : Name → Option S.Scalar) (is : IsScope g names) w
         let d = is_declared (variable_type g.variables y) t h in
         valued t (E.Var y) (record { plain = refl; sort = ap scalar_sort (is.known y t d) ∙ sym (type_word l t (declared_scalar g.variables is.own y t d).1) })
     expression_sorted (C.Value p) h = valued (C.place_type p) _ (place_sorted p h).0
-    expression_sorted (C.Convert t a) h = converted t a (first _ _ h) (first _ _ (second _ _ h)) (expression_sorted a (second _ _ (second _ _ h)))
-    expression_sorted (C.ConvertNull t a) h = converted t a (first _ _ h) (first _ _ (second _ _ h)) (expression_sorted a (second _ _ (second _ _ h)))
-    expression_sorted (C.Negate i a) h = valued (Integer i) _ (R.unary s _ _ (integer_read i a (first _ _ h) (expression_sorted a (second _ _ h))) Wneg)
-    expression_sorted (C.Complement i a) h = valued (Integer i) _ (R.unary s _ _ (integer_read i a (first _ _ h) (expression_sorted a (second _ _ h))) Wnot)
-    expression_sorted (C.Compute op i a b) h = valued (Integer i) _ (R.binary s _ _ (integer_read i a (first _ _ (first _ _ h)) (expression_sorted a (second _ _ (first _ _ h)))) (word_op_of op (is_signed i)) _ (integer_read i b (first _ _ (second _ _ h)) (expression_sorted b (second _ _ (second _ _ h)))))
-    expression_sorted (C.Combine op i a b) h = valued (Integer i) _ (R.binary s _ _ (integer_read i a (first _ _ (first _ _ h)) (expression_sorted a (second _ _ (first _ _ h)))) (combine_op op) _ (integer_read i b (first _ _ (second _ _ h)) (expression_sorted b (second _ _ (second _ _ h)))))
-    expression_sorted (C.Shift d i a b) h = valued (Integer i) _ (shift_sorted s _ i d _ _ (integer_read i a (first _ _ (first _ _ h)) (expression_sorted a (second _ _ (first _ _ h)))) (number_read b (first _ _ (second _ _ h)) (expression_sorted b (second _ _ (second _ _ h)))))
-    expression_sorted (C.Compare r i a b) h = truthful _ (comparison_sorted s _ _ _ (integer_read i a (first _ _ (first _ _ h)) (expression_sorted a (second _ _ (first _ _ h)))) (integer_read i b (first _ _ (second _ _ h)) (expression_sorted b (second _ _ (second _ _ h)))) r (is_signed i))
+    expression_sorted (C.Convert t a) h = converted t a (first_so _ _ h) (first_so _ _ (second_so _ _ h)) (expression_sorted a (second_so _ _ (second_so _ _ h)))
+    expression_sorted (C.ConvertNull t a) h = converted t a (first_so _ _ h) (first_so _ _ (second_so _ _ h)) (expression_sorted a (second_so _ _ (second_so _ _ h)))
+    expression_sorted (C.Negate i a) h = valued (Integer i) _ (R.unary s _ _ (integer_read i a (first_so _ _ h) (expression_sorted a (second_so _ _ h))) Wneg)
+    expression_sorted (C.Complement i a) h = valued (Integer i) _ (R.unary s _ _ (integer_read i a (first_so _ _ h) (expression_sorted a (second_so _ _ h))) Wnot)
+    expression_sorted (C.Compute op i a b) h = valued (Integer i) _ (R.binary s _ _ (integer_read i a (first_so _ _ (first_so _ _ h)) (expression_sorted a (second_so _ _ (first_so _ _ h)))) (word_op_of op (is_signed i)) _ (integer_read i b (first_so _ _ (second_so _ _ h)) (expression_sorted b (second_so _ _ (second_so _ _ h)))))
+    expression_sorted (C.Combine op i a b) h = valued (Integer i) _ (R.binary s _ _ (integer_read i a (first_so _ _ (first_so _ _ h)) (expression_sorted a (second_so _ _ (first_so _ _ h)))) (combine_op op) _ (integer_read i b (first_so _ _ (second_so _ _ h)) (expression_sorted b (second_so _ _ (second_so _ _ h)))))
+    expression_sorted (C.Shift d i a b) h = valued (Integer i) _ (shift_sorted s _ i d _ _ (integer_read i a (first_so _ _ (first_so _ _ h)) (expression_sorted a (second_so _ _ (first_so _ _ h)))) (number_read b (first_so _ _ (second_so _ _ h)) (expression_sorted b (second_so _ _ (second_so _ _ h)))))
+    expression_sorted (C.Compare r i a b) h = truthful _ (comparison_sorted s _ _ _ (integer_read i a (first_so _ _ (first_so _ _ h)) (expression_sorted a (second_so _ _ (first_so _ _ h)))) (integer_read i b (first_so _ _ (second_so _ _ h)) (expression_sorted b (second_so _ _ (second_so _ _ h)))) r (is_signed i))
     expression_sorted (C.Equate q t a b) h =
-        let k = first _ _ h in truthful _ (equation_sorted s _ _ _ (scalar_read t a (first _ _ k) (first _ _ (second _ _ k)) (expression_sorted a (second _ _ (second _ _ k)))) (scalar_read t b (first _ _ k) (first _ _ (second _ _ h)) (expression_sorted b (second _ _ (second _ _ h)))) q)
-    expression_sorted (C.Not a) h = truthful _ (R.negated s _ (test_read a (first _ _ h) (expression_sorted a (second _ _ h))))
-    expression_sorted (C.And a b) h = truthful _ (R.both s _ (test_read a (first _ _ (first _ _ h)) (expression_sorted a (second _ _ (first _ _ h)))) _ (test_read b (first _ _ (second _ _ h)) (expression_sorted b (second _ _ (second _ _ h)))))
-    expression_sorted (C.Or a b) h = truthful _ (R.either s _ (test_read a (first _ _ (first _ _ h)) (expression_sorted a (second _ _ (first _ _ h)))) _ (test_read b (first _ _ (second _ _ h)) (expression_sorted b (second _ _ (second _ _ h)))))
+        let k = first_so _ _ h in truthful _ (equation_sorted s _ _ _ (scalar_read t a (first_so _ _ k) (first_so _ _ (second_so _ _ k)) (expression_sorted a (second_so _ _ (second_so _ _ k)))) (scalar_read t b (first_so _ _ k) (first_so _ _ (second_so _ _ h)) (expression_sorted b (second_so _ _ (second_so _ _ h)))) q)
+    expression_sorted (C.Not a) h = truthful _ (R.negated s _ (test_read a (first_so _ _ h) (expression_sorted a (second_so _ _ h))))
+    expression_sorted (C.And a b) h = truthful _ (R.both s _ (test_read a (first_so _ _ (first_so _ _ h)) (expression_sorted a (second_so _ _ (first_so _ _ h)))) _ (test_read b (first_so _ _ (second_so _ _ h)) (expression_sorted b (second_so _ _ (second_so _ _ h)))))
+    expression_sorted (C.Or a b) h = truthful _ (R.either s _ (test_read a (first_so _ _ (first_so _ _ h)) (expression_sorted a (second_so _ _ (first_so _ _ h)))) _ (test_read b (first_so _ _ (second_so _ _ h)) (expression_sorted b (second_so _ _ (second_so _ _ h)))))
     expression_sorted (C.Choose t c a b) h =
-        let k = first _ _ h in
-        let j = first _ _ k in
-        valued t _ (word_to t _ (first _ _ j) (R.choice s _ _ (scalar_read t a (first _ _ j) (first _ _ (second _ _ k)) (expression_sorted a (second _ _ (second _ _ k)))) _ _ (test_read c (first _ _ (second _ _ j)) (expression_sorted c (second _ _ (second _ _ j)))) (scalar_read t b (first _ _ j) (first _ _ (second _ _ h)) (expression_sorted b (second _ _ (second _ _ h))))))
+        let k = first_so _ _ h in
+        let j = first_so _ _ k in
+        valued t _ (word_to t _ (first_so _ _ j) (R.choice s _ _ (scalar_read t a (first_so _ _ j) (first_so _ _ (second_so _ _ k)) (expression_sorted a (second_so _ _ (second_so _ _ k)))) _ _ (test_read c (first_so _ _ (second_so _ _ j)) (expression_sorted c (second_so _ _ (second_so _ _ j)))) (scalar_read t b (first_so _ _ j) (first_so _ _ (second_so _ _ h)) (expression_sorted b (second_so _ _ (second_so _ _ h))))))
     expression_sorted (C.Move d t p a) h =
-        let k = first _ _ h in valued (Ptr t) _ (R.moved s t (first _ _ k) _ (pointer_read t p (first _ _ (second _ _ k)) (expression_sorted p (second _ _ (second _ _ k)))) _ (moved_sorted s d _ (number_read a (first _ _ (second _ _ h)) (expression_sorted a (second _ _ (second _ _ h))))))
+        let k = first_so _ _ h in valued (Ptr t) _ (R.moved s t (first_so _ _ k) _ (pointer_read t p (first_so _ _ (second_so _ _ k)) (expression_sorted p (second_so _ _ (second_so _ _ k)))) _ (moved_sorted s d _ (number_read a (first_so _ _ (second_so _ _ h)) (expression_sorted a (second_so _ _ (second_so _ _ h))))))
     expression_sorted (C.MoveBy t a p) h =
-        let k = first _ _ h in valued (Ptr t) _ (R.moved s t (first _ _ k) _ (pointer_read t p (first _ _ (second _ _ h)) (expression_sorted p (second _ _ (second _ _ h)))) _ (number_read a (first _ _ (second _ _ k)) (expression_sorted a (second _ _ (second _ _ k)))))
-    expression_sorted (C.Address p t) h = let k = first _ _ h in valued (Ptr t) _ ((place_sorted p (second _ _ k)).1 (first _ _ k))
-    expression_sorted (C.Decay p t) h = let k = first _ _ h in valued (Ptr t) _ ((place_sorted p (second _ _ k)).1 (first _ _ k))
+        let k = first_so _ _ h in valued (Ptr t) _ (R.moved s t (first_so _ _ k) _ (pointer_read t p (first_so _ _ (second_so _ _ h)) (expression_sorted p (second_so _ _ (second_so _ _ h)))) _ (number_read a (first_so _ _ (second_so _ _ k)) (expression_sorted a (second_so _ _ (second_so _ _ k)))))
+    expression_sorted (C.Address p t) h = let k = first_so _ _ h in valued (Ptr t) _ ((place_sorted p (second_so _ _ k)).1 (first_so _ _ k))
+    expression_sorted (C.Decay p t) h = let k = first_so _ _ h in valued (Ptr t) _ ((place_sorted p (second_so _ _ k)).1 (first_so _ _ k))
 
     -- what lies at a place, and its address
     place_sorted : (p : C.Place) → is_typed_place g p ≡ true → Of (C.place_type p) (content g.layout p) × (is_in_memory p ≡ true → HasWord s (address_width g.layout.target) (address g.layout p))
     place_sorted (C.Through t p path u) h =
-        let k = first _ _ h in
-        let j = first _ _ k in
-        let way = (ended t path u (first _ _ j) (second _ _ h) (path_sorted path (second _ _ k))).0 in
-        let root = pointer_read t p (first _ _ (second _ _ j)) (expression_sorted p (second _ _ (second _ _ j))) in
-        (R.loaded s t (first _ _ j) _ root _ (shape_of l u) way, λ m. R.at s t (first _ _ j) _ root _ (shape_of l u) way)
+        let k = first_so _ _ h in
+        let j = first_so _ _ k in
+        let way = (ended t path u (first_so _ _ j) (second_so _ _ h) (path_sorted path (second_so _ _ k))).0 in
+        let root = pointer_read t p (first_so _ _ (second_so _ _ j)) (expression_sorted p (second_so _ _ (second_so _ _ j))) in
+        (R.loaded s t (first_so _ _ j) _ root _ (shape_of l u) way, λ m. R.at s t (first_so _ _ j) _ root _ (shape_of l u) way)
     place_sorted (C.InGlobal x path u) h =
-        let w = global_ended x path u (global_type g.globals x) refl (second _ _ h) (path_sorted path (first _ _ h)) in (R.global s x w.0 w.1 w.2 _ (shape_of l u) w.3.0, λ m. absurd (false≢true m))
+        let w = global_ended x path u (global_type g.globals x) refl (second_so _ _ h) (path_sorted path (first_so _ _ h)) in (R.global s x w.0 w.1 w.2 _ (shape_of l u) w.3.0, λ m. absurd (false≢true m))
 
     path_sorted : (path : C.Path) → are_typed_indices g path ≡ true → (r q : Shape) → shape_along (Some r) path ≡ Some q → HasPath s (path_of g.layout path) r q
     path_sorted C.Here h r q e = subst (HasPath s E.Here r) (same_some e) (R.here s r)
@@ -307,7 +308,7 @@ module _ (g : Scope) (names : Name → Option S.Scalar) (is : IsScope g names) w
         by_member None c d rest = absurd (none_is_none (sym (nowhere path) ∙ d))
         by_member (Some r) c d rest =
             let m = member_found fs k r c in R.into_field s x n align fs k m.0 _ q m.1 (subst (λ z. HasPath s (path_of l path) z q) (sym m.2) (rest r q d))
-    path_sorted (C.Element n i path) h (Row r m) q e = R.into_element s r m _ _ q (number_read i (first _ _ (first _ _ h)) (expression_sorted i (second _ _ (first _ _ h)))) (path_sorted path (second _ _ h) r q (into_row n m r path q e).1)
+    path_sorted (C.Element n i path) h (Row r m) q e = R.into_element s r m _ _ q (number_read i (first_so _ _ (first_so _ _ h)) (expression_sorted i (second_so _ _ (first_so _ _ h)))) (path_sorted path (second_so _ _ h) r q (into_row n m r path q e).1)
     path_sorted (C.Member k path) h Incomplete q e = absurd (none_is_none e)
     path_sorted (C.Member k path) h (Scalar u w) q e = absurd (none_is_none e)
     path_sorted (C.Member k path) h (Row r m) q e = absurd (none_is_none e)
@@ -317,34 +318,34 @@ module _ (g : Scope) (names : Name → Option S.Scalar) (is : IsScope g names) w
 
   -- the path of a typed place, from a root that is an object
   pub path_in_memory : (t : CType) (p : C.Expr) (path : C.Path) (u : CType) → is_typed_place g (C.Through t p path u) ≡ true → Leads t path u
-  path_in_memory t p path u h = let k = first _ _ h in ended t path u (first _ _ (first _ _ k)) (second _ _ h) (path_sorted path (second _ _ k))
+  path_in_memory t p path u h = let k = first_so _ _ h in ended t path u (first_so _ _ (first_so _ _ k)) (second_so _ _ h) (path_sorted path (second_so _ _ k))
 
   pub path_in_global : (x : Name) (path : C.Path) (u : CType) → is_typed_place g (C.InGlobal x path u) ≡ true → (t : CType) × (global_type g.globals x ≡ Some t) × (is_object g.layout t ≡ true) × Leads t path u
-  path_in_global x path u h = global_ended x path u (global_type g.globals x) refl (second _ _ h) (path_sorted path (first _ _ h))
+  path_in_global x path u h = global_ended x path u (global_type g.globals x) refl (second_so _ _ h) (path_sorted path (first_so _ _ h))
 
   -- the same operands, where the whole is typed
   pub operand : (i : IntType) (a : C.Expr) → (has_type (Integer i) a && is_typed g a) ≡ true → HasWord s (width_of g.layout.target i) (exp g.layout a)
-  operand i a h = integer_read i a (first _ _ h) (expression_sorted a (second _ _ h))
+  operand i a h = integer_read i a (first_so _ _ h) (expression_sorted a (second_so _ _ h))
 
   pub pointer : (t : CType) (a : C.Expr) → (has_type (Ptr t) a && is_typed g a) ≡ true → HasWord s (address_width g.layout.target) (exp g.layout a)
-  pointer t a h = pointer_read t a (first _ _ h) (expression_sorted a (second _ _ h))
+  pointer t a h = pointer_read t a (first_so _ _ h) (expression_sorted a (second_so _ _ h))
 
   pub index : (a : C.Expr) → (has_integer_type a && is_typed g a) ≡ true → HasNumber s (number (C.type_of a) (exp g.layout a))
-  index a h = number_read a (first _ _ h) (expression_sorted a (second _ _ h))
+  index a h = number_read a (first_so _ _ h) (expression_sorted a (second_so _ _ h))
 
   pub test : (a : C.Expr) → (has_scalar_type a && is_typed g a) ≡ true → HasTruth s (truth g.layout a)
-  test a h = test_read a (first _ _ h) (expression_sorted a (second _ _ h))
+  test a h = test_read a (first_so _ _ h) (expression_sorted a (second_so _ _ h))
 
   bounds_sorted : (path : C.Path) → are_typed_indices g path ≡ true → Truths s (bounds l path)
   bounds_sorted C.Here h = none
   bounds_sorted (C.Member k path) h = bounds_sorted path h
-  bounds_sorted (C.Element n e path) h = more (R.between s _ (index e (first _ _ h)) _ _) (bounds_sorted path (second _ _ h))
+  bounds_sorted (C.Element n e path) h = more (R.between s _ (index e (first_so _ _ h)) _ _) (bounds_sorted path (second_so _ _ h))
 
   pub accesses_sorted : (level : Level) (p : C.Place) → is_typed_place g p ≡ true → Truths s (accesses l level p)
   accesses_sorted level (C.Through t p path u) h =
-      let j = first _ _ (first _ _ h) in
-      let root = pointer t p (second _ _ j) in
-      more (R.pointer_ok s t (first _ _ j) _ root) (by_test (Truths s) (is_lifted level) _ _ (λ b. more (R.tagged s t (first _ _ j) _ root) none) (λ b. none))
+      let j = first_so _ _ (first_so _ _ h) in
+      let root = pointer t p (second_so _ _ j) in
+      more (R.pointer_ok s t (first_so _ _ j) _ root) (by_test (Truths s) (is_lifted level) _ _ (λ b. more (R.tagged s t (first_so _ _ j) _ root) none) (λ b. none))
   accesses_sorted level (C.InGlobal x path u) h = none
 
   module _ (level : Level) where
@@ -353,40 +354,40 @@ module _ (g : Scope) (names : Name → Option S.Scalar) (is : IsScope g names) w
       guards_sorted (C.Constant i n) h = none
       guards_sorted (C.Local y t) h = none
       guards_sorted (C.Value p) h = truths_append (place_guards_sorted p h) (accesses_sorted level p h)
-      guards_sorted (C.Convert t a) h = guards_sorted a (second _ _ (second _ _ h))
-      guards_sorted (C.ConvertNull t a) h = guards_sorted a (second _ _ (second _ _ h))
-      guards_sorted (C.Negate i a) h = truths_append (guards_sorted a (second _ _ h)) (fits_sorted s l.target level i _ (R.negate s _ (number_sorted s _ (Integer i) _ (operand i a h))))
-      guards_sorted (C.Complement i a) h = guards_sorted a (second _ _ h)
+      guards_sorted (C.Convert t a) h = guards_sorted a (second_so _ _ (second_so _ _ h))
+      guards_sorted (C.ConvertNull t a) h = guards_sorted a (second_so _ _ (second_so _ _ h))
+      guards_sorted (C.Negate i a) h = truths_append (guards_sorted a (second_so _ _ h)) (fits_sorted s l.target level i _ (R.negate s _ (number_sorted s _ (Integer i) _ (operand i a h))))
+      guards_sorted (C.Complement i a) h = guards_sorted a (second_so _ _ h)
       guards_sorted (C.Compute op i a b) h =
-          truths_append (truths_append (guards_sorted a (second _ _ (first _ _ h))) (guards_sorted b (second _ _ (second _ _ h))))
-          (computes_sorted s l.target i _ (operand i a (first _ _ h)) _ (operand i b (second _ _ h)) level op)
-      guards_sorted (C.Combine op i a b) h = truths_append (guards_sorted a (second _ _ (first _ _ h))) (guards_sorted b (second _ _ (second _ _ h)))
+          truths_append (truths_append (guards_sorted a (second_so _ _ (first_so _ _ h))) (guards_sorted b (second_so _ _ (second_so _ _ h))))
+          (computes_sorted s l.target i _ (operand i a (first_so _ _ h)) _ (operand i b (second_so _ _ h)) level op)
+      guards_sorted (C.Combine op i a b) h = truths_append (guards_sorted a (second_so _ _ (first_so _ _ h))) (guards_sorted b (second_so _ _ (second_so _ _ h)))
       guards_sorted (C.Shift d i a b) h =
-          truths_append (truths_append (guards_sorted a (second _ _ (first _ _ h))) (guards_sorted b (second _ _ (second _ _ h))))
-          (shifts_sorted s l.target i _ (operand i a (first _ _ h)) d _ (index b (second _ _ h)))
-      guards_sorted (C.Compare r i a b) h = truths_append (guards_sorted a (second _ _ (first _ _ h))) (guards_sorted b (second _ _ (second _ _ h)))
-      guards_sorted (C.Equate q t a b) h = truths_append (guards_sorted a (second _ _ (second _ _ (first _ _ h)))) (guards_sorted b (second _ _ (second _ _ h)))
-      guards_sorted (C.Not a) h = guards_sorted a (second _ _ h)
-      guards_sorted (C.And a b) h = truths_append (guards_sorted a (second _ _ (first _ _ h))) (R.all_under s _ (test a (first _ _ h)) (guards_sorted b (second _ _ (second _ _ h))))
+          truths_append (truths_append (guards_sorted a (second_so _ _ (first_so _ _ h))) (guards_sorted b (second_so _ _ (second_so _ _ h))))
+          (shifts_sorted s l.target i _ (operand i a (first_so _ _ h)) d _ (index b (second_so _ _ h)))
+      guards_sorted (C.Compare r i a b) h = truths_append (guards_sorted a (second_so _ _ (first_so _ _ h))) (guards_sorted b (second_so _ _ (second_so _ _ h)))
+      guards_sorted (C.Equate q t a b) h = truths_append (guards_sorted a (second_so _ _ (second_so _ _ (first_so _ _ h)))) (guards_sorted b (second_so _ _ (second_so _ _ h)))
+      guards_sorted (C.Not a) h = guards_sorted a (second_so _ _ h)
+      guards_sorted (C.And a b) h = truths_append (guards_sorted a (second_so _ _ (first_so _ _ h))) (R.all_under s _ (test a (first_so _ _ h)) (guards_sorted b (second_so _ _ (second_so _ _ h))))
       guards_sorted (C.Or a b) h =
-          truths_append (guards_sorted a (second _ _ (first _ _ h))) (R.all_under s _ (R.negated s _ (test a (first _ _ h))) (guards_sorted b (second _ _ (second _ _ h))))
+          truths_append (guards_sorted a (second_so _ _ (first_so _ _ h))) (R.all_under s _ (R.negated s _ (test a (first_so _ _ h))) (guards_sorted b (second_so _ _ (second_so _ _ h))))
       guards_sorted (C.Choose t c a b) h =
-          let k = first _ _ h in
-          let j = second _ _ (first _ _ k) in
-          truths_append (truths_append (guards_sorted c (second _ _ j)) (R.all_under s _ (test c j) (guards_sorted a (second _ _ (second _ _ k)))))
-          (R.all_under s _ (R.negated s _ (test c j)) (guards_sorted b (second _ _ (second _ _ h))))
-      guards_sorted (C.Move d t p a) h = truths_append (guards_sorted p (second _ _ (second _ _ (first _ _ h)))) (guards_sorted a (second _ _ (second _ _ h)))
-      guards_sorted (C.MoveBy t a p) h = truths_append (guards_sorted a (second _ _ (second _ _ (first _ _ h)))) (guards_sorted p (second _ _ (second _ _ h)))
-      guards_sorted (C.Address p t) h = place_guards_sorted p (second _ _ (first _ _ h))
-      guards_sorted (C.Decay p t) h = place_guards_sorted p (second _ _ (first _ _ h))
+          let k = first_so _ _ h in
+          let j = second_so _ _ (first_so _ _ k) in
+          truths_append (truths_append (guards_sorted c (second_so _ _ j)) (R.all_under s _ (test c j) (guards_sorted a (second_so _ _ (second_so _ _ k)))))
+          (R.all_under s _ (R.negated s _ (test c j)) (guards_sorted b (second_so _ _ (second_so _ _ h))))
+      guards_sorted (C.Move d t p a) h = truths_append (guards_sorted p (second_so _ _ (second_so _ _ (first_so _ _ h)))) (guards_sorted a (second_so _ _ (second_so _ _ h)))
+      guards_sorted (C.MoveBy t a p) h = truths_append (guards_sorted a (second_so _ _ (second_so _ _ (first_so _ _ h)))) (guards_sorted p (second_so _ _ (second_so _ _ h)))
+      guards_sorted (C.Address p t) h = place_guards_sorted p (second_so _ _ (first_so _ _ h))
+      guards_sorted (C.Decay p t) h = place_guards_sorted p (second_so _ _ (first_so _ _ h))
 
       pub place_guards_sorted : (p : C.Place) → is_typed_place g p ≡ true → Truths s (place_guards l level p)
       place_guards_sorted (C.Through t p path u) h =
-          let k = first _ _ h in
-          truths_append (truths_append (guards_sorted p (second _ _ (second _ _ (first _ _ k)))) (index_guards_sorted path (second _ _ k))) (bounds_sorted path (second _ _ k))
-      place_guards_sorted (C.InGlobal x path u) h = truths_append (index_guards_sorted path (first _ _ h)) (bounds_sorted path (first _ _ h))
+          let k = first_so _ _ h in
+          truths_append (truths_append (guards_sorted p (second_so _ _ (second_so _ _ (first_so _ _ k)))) (index_guards_sorted path (second_so _ _ k))) (bounds_sorted path (second_so _ _ k))
+      place_guards_sorted (C.InGlobal x path u) h = truths_append (index_guards_sorted path (first_so _ _ h)) (bounds_sorted path (first_so _ _ h))
 
       index_guards_sorted : (path : C.Path) → are_typed_indices g path ≡ true → Truths s (index_guards l level path)
       index_guards_sorted C.Here h = none
       index_guards_sorted (C.Member k path) h = index_guards_sorted path h
-      index_guards_sorted (C.Element n e path) h = truths_append (guards_sorted e (second _ _ (first _ _ h))) (index_guards_sorted path (second _ _ h))
+      index_guards_sorted (C.Element n e path) h = truths_append (guards_sorted e (second_so _ _ (first_so _ _ h))) (index_guards_sorted path (second_so _ _ h))

@@ -2,6 +2,7 @@
 use Rattle.std.proofs.Common.{◌≡◌, ℕ, ◌==◌, Bool, true, false, not, ◌&&◌, List, [], ◌∷◌, ◌++◌, Option, Some, None, ℤ, refl, sym, ap, ap₂, ◌∙◌, cond, eq-eqb}
 use Rattle.std.proofs.lemmas.Bool.{false≢true, and_parts, and_from, or_from, cond-false}
 use Rattle.std.proofs.lemmas.Nat.{pow_pos}
+use Rattle.std.specs.Cmp.{first_so}
 use Rattle.c_values.specs.Name.{Name}
 use Rattle.c_values.specs.Types.{CType, address_width}
 use Rattle.c_values.specs.Number.{NumberOp}
@@ -19,14 +20,8 @@ use Rattle.simpl_lang.specs.Command.{Condition}
 use Rattle.simpl_lang.specs.Sorted.{are_conditions}
 use Rattle.generation.specs.Guards.{under}
 
-pub first : (a b : Bool) → (a && b) ≡ true → a ≡ true
-first a b h = (and_parts a b h).0
-
-pub second : (a b : Bool) → (a && b) ≡ true → b ≡ true
-second a b h = (and_parts a b h).1
-
 pub width_is : (n : ℕ) → IsWidth n → is_width n ≡ true
-width_is n w = first _ _ (literal_is n 0 w (pow_pos n))
+width_is n w = first_so _ _ (literal_is n 0 w (pow_pos n))
 
 -- an expression of a program, and its sort
 pub record Has (g : Scope) (s : Option Sort) (e : E.Exp) : Type 0 where

@@ -1,6 +1,7 @@
 -- The parts of a generated unit: what stands for the function of a name, and which locals come first.
 use Rattle.std.proofs.Common.{◌≡◌, true, List, [], ◌∷◌, ◌++◌, map, Some, refl, sym, subst, ap, ◌∙◌, append_assoc}
 use Rattle.std.specs.Prelude.{◌&&◌}
+use Rattle.std.proofs.lemmas.Bool.{and_parts}
 use Rattle.c_values.specs.Name.{Name, same_name}
 use Rattle.c_values.specs.Layout.{Layout, is_scalar}
 use Rattle.c_values.specs.Types.{Target}
@@ -12,7 +13,7 @@ use Rattle.c_lang.specs.Typed as C
 use Rattle.c_lang.specs.WellTyped.{is_function, are_functions, is_own_name, are_variables}
 use Rattle.c_meaning.specs.Kinds.{variables}
 use Rattle.generation.specs.Generate.{function_of, signature_of, result_binder, exception_local, added_in, locals}
-use Rattle.generation.proofs.ExactTests.{all_of_two, all_of_three, same_some, none_is_none, by_test, by_cases, where_true, where_false}
+use Rattle.generation.proofs.ExactTests.{all_of_three, same_some, none_is_none, by_test, by_cases, where_true, where_false}
 
 pub variables_apart : (xs ys : List C.Variable) → are_variables (xs ++ ys) ≡ true → (are_variables xs ≡ true) × (are_variables ys ≡ true)
 variables_apart [] ys h = (refl, h)
@@ -40,7 +41,7 @@ module _ (l : Layout) (levels : Name → Level) (x : Name) (f : C.TypedFn) where
   pub function_typed : (u : C.TypedUnit) (fs : List C.TypedFn) → are_functions u fs ≡ true → C.typed_fn fs x ≡ Some f → is_function u f ≡ true
   function_typed u [] h e = absurd (none_is_none e)
   function_typed u (k ∷ fs) h e =
-      let p = all_of_two (is_function u k) (are_functions u fs) h in
+      let p = and_parts (is_function u k) (are_functions u fs) h in
       by_cases (is_function u f ≡ true) (same_name k.name x)
       (λ b. subst (λ z. is_function u z ≡ true) (same_some (sym (where_true (same_name k.name x) (Some k) (C.typed_fn fs x) b) ∙ e)) p.0)
       (λ b. function_typed u fs p.1 (sym (where_false (same_name k.name x) (Some k) (C.typed_fn fs x) b) ∙ e))

@@ -1,6 +1,7 @@
 -- A name that is neither declared nor one of those that commands of statements use stands in no command that is generated.
 use Rattle.std.proofs.Common.{◌≡◌, ℕ, Bool, true, false, ◌&&◌, List, [], ◌∷◌, Option, Some, None, ℤ, refl}
 use Rattle.std.proofs.lemmas.Bool.{false≢true, and_parts, or_from}
+use Rattle.std.specs.Cmp.{first_so, second_so}
 use Rattle.c_values.specs.Name.{Name, same_name}
 use Rattle.c_values.specs.Types.{Target, IntType, CType}
 use Rattle.c_values.specs.Layout.{Layout}
@@ -16,12 +17,6 @@ use Rattle.generation.specs.Guards.{exp, exps, truth, conversion, guards, argume
 use Rattle.generation.specs.Generate.{call_local, switch_local, first_local, returned, broken, continued, jump, stops_at, body_of_loop, looped, guarded, assignment, target_guards, call, call_of, test_guards, test_truth, after_first, do_while, is_one_of, cases, in_order, is_empty, command, commands, before, cases_of, default_of, whole_body}
 use Rattle.generation.proofs.ExactMachines.{is_declared}
 use Rattle.generation.proofs.UnnamedExpressions.{Free, AllFree, none_free, more_free, parted, free_append, along, conversion_free, expression_free, path_free, accesses_free, guards_free, place_guards_free}
-
-first : (a b : Bool) → (a && b) ≡ true → a ≡ true
-first a b h = (and_parts a b h).0
-
-second : (a b : Bool) → (a && b) ≡ true → b ≡ true
-second a b h = (and_parts a b h).1
 
 -- the flag is named nowhere
 pub record Leaves (c : Simpl) : Type 0 where
@@ -109,21 +104,21 @@ module _ (g : Scope) (l : Layout) (level : Level) (undeclared : (y : Name) (t : 
   assignment_leaves : (d : C.Destination) (e : E.Exp) → is_typed_target g d ≡ true → Free x e → Leaves (assignment l d e)
   assignment_leaves (C.ToLocal y t) e h k = set_leaves y e (undeclared y t (is_declared (variable_type g.variables y) t h)) k
   assignment_leaves (C.ToPlace (C.Through t p path u)) e h k =
-      let root = value_free p (second _ _ (second _ _ (first _ _ (first _ _ h)))) in
-      let steps = path_free {x = x} g l undeclared path (second _ _ (first _ _ h)) in
+      let root = value_free p (second_so _ _ (second_so _ _ (first_so _ _ (first_so _ _ h)))) in
+      let steps = path_free {x = x} g l undeclared path (second_so _ _ (first_so _ _ h)) in
       record { unnamed = or_from _ _ (along root steps) k.unnamed }
   assignment_leaves (C.ToPlace (C.InGlobal y path u)) e h k =
-      let steps = path_free {x = x} g l undeclared path (first _ _ h) in record { unnamed = or_from _ _ steps.unnamed k.unnamed }
+      let steps = path_free {x = x} g l undeclared path (first_so _ _ h) in record { unnamed = or_from _ _ steps.unnamed k.unnamed }
 
   arguments_free : (vs : List C.Variable) (es : List C.Expr) → are_arguments g vs es ≡ true → some_names x (exps l es) ≡ false
   arguments_free [] [] h = refl
-  arguments_free (v ∷ vs) (e ∷ es) h = or_from _ _ (value_free e (second _ _ (first _ _ h))).unnamed (arguments_free vs es (second _ _ h))
+  arguments_free (v ∷ vs) (e ∷ es) h = or_from _ _ (value_free e (second_so _ _ (first_so _ _ h))).unnamed (arguments_free vs es (second_so _ _ h))
   arguments_free [] (e ∷ es) h = absurd (false≢true h)
   arguments_free (v ∷ vs) [] h = absurd (false≢true h)
 
   argument_conditions_free : (vs : List C.Variable) (es : List C.Expr) → are_arguments g vs es ≡ true → AllFree x (argument_guards l level es)
   argument_conditions_free [] [] h = none_free
-  argument_conditions_free (v ∷ vs) (e ∷ es) h = free_append _ _ (conditions_free e (second _ _ (first _ _ h))) (argument_conditions_free vs es (second _ _ h))
+  argument_conditions_free (v ∷ vs) (e ∷ es) h = free_append _ _ (conditions_free e (second_so _ _ (first_so _ _ h))) (argument_conditions_free vs es (second_so _ _ h))
   argument_conditions_free [] (e ∷ es) h = absurd (false≢true h)
   argument_conditions_free (v ∷ vs) [] h = absurd (false≢true h)
 
@@ -137,7 +132,7 @@ module _ (g : Scope) (l : Layout) (level : Level) (undeclared : (y : Name) (t : 
   use_leaves None n f es C.NoResult h k = record { unnamed = h }
   use_leaves (Some t) n f es (C.Ignored from) h k = called_leaves n f es h
   use_leaves (Some t) n f es (C.Assigned from d) h k =
-      let typed = second _ _ k in
+      let typed = second_so _ _ k in
       seq_leaves (called_leaves n f es h) (guarded_leaves _ _ (target_free d typed) (assignment_leaves d _ typed (result_free n (C.target_type d) from)))
   use_leaves (Some t) n f es (C.Returned from to) h k =
       seq_leaves (called_leaves n f es h) (seq_leaves (set_leaves result_local _ refl (result_free n to from)) (jump_leaves returned))
@@ -146,15 +141,15 @@ module _ (g : Scope) (l : Layout) (level : Level) (undeclared : (y : Name) (t : 
   call_leaves : (o : Option C.TypedFn) (n : ℕ) (f : Name) (es : List C.Expr) (u : C.Use) → is_call_of g o es u ≡ true → Leaves (call_of l level n f es u)
   call_leaves None n f es u h = absurd (false≢true h)
   call_leaves (Some k) n f es u h =
-      guarded_leaves _ _ (argument_conditions_free k.params es (first _ _ h)) (use_leaves k.result n f (exps l es) u (arguments_free k.params es (first _ _ h)) (second _ _ h))
+      guarded_leaves _ _ (argument_conditions_free k.params es (first_so _ _ h)) (use_leaves k.result n f (exps l es) u (arguments_free k.params es (first_so _ _ h)) (second_so _ _ h))
 
   test_conditions_free : (t : C.Test) → is_typed_test g t ≡ true → AllFree x (test_guards l level t)
   test_conditions_free C.Always h = none_free
-  test_conditions_free (C.Tested e) h = conditions_free e (second _ _ h)
+  test_conditions_free (C.Tested e) h = conditions_free e (second_so _ _ h)
 
   test_free : (t : C.Test) → is_typed_test g t ≡ true → Free x (test_truth l t)
   test_free C.Always h = record { unnamed = refl }
-  test_free (C.Tested e) h = truth_free e (second _ _ h)
+  test_free (C.Tested e) h = truth_free e (second_so _ _ h)
 
   mutual
     command_leaves : (r : Around) (s : C.Statement) → is_statement g r s ≡ true → Leaves (command l level s)
@@ -162,48 +157,48 @@ module _ (g : Scope) (l : Layout) (level : Level) (undeclared : (y : Name) (t : 
     command_leaves r (C.Block ss) h = commands_leave r ss h
     command_leaves r (C.Declare y t) h = record { unnamed = undeclared y t (is_declared (variable_type g.variables y) t h) }
     command_leaves r (C.Assign d e) h =
-        let typed = second _ _ (second _ _ h) in
-        guarded_leaves _ _ (free_append _ _ (conditions_free e typed) (target_free d (first _ _ h))) (assignment_leaves d (exp l e) (first _ _ h) (value_free e typed))
+        let typed = second_so _ _ (second_so _ _ h) in
+        guarded_leaves _ _ (free_append _ _ (conditions_free e typed) (target_free d (first_so _ _ h))) (assignment_leaves d (exp l e) (first_so _ _ h) (value_free e typed))
     command_leaves r (C.Call n f es u) h = call_leaves (C.typed_fn g.functions f) n f es u h
     command_leaves r (C.If e a b) h =
-        let typed = second _ _ (first _ _ (first _ _ h)) in
-        guarded_leaves _ _ (conditions_free e typed) (cond_leaves (truth_free e typed) (command_leaves r a (second _ _ (first _ _ h))) (command_leaves r b (second _ _ h)))
+        let typed = second_so _ _ (first_so _ _ (first_so _ _ h)) in
+        guarded_leaves _ _ (conditions_free e typed) (cond_leaves (truth_free e typed) (command_leaves r a (second_so _ _ (first_so _ _ h))) (command_leaves r b (second_so _ _ h)))
     command_leaves r (C.While e a) h =
-        let typed = second _ _ (first _ _ h) in loop_leaves (conditions_free e typed) (truth_free e typed) (body_leaves (command_leaves in_a_loop a (second _ _ h)))
+        let typed = second_so _ _ (first_so _ _ h) in loop_leaves (conditions_free e typed) (truth_free e typed) (body_leaves (command_leaves in_a_loop a (second_so _ _ h)))
     command_leaves r (C.DoWhile k a e) h =
-        let typed = second _ _ (second _ _ h) in do_while_leaves k _ _ _ (conditions_free e typed) (truth_free e typed) (command_leaves in_a_loop a (first _ _ h))
+        let typed = second_so _ _ (second_so _ _ h) in do_while_leaves k _ _ _ (conditions_free e typed) (truth_free e typed) (command_leaves in_a_loop a (first_so _ _ h))
     command_leaves r (C.For init test step a) h =
-        let typed = second _ _ (first _ _ (first _ _ h)) in
-        before_leaves init _ (first _ _ (first _ _ (first _ _ h)))
-        (loop_leaves (test_conditions_free test typed) (test_free test typed) (seq_leaves (body_leaves (command_leaves in_a_loop a (second _ _ h))) (command_leaves nowhere step (second _ _ (first _ _ h)))))
+        let typed = second_so _ _ (first_so _ _ (first_so _ _ h)) in
+        before_leaves init _ (first_so _ _ (first_so _ _ (first_so _ _ h)))
+        (loop_leaves (test_conditions_free test typed) (test_free test typed) (seq_leaves (body_leaves (command_leaves in_a_loop a (second_so _ _ h))) (command_leaves nowhere step (second_so _ _ (first_so _ _ h)))))
     command_leaves r (C.Switch n i e gs) h =
-        let typed = second _ _ (first _ _ (first _ _ (first _ _ (first _ _ h)))) in
+        let typed = second_so _ _ (first_so _ _ (first_so _ _ (first_so _ _ (first_so _ _ h)))) in
         guarded_leaves _ _ (conditions_free e typed)
         (seq_leaves (set_leaves (switch_local n) _ refl (value_free e typed))
-        (catch_leaves (cases_leave _ _ (default_leaves (in_a_switch r) gs (second _ _ h)) (groups_leave (in_a_switch r) n i gs (second _ _ h))) (stops_leaves broken)))
+        (catch_leaves (cases_leave _ _ (default_leaves (in_a_switch r) gs (second_so _ _ h)) (groups_leave (in_a_switch r) n i gs (second_so _ _ h))) (stops_leaves broken)))
     command_leaves r C.Break h = jump_leaves broken
     command_leaves r C.Continue h = jump_leaves continued
     command_leaves r C.ReturnNothing h = jump_leaves returned
     command_leaves r (C.Return e) h =
-        let typed = second _ _ h in guarded_leaves _ _ (conditions_free e typed) (seq_leaves (set_leaves result_local _ refl (value_free e typed)) (jump_leaves returned))
+        let typed = second_so _ _ h in guarded_leaves _ _ (conditions_free e typed) (seq_leaves (set_leaves result_local _ refl (value_free e typed)) (jump_leaves returned))
 
     pub commands_leave : (r : Around) (ss : C.Statements) → are_statements g r ss ≡ true → Leaves (commands l level ss)
     commands_leave r C.no_statements h = skip_leaves
-    commands_leave r (C.next s ss) h = in_order_leaves _ (is_empty ss) _ (command_leaves r s (first _ _ h)) (commands_leave r ss (second _ _ h))
+    commands_leave r (C.next s ss) h = in_order_leaves _ (is_empty ss) _ (command_leaves r s (first_so _ _ h)) (commands_leave r ss (second_so _ _ h))
 
     before_leaves : (ss : C.Statements) (rest : Simpl) → are_statements g nowhere ss ≡ true → Leaves rest → Leaves (before l level ss rest)
     before_leaves C.no_statements rest h k = k
-    before_leaves (C.next s ss) rest h k = seq_leaves (command_leaves nowhere s (first _ _ h)) (before_leaves ss rest (second _ _ h) k)
+    before_leaves (C.next s ss) rest h k = seq_leaves (command_leaves nowhere s (first_so _ _ h)) (before_leaves ss rest (second_so _ _ h) k)
 
     groups_leave : (r : Around) (n : ℕ) (i : IntType) (gs : C.Groups) → are_groups g r gs ≡ true → CasesLeave (cases_of l level n i gs)
     groups_leave r n i C.no_groups h = tt
-    groups_leave r n i (C.group labels true ss gs) h = groups_leave r n i gs (second _ _ h)
-    groups_leave r n i (C.group labels false ss gs) h = (label_free l.target i n labels, commands_leave r ss (first _ _ h), groups_leave r n i gs (second _ _ h))
+    groups_leave r n i (C.group labels true ss gs) h = groups_leave r n i gs (second_so _ _ h)
+    groups_leave r n i (C.group labels false ss gs) h = (label_free l.target i n labels, commands_leave r ss (first_so _ _ h), groups_leave r n i gs (second_so _ _ h))
 
     default_leaves : (r : Around) (gs : C.Groups) → are_groups g r gs ≡ true → Leaves (default_of l level gs)
     default_leaves r C.no_groups h = skip_leaves
-    default_leaves r (C.group labels true ss gs) h = commands_leave r ss (first _ _ h)
-    default_leaves r (C.group labels false ss gs) h = default_leaves r gs (second _ _ h)
+    default_leaves r (C.group labels true ss gs) h = commands_leave r ss (first_so _ _ h)
+    default_leaves r (C.group labels false ss gs) h = default_leaves r gs (second_so _ _ h)
 
 pub whole_leaves : (t : Option CType) (c : Simpl) → Leaves c → Leaves (whole_body t c)
 whole_leaves None c h = catch_leaves h skip_leaves

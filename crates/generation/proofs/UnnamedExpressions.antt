@@ -2,6 +2,7 @@
 use Rattle.std.specs.Prelude.{nat_lt}
 use Rattle.std.proofs.Common.{◌≡◌, ◌==◌, ℕ, Bool, true, false, ◌&&◌, ◌||◌, List, [], ◌∷◌, ◌++◌, Some, refl}
 use Rattle.std.proofs.lemmas.Bool.{and_parts, or_from, or_parts}
+use Rattle.std.specs.Cmp.{first_so, second_so}
 use Rattle.c_values.specs.Name.{Name, same_name}
 use Rattle.c_values.specs.Types.{Target, IntType, CType, Integer, Ptr, is_signed}
 use Rattle.c_values.specs.Layout.{Layout, scalar_width}
@@ -17,12 +18,6 @@ use Rattle.c_lang.specs.WellTyped.{Scope, variable_type, is_typed, is_typed_plac
 use Rattle.generation.specs.Guards.{is_signed_type, number, cast_to, conversion, fits, divides, computes, shifts, shift, comparison, equation, is_not_zero, of_truth, moved_by, under, exp, truth, content, address, path_of, bounds, accesses, guards, place_guards, index_guards}
 use Rattle.generation.proofs.ExactTests.{by_test}
 use Rattle.generation.proofs.ExactMachines.{is_declared}
-
-first : (a b : Bool) → (a && b) ≡ true → a ≡ true
-first a b h = (and_parts a b h).0
-
-second : (a b : Bool) → (a && b) ≡ true → b ≡ true
-second a b h = (and_parts a b h).1
 
 pub record Free (x : Name) (e : E.Exp) : Type 0 where
   pub unnamed : names x e ≡ false
@@ -133,66 +128,66 @@ module _ {x : Name} where
       expression_free (C.Constant i n) h = valued l (Integer i) _ (record { unnamed = refl })
       expression_free (C.Local y t) h = valued l t (E.Var y) (record { unnamed = undeclared y t (is_declared (variable_type g.variables y) t h) })
       expression_free (C.Value p) h = valued l _ _ (place_free p h).0
-      expression_free (C.Convert t a) h = valued l t _ (conversion_free l.target t (C.type_of a) _ (expression_free a (second _ _ (second _ _ h))).0)
-      expression_free (C.ConvertNull t a) h = valued l t _ (conversion_free l.target t (C.type_of a) _ (expression_free a (second _ _ (second _ _ h))).0)
-      expression_free (C.Negate i a) h = valued l (Integer i) _ (record { unnamed = (expression_free a (second _ _ h)).0.unnamed })
-      expression_free (C.Complement i a) h = valued l (Integer i) _ (record { unnamed = (expression_free a (second _ _ h)).0.unnamed })
+      expression_free (C.Convert t a) h = valued l t _ (conversion_free l.target t (C.type_of a) _ (expression_free a (second_so _ _ (second_so _ _ h))).0)
+      expression_free (C.ConvertNull t a) h = valued l t _ (conversion_free l.target t (C.type_of a) _ (expression_free a (second_so _ _ (second_so _ _ h))).0)
+      expression_free (C.Negate i a) h = valued l (Integer i) _ (record { unnamed = (expression_free a (second_so _ _ h)).0.unnamed })
+      expression_free (C.Complement i a) h = valued l (Integer i) _ (record { unnamed = (expression_free a (second_so _ _ h)).0.unnamed })
       expression_free (C.Compute op i a b) h =
-          valued l (Integer i) _ (record { unnamed = two (expression_free a (second _ _ (first _ _ h))).0 (expression_free b (second _ _ (second _ _ h))).0 })
+          valued l (Integer i) _ (record { unnamed = two (expression_free a (second_so _ _ (first_so _ _ h))).0 (expression_free b (second_so _ _ (second_so _ _ h))).0 })
       expression_free (C.Combine op i a b) h =
-          valued l (Integer i) _ (record { unnamed = two (expression_free a (second _ _ (first _ _ h))).0 (expression_free b (second _ _ (second _ _ h))).0 })
+          valued l (Integer i) _ (record { unnamed = two (expression_free a (second_so _ _ (first_so _ _ h))).0 (expression_free b (second_so _ _ (second_so _ _ h))).0 })
       expression_free (C.Shift d i a b) h =
-          valued l (Integer i) _ (shift_free i d _ _ (expression_free a (second _ _ (first _ _ h))).0 (number_free (C.type_of b) _ (expression_free b (second _ _ (second _ _ h))).0))
+          valued l (Integer i) _ (shift_free i d _ _ (expression_free a (second_so _ _ (first_so _ _ h))).0 (number_free (C.type_of b) _ (expression_free b (second_so _ _ (second_so _ _ h))).0))
       expression_free (C.Compare r i a b) h =
-          truthful _ (comparison_free r (is_signed i) _ _ (expression_free a (second _ _ (first _ _ h))).0 (expression_free b (second _ _ (second _ _ h))).0)
+          truthful _ (comparison_free r (is_signed i) _ _ (expression_free a (second_so _ _ (first_so _ _ h))).0 (expression_free b (second_so _ _ (second_so _ _ h))).0)
       expression_free (C.Equate q t a b) h =
-          truthful _ (equation_free q _ _ (expression_free a (second _ _ (second _ _ (first _ _ h)))).0 (expression_free b (second _ _ (second _ _ h))).0)
-      expression_free (C.Not a) h = truthful _ (record { unnamed = (expression_free a (second _ _ h)).1.unnamed })
-      expression_free (C.And a b) h = truthful _ (record { unnamed = two (expression_free a (second _ _ (first _ _ h))).1 (expression_free b (second _ _ (second _ _ h))).1 })
-      expression_free (C.Or a b) h = truthful _ (record { unnamed = two (expression_free a (second _ _ (first _ _ h))).1 (expression_free b (second _ _ (second _ _ h))).1 })
+          truthful _ (equation_free q _ _ (expression_free a (second_so _ _ (second_so _ _ (first_so _ _ h)))).0 (expression_free b (second_so _ _ (second_so _ _ h))).0)
+      expression_free (C.Not a) h = truthful _ (record { unnamed = (expression_free a (second_so _ _ h)).1.unnamed })
+      expression_free (C.And a b) h = truthful _ (record { unnamed = two (expression_free a (second_so _ _ (first_so _ _ h))).1 (expression_free b (second_so _ _ (second_so _ _ h))).1 })
+      expression_free (C.Or a b) h = truthful _ (record { unnamed = two (expression_free a (second_so _ _ (first_so _ _ h))).1 (expression_free b (second_so _ _ (second_so _ _ h))).1 })
       expression_free (C.Choose t c a b) h =
-          let k = first _ _ h in
-          let test = (expression_free c (second _ _ (second _ _ (first _ _ k)))).1 in
-          let left = (expression_free a (second _ _ (second _ _ k))).0 in
-          let right = (expression_free b (second _ _ (second _ _ h))).0 in
+          let k = first_so _ _ h in
+          let test = (expression_free c (second_so _ _ (second_so _ _ (first_so _ _ k)))).1 in
+          let left = (expression_free a (second_so _ _ (second_so _ _ k))).0 in
+          let right = (expression_free b (second_so _ _ (second_so _ _ h))).0 in
           valued l t _ (record { unnamed = or_from _ _ (two test left) right.unnamed })
       expression_free (C.Move s t p a) h =
-          let root = (expression_free p (second _ _ (second _ _ (first _ _ h)))).0 in
-          let index = (expression_free a (second _ _ (second _ _ h))).0 in
+          let root = (expression_free p (second_so _ _ (second_so _ _ (first_so _ _ h)))).0 in
+          let index = (expression_free a (second_so _ _ (second_so _ _ h))).0 in
           valued l (Ptr t) _ (record { unnamed = two root (moved_free s _ (number_free (C.type_of a) _ index)) })
       expression_free (C.MoveBy t a p) h =
-          let root = (expression_free p (second _ _ (second _ _ h))).0 in
-          let index = (expression_free a (second _ _ (second _ _ (first _ _ h)))).0 in
+          let root = (expression_free p (second_so _ _ (second_so _ _ h))).0 in
+          let index = (expression_free a (second_so _ _ (second_so _ _ (first_so _ _ h)))).0 in
           valued l (Ptr t) _ (record { unnamed = two root (number_free (C.type_of a) _ index) })
-      expression_free (C.Address p t) h = valued l (Ptr t) _ (place_free p (second _ _ (first _ _ h))).1
-      expression_free (C.Decay p t) h = valued l (Ptr t) _ (place_free p (second _ _ (first _ _ h))).1
+      expression_free (C.Address p t) h = valued l (Ptr t) _ (place_free p (second_so _ _ (first_so _ _ h))).1
+      expression_free (C.Decay p t) h = valued l (Ptr t) _ (place_free p (second_so _ _ (first_so _ _ h))).1
 
       -- what lies at a place, and its address
       pub place_free : (p : C.Place) → is_typed_place g p ≡ true → Free x (content l p) × Free x (address l p)
       place_free (C.Through t p path u) h =
-          let k = first _ _ h in
-          let root = (expression_free p (second _ _ (second _ _ (first _ _ k)))).0 in
-          let steps = path_free path (second _ _ k) in
+          let k = first_so _ _ h in
+          let root = (expression_free p (second_so _ _ (second_so _ _ (first_so _ _ k)))).0 in
+          let steps = path_free path (second_so _ _ k) in
           (record { unnamed = along root steps }, record { unnamed = along root steps })
-      place_free (C.InGlobal y path u) h = let steps = path_free path (first _ _ h) in (record { unnamed = steps.unnamed }, record { unnamed = steps.unnamed })
+      place_free (C.InGlobal y path u) h = let steps = path_free path (first_so _ _ h) in (record { unnamed = steps.unnamed }, record { unnamed = steps.unnamed })
 
       pub path_free : (path : C.Path) → are_typed_indices g path ≡ true → PathFree x (path_of l path)
       path_free C.Here h = record { unnamed = refl }
       path_free (C.Member k path) h = record { unnamed = (path_free path h).unnamed }
       path_free (C.Element n e path) h =
-          let index = number_free (C.type_of e) _ (expression_free e (second _ _ (first _ _ h))).0 in
-          record { unnamed = along index (path_free path (second _ _ h)) }
+          let index = number_free (C.type_of e) _ (expression_free e (second_so _ _ (first_so _ _ h))).0 in
+          record { unnamed = along index (path_free path (second_so _ _ h)) }
 
     bounds_free : (path : C.Path) → are_typed_indices g path ≡ true → AllFree x (bounds l path)
     bounds_free C.Here h = none_free
     bounds_free (C.Member k path) h = bounds_free path h
     bounds_free (C.Element n e path) h =
-        let index = number_free (C.type_of e) _ (expression_free e (second _ _ (first _ _ h))).0 in
-        more_free (record { unnamed = index.unnamed }) (bounds_free path (second _ _ h))
+        let index = number_free (C.type_of e) _ (expression_free e (second_so _ _ (first_so _ _ h))).0 in
+        more_free (record { unnamed = index.unnamed }) (bounds_free path (second_so _ _ h))
 
     pub accesses_free : (level : Level) (p : C.Place) → is_typed_place g p ≡ true → AllFree x (accesses l level p)
     accesses_free level (C.Through t p path u) h =
-        let root = (expression_free p (second _ _ (second _ _ (first _ _ (first _ _ h))))).0 in
+        let root = (expression_free p (second_so _ _ (second_so _ _ (first_so _ _ (first_so _ _ h))))).0 in
         more_free (record { unnamed = root.unnamed }) (by_test (AllFree x) (is_lifted level) _ _ (λ b. more_free (record { unnamed = root.unnamed }) none_free) (λ b. none_free))
     accesses_free level (C.InGlobal y path u) h = none_free
 
@@ -202,44 +197,44 @@ module _ {x : Name} where
         guards_free (C.Constant i n) h = none_free
         guards_free (C.Local y t) h = none_free
         guards_free (C.Value p) h = free_append _ _ (place_guards_free p h) (accesses_free level p h)
-        guards_free (C.Convert t a) h = guards_free a (second _ _ (second _ _ h))
-        guards_free (C.ConvertNull t a) h = guards_free a (second _ _ (second _ _ h))
+        guards_free (C.Convert t a) h = guards_free a (second_so _ _ (second_so _ _ h))
+        guards_free (C.ConvertNull t a) h = guards_free a (second_so _ _ (second_so _ _ h))
         guards_free (C.Negate i a) h =
-            let k = second _ _ h in free_append _ _ (guards_free a k) (fits_free l.target level i (E.Negate _) (record { unnamed = (number_free (Integer i) _ (expression_free a k).0).unnamed }))
-        guards_free (C.Complement i a) h = guards_free a (second _ _ h)
+            let k = second_so _ _ h in free_append _ _ (guards_free a k) (fits_free l.target level i (E.Negate _) (record { unnamed = (number_free (Integer i) _ (expression_free a k).0).unnamed }))
+        guards_free (C.Complement i a) h = guards_free a (second_so _ _ h)
         guards_free (C.Compute op i a b) h =
-            let j = second _ _ (first _ _ h) in
-            let k = second _ _ (second _ _ h) in
+            let j = second_so _ _ (first_so _ _ h) in
+            let k = second_so _ _ (second_so _ _ h) in
             free_append _ _ (free_append _ _ (guards_free a j) (guards_free b k)) (computes_free l.target level i op _ _ (expression_free a j).0 (expression_free b k).0)
-        guards_free (C.Combine op i a b) h = free_append _ _ (guards_free a (second _ _ (first _ _ h))) (guards_free b (second _ _ (second _ _ h)))
+        guards_free (C.Combine op i a b) h = free_append _ _ (guards_free a (second_so _ _ (first_so _ _ h))) (guards_free b (second_so _ _ (second_so _ _ h)))
         guards_free (C.Shift d i a b) h =
-            let j = second _ _ (first _ _ h) in
-            let k = second _ _ (second _ _ h) in
+            let j = second_so _ _ (first_so _ _ h) in
+            let k = second_so _ _ (second_so _ _ h) in
             free_append _ _ (free_append _ _ (guards_free a j) (guards_free b k)) (shifts_free l.target i d _ _ (expression_free a j).0 (number_free (C.type_of b) _ (expression_free b k).0))
-        guards_free (C.Compare r i a b) h = free_append _ _ (guards_free a (second _ _ (first _ _ h))) (guards_free b (second _ _ (second _ _ h)))
-        guards_free (C.Equate q t a b) h = free_append _ _ (guards_free a (second _ _ (second _ _ (first _ _ h)))) (guards_free b (second _ _ (second _ _ h)))
-        guards_free (C.Not a) h = guards_free a (second _ _ h)
+        guards_free (C.Compare r i a b) h = free_append _ _ (guards_free a (second_so _ _ (first_so _ _ h))) (guards_free b (second_so _ _ (second_so _ _ h)))
+        guards_free (C.Equate q t a b) h = free_append _ _ (guards_free a (second_so _ _ (second_so _ _ (first_so _ _ h)))) (guards_free b (second_so _ _ (second_so _ _ h)))
+        guards_free (C.Not a) h = guards_free a (second_so _ _ h)
         guards_free (C.And a b) h =
-            let j = second _ _ (first _ _ h) in free_append _ _ (guards_free a j) (under_free _ _ (expression_free a j).1 (guards_free b (second _ _ (second _ _ h))))
+            let j = second_so _ _ (first_so _ _ h) in free_append _ _ (guards_free a j) (under_free _ _ (expression_free a j).1 (guards_free b (second_so _ _ (second_so _ _ h))))
         guards_free (C.Or a b) h =
-            let j = second _ _ (first _ _ h) in free_append _ _ (guards_free a j) (under_free (E.Not (truth l a)) _ (record { unnamed = (expression_free a j).1.unnamed }) (guards_free b (second _ _ (second _ _ h))))
+            let j = second_so _ _ (first_so _ _ h) in free_append _ _ (guards_free a j) (under_free (E.Not (truth l a)) _ (record { unnamed = (expression_free a j).1.unnamed }) (guards_free b (second_so _ _ (second_so _ _ h))))
         guards_free (C.Choose t c a b) h =
-            let k = first _ _ h in
-            let j = second _ _ (second _ _ (first _ _ k)) in
-            free_append _ _ (free_append _ _ (guards_free c j) (under_free _ _ (expression_free c j).1 (guards_free a (second _ _ (second _ _ k)))))
-            (under_free (E.Not (truth l c)) _ (record { unnamed = (expression_free c j).1.unnamed }) (guards_free b (second _ _ (second _ _ h))))
-        guards_free (C.Move s t p a) h = free_append _ _ (guards_free p (second _ _ (second _ _ (first _ _ h)))) (guards_free a (second _ _ (second _ _ h)))
-        guards_free (C.MoveBy t a p) h = free_append _ _ (guards_free a (second _ _ (second _ _ (first _ _ h)))) (guards_free p (second _ _ (second _ _ h)))
-        guards_free (C.Address p t) h = place_guards_free p (second _ _ (first _ _ h))
-        guards_free (C.Decay p t) h = place_guards_free p (second _ _ (first _ _ h))
+            let k = first_so _ _ h in
+            let j = second_so _ _ (second_so _ _ (first_so _ _ k)) in
+            free_append _ _ (free_append _ _ (guards_free c j) (under_free _ _ (expression_free c j).1 (guards_free a (second_so _ _ (second_so _ _ k)))))
+            (under_free (E.Not (truth l c)) _ (record { unnamed = (expression_free c j).1.unnamed }) (guards_free b (second_so _ _ (second_so _ _ h))))
+        guards_free (C.Move s t p a) h = free_append _ _ (guards_free p (second_so _ _ (second_so _ _ (first_so _ _ h)))) (guards_free a (second_so _ _ (second_so _ _ h)))
+        guards_free (C.MoveBy t a p) h = free_append _ _ (guards_free a (second_so _ _ (second_so _ _ (first_so _ _ h)))) (guards_free p (second_so _ _ (second_so _ _ h)))
+        guards_free (C.Address p t) h = place_guards_free p (second_so _ _ (first_so _ _ h))
+        guards_free (C.Decay p t) h = place_guards_free p (second_so _ _ (first_so _ _ h))
 
         pub place_guards_free : (p : C.Place) → is_typed_place g p ≡ true → AllFree x (place_guards l level p)
         place_guards_free (C.Through t p path u) h =
-            let k = first _ _ h in
-            free_append _ _ (free_append _ _ (guards_free p (second _ _ (second _ _ (first _ _ k)))) (index_guards_free path (second _ _ k))) (bounds_free path (second _ _ k))
-        place_guards_free (C.InGlobal y path u) h = free_append _ _ (index_guards_free path (first _ _ h)) (bounds_free path (first _ _ h))
+            let k = first_so _ _ h in
+            free_append _ _ (free_append _ _ (guards_free p (second_so _ _ (second_so _ _ (first_so _ _ k)))) (index_guards_free path (second_so _ _ k))) (bounds_free path (second_so _ _ k))
+        place_guards_free (C.InGlobal y path u) h = free_append _ _ (index_guards_free path (first_so _ _ h)) (bounds_free path (first_so _ _ h))
 
         index_guards_free : (path : C.Path) → are_typed_indices g path ≡ true → AllFree x (index_guards l level path)
         index_guards_free C.Here h = none_free
         index_guards_free (C.Member k path) h = index_guards_free path h
-        index_guards_free (C.Element n e path) h = free_append _ _ (guards_free e (second _ _ (first _ _ h))) (index_guards_free path (second _ _ h))
+        index_guards_free (C.Element n e path) h = free_append _ _ (guards_free e (second_so _ _ (first_so _ _ h))) (index_guards_free path (second_so _ _ h))

@@ -1,6 +1,6 @@
 -- The Simpl unit of a well-typed unit is well-formed.
 use Rattle.std.proofs.Common.{◌≡◌, ℕ, true, false, not, List, [], ◌∷◌, ◌++◌, map, Option, Some, None, refl, sym, ap, ◌∙◌, subst, eq-eqb}
-use Rattle.std.proofs.lemmas.Bool.{and_from, or_from, or_parts, not-true}
+use Rattle.std.proofs.lemmas.Bool.{and_from, or_from, or_parts, not-true, and_parts}
 use Rattle.c_values.specs.Name.{Name, same_name, with_name, is_among, are_distinct}
 use Rattle.c_values.specs.Types.{Target, CType, Integer, Void, Ptr, Struct, Array, is_signed, width_of}
 use Rattle.c_values.specs.Layout.{is_scalar, scalar_width, global_type}
@@ -17,7 +17,7 @@ use Rattle.c_lang.specs.WellTyped.{IsWellTyped, scope_in, variable_type, are_var
 use Rattle.c_lang.specs.Numbers.{are_numbers, numbers_in}
 use Rattle.c_meaning.specs.Kinds.{variables}
 use Rattle.generation.specs.Generate.{exception_local, call_local, switch_local, first_local, result_binder, use_binder, Added, none_added, both_added, added, added_in, added_of, locals, function_of, signature_of, generated}
-use Rattle.generation.proofs.ExactTests.{all_of_two, all_of_three, all_of_four, same_some, none_is_none, by_test, by_cases, where_true, where_false}
+use Rattle.generation.proofs.ExactTests.{all_of_three, all_of_four, same_some, none_is_none, by_test, by_cases, where_true, where_false}
 use Rattle.generation.proofs.ExactMachines.{apart}
 use Rattle.generation.proofs.UnitParts.{variables_apart, signature_found, function_typed, locals_are}
 use Rattle.generation.proofs.LocalNames.{variables_append, locals_distinct}
@@ -39,7 +39,7 @@ other_scalar (b ∷ bs) names x h =
 all_in : (bs : List Binder) (names : Name → Option Scalar) → are_distinct (names_of bs) ≡ true → AreIn (scalars_among bs names) bs
 all_in [] names h = tt
 all_in (b ∷ bs) names h =
-    let p = all_of_two (not (is_among b.name (names_of bs))) (are_distinct (names_of bs)) h in
+    let p = and_parts (not (is_among b.name (names_of bs))) (are_distinct (names_of bs)) h in
     let more = with_name b.name (Some (word_sort_of b.kind)) names in
     (other_scalar bs more b.name (not-true (is_among b.name (names_of bs)) p.0) ∙ where_true (same_name b.name b.name) (Some (word_sort_of b.kind)) (names b.name) (same_name-refl b.name), all_in bs more p.1)
 
@@ -58,7 +58,7 @@ record HaveKinds (bs : List Binder) : Type 0 where
 kinds_append : {bs cs : List Binder} → HaveKinds bs → HaveKinds cs → HaveKinds (bs ++ cs)
 kinds_append {bs = []} h k = k
 kinds_append {bs = b ∷ bs} h k =
-    let p = all_of_two (is_kind b.kind) (are_kinds (kinds_of bs)) h.kinds in record { kinds = and_from _ _ p.0 (kinds_append {bs = bs} (record { kinds = p.1 }) k).kinds }
+    let p = and_parts (is_kind b.kind) (are_kinds (kinds_of bs)) h.kinds in record { kinds = and_from _ _ p.0 (kinds_append {bs = bs} (record { kinds = p.1 }) k).kinds }
 
 no_kinds : HaveKinds []
 no_kinds = record { kinds = refl }
@@ -249,14 +249,14 @@ module _ (u : C.TypedUnit) (w : IsWellTyped u) (levels : Name → Level) where
   functions_sorted : (fs : List C.TypedFn) → are_functions u fs ≡ true → are_numbered fs ≡ true → are_fns_sorted (generated u levels) (map (λ f. function_of u.layout (levels f.name) f) fs) ≡ true
   functions_sorted [] h n = refl
   functions_sorted (f ∷ fs) h n =
-      let p = all_of_two (is_function u f) (are_functions u fs) h in
-      let q = all_of_two (are_numbers (numbers_in f.body)) (are_numbered fs) n in
+      let p = and_parts (is_function u f) (are_functions u fs) h in
+      let q = and_parts (are_numbers (numbers_in f.body)) (are_numbered fs) n in
       and_from _ _ (and_from _ _ (and_from _ _ (locals_kinds t (levels f.name) f).kinds (distinct f p.0 q.0)) (body_is_sorted f p.0 q.0).sorted) (functions_sorted fs p.1 q.1)
 
   functions_signed : (fs : List C.TypedFn) → are_functions u fs ≡ true → are_signed (map (λ f. function_of u.layout (levels f.name) f) fs) (map (λ f. signature_of u.layout (levels f.name) f) fs) ≡ true
   functions_signed [] h = refl
   functions_signed (f ∷ fs) h =
-      let p = all_of_two (is_function u f) (are_functions u fs) h in
+      let p = and_parts (is_function u f) (are_functions u fs) h in
       let own = all_of_four (are_variables (f.params ++ f.locals)) _ _ _ p.0 in
       let params = variables t (levels f.name) f.params in
       let come : come_first params (locals t (levels f.name) f) ≡ true = ap (come_first params) (locals_are t (levels f.name) f) ∙ first_come params _ in

@@ -1,7 +1,7 @@
 -- A global takes a value.
 use Rattle.std.proofs.Common.{◌≡◌, ℕ, zero, suc, ◌<◌, ◌≤◌, Bool, true, false, cond, List, [], ◌∷◌, length, get_or, set, map, Option, Some, None, refl, sym, ap, ap₂, ◌∙◌, subst, arith}
 use Rattle.std.proofs.Math.Path.{fun_ext}
-use Rattle.std.proofs.lemmas.Bool.{false≢true}
+use Rattle.std.proofs.lemmas.Bool.{false≢true, cond-true, cond-false}
 use Rattle.std.specs.Option.{option_map}
 use Rattle.std.specs.Prelude.{string_bytes}
 use Rattle.c_values.specs.declared.values.Value as V
@@ -15,14 +15,6 @@ use Rattle.c_values.specs.CodeValue.{value_of, global_of}
 use Rattle.c_values.proofs.Laid.{name_is, other_name}
 use Rattle.expression_lang.specs.CodeState.{globals_of, AreOfTypes}
 use Rattle.global_changes.specs.GlobalChange.{position_of, change_at, change_in}
-
-pub where_true : {A : Type 0} (b : Bool) (x y : A) → b ≡ true → cond b x y ≡ x
-where_true true x y h = refl
-where_true false x y h = absurd (false≢true h)
-
-pub where_false : {A : Type 0} (b : Bool) (x y : A) → b ≡ false → cond b x y ≡ y
-where_false true x y h = absurd (false≢true (sym h))
-where_false false x y h = refl
 
 pub by_test : {A : Type 0} (b : Bool) → (b ≡ true → A) → (b ≡ false → A) → A
 by_test true f g = f refl
@@ -95,16 +87,16 @@ module _ (l : Layout) (x : Name) (ps : List Step) (w : Value) where
       by_test (same_name g.name x)
       (λ b.
       let same : g.name ≡ x = name_is g.name x b in
-      ap (λ o. values_at (g ∷ gs) (change_in o ps w (v ∷ vs)) y) (where_true (same_name g.name x) (Some 0) (option_map suc (position_of x gs)) b)
+      ap (λ o. values_at (g ∷ gs) (change_in o ps w (v ∷ vs)) y) (cond-true (same_name g.name x) (Some 0) (option_map suc (position_of x gs)) b)
       ∙ ap (λ n. cond (same_name n y) (upd v ps w) (values_at gs vs y)) same
       ∙ here (same_name x y) (same_name g.name x) b (same_name g.name y) (ap (λ n. same_name n y) same))
       (λ b.
-      ap (λ o. values_at (g ∷ gs) (change_in o ps w (v ∷ vs)) y) (where_false (same_name g.name x) (Some 0) (option_map suc (position_of x gs)) b)
+      ap (λ o. values_at (g ∷ gs) (change_in o ps w (v ∷ vs)) y) (cond-false (same_name g.name x) (Some 0) (option_map suc (position_of x gs)) b)
       ∙ ap (λ us. values_at (g ∷ gs) us y) (change_next ps w v vs (position_of x gs))
-      ∙ ap (cond (same_name g.name y) v) (change_values t gs vs h.1 (sym (where_false (same_name g.name x) (Some g.type) (global_type gs x) b) ∙ e) y)
+      ∙ ap (cond (same_name g.name y) v) (change_values t gs vs h.1 (sym (cond-false (same_name g.name x) (Some g.type) (global_type gs x) b) ∙ e) y)
       ∙ both_tests (same_name x y) (same_name g.name y) (upd (values_at gs vs x) ps w) v v (values_at gs vs y)
       (λ q. subst (λ n. same_name x n ≡ false) (name_is g.name y q) (other_name g.name x b))
-      ∙ ap (λ n. cond (same_name x y) (upd n ps w) (cond (same_name g.name y) v (values_at gs vs y))) (sym (where_false (same_name g.name x) v (values_at gs vs x) b)))
+      ∙ ap (λ n. cond (same_name x y) (upd n ps w) (cond (same_name g.name y) v (values_at gs vs y))) (sym (cond-false (same_name g.name x) v (values_at gs vs x) b)))
     where
       here : (a b : Bool) → b ≡ true → (d : Bool) → d ≡ a → cond a (upd v ps w) (values_at gs vs y) ≡ cond a (upd (cond b v (values_at gs vs x)) ps w) (cond d v (values_at gs vs y))
       here true true q true r = refl
@@ -121,12 +113,12 @@ module _ (l : Layout) (x : Name) (ps : List Step) (w : Value) where
   change_types (g ∷ gs) (v ∷ vs) h k =
       by_test (same_name g.name x)
       (λ b.
-      subst (λ o. AreOf l (g ∷ gs) (change_in o ps w (v ∷ vs))) (sym (where_true (same_name g.name x) (Some 0) (option_map suc (position_of x gs)) b))
-      (k g.type v (where_true (same_name g.name x) (Some g.type) (global_type gs x) b) h.0, h.1))
+      subst (λ o. AreOf l (g ∷ gs) (change_in o ps w (v ∷ vs))) (sym (cond-true (same_name g.name x) (Some 0) (option_map suc (position_of x gs)) b))
+      (k g.type v (cond-true (same_name g.name x) (Some g.type) (global_type gs x) b) h.0, h.1))
       (λ b.
-      subst (λ o. AreOf l (g ∷ gs) (change_in o ps w (v ∷ vs))) (sym (where_false (same_name g.name x) (Some 0) (option_map suc (position_of x gs)) b))
+      subst (λ o. AreOf l (g ∷ gs) (change_in o ps w (v ∷ vs))) (sym (cond-false (same_name g.name x) (Some 0) (option_map suc (position_of x gs)) b))
       (subst (λ us. AreOf l (g ∷ gs) us) (sym (change_next ps w v vs (position_of x gs)))
-      (h.0, change_types gs vs h.1 (λ t u e. k t u (where_false (same_name g.name x) (Some g.type) (global_type gs x) b ∙ e)))))
+      (h.0, change_types gs vs h.1 (λ t u e. k t u (cond-false (same_name g.name x) (Some g.type) (global_type gs x) b ∙ e)))))
 
   module _ (vars : List G.GlobalVar) (olds news : List V.Value) (types : AreOfTypes l vars olds)
       (changed : map value_of news ≡ change_in (position_of x (map global_of vars)) ps w (map value_of olds)) where

@@ -1,6 +1,6 @@
 -- Which parts of a Bind are no pair of tests, and which are one.
 use Rattle.std.proofs.Common.{◌≡◌, Bool, true, false, ◌&&◌, List, [], ◌∷◌, length, refl, ap, ◌∙◌}
-use Rattle.std.proofs.lemmas.Bool.{and_parts, and_from}
+use Rattle.std.proofs.lemmas.Bool.{and_parts, and_from, false_from_ne_true}
 use Rattle.c_values.specs.Name.{Name}
 use Rattle.c_values.specs.Types.{CType, same_type}
 use Rattle.c_values.specs.CodeSameType.{same_type-refl}
@@ -29,10 +29,6 @@ no_tag_no_pair (M.Guard (E.PtrOk t p)) [] (M.Bind (M.Guard (E.Tagged u q)) [] r)
 no_tag_no_pair (M.Guard (E.PtrOk t p)) [] n h = refl
 no_tag_no_pair m xs n h = refl
 
-untrue : (b : Bool) → (b ≡ true → ⊥) → b ≡ false
-untrue true h = absurd (h refl)
-untrue false h = refl
-
 -- the tests are of different types, or look at different pointers
 tests_no_pair : (t u : CType) (p q : Exp) (r m n : Mon) (xs : List Name) → m ≡ M.Guard (E.PtrOk t p) → xs ≡ [] → n ≡ M.Bind (M.Guard (E.Tagged u q)) [] r →
     (same_type u t && same_exp q p) ≡ false → is_pair m xs n ≡ false
@@ -42,12 +38,12 @@ tests_no_pair t u p q r m n xs a b c h =
 pub other_type_no_pair : (t u : CType) (p q : Exp) (r m n : Mon) (xs : List Name) → m ≡ M.Guard (E.PtrOk t p) → xs ≡ [] → n ≡ M.Bind (M.Guard (E.Tagged u q)) [] r →
     (u ≡ t → ⊥) → is_pair m xs n ≡ false
 other_type_no_pair t u p q r m n xs a b c h =
-    tests_no_pair t u p q r m n xs a b c (untrue (same_type u t && same_exp q p) (λ k. h (type_is u t (and_parts (same_type u t) (same_exp q p) k).0)))
+    tests_no_pair t u p q r m n xs a b c (false_from_ne_true (same_type u t && same_exp q p) (λ k. h (type_is u t (and_parts (same_type u t) (same_exp q p) k).0)))
 
 pub other_root_no_pair : (t u : CType) (p q : Exp) (r m n : Mon) (xs : List Name) → m ≡ M.Guard (E.PtrOk t p) → xs ≡ [] → n ≡ M.Bind (M.Guard (E.Tagged u q)) [] r →
     (q ≡ p → ⊥) → is_pair m xs n ≡ false
 other_root_no_pair t u p q r m n xs a b c h =
-    tests_no_pair t u p q r m n xs a b c (untrue (same_type u t && same_exp q p) (λ k. h (exp_is q p (and_parts (same_type u t) (same_exp q p) k).1)))
+    tests_no_pair t u p q r m n xs a b c (false_from_ne_true (same_type u t && same_exp q p) (λ k. h (exp_is q p (and_parts (same_type u t) (same_exp q p) k).1)))
 
 pub same_pair : (t : CType) (p : Exp) (r : Mon) → is_pair (M.Guard (E.PtrOk t p)) [] (M.Bind (M.Guard (E.Tagged t p)) [] r) ≡ true
 same_pair t p r = and_from (same_type t t) (same_exp p p) (same_type-refl t) (exp_itself p)

@@ -1,5 +1,6 @@
 -- Ready commands: conditions nested around one, and more conditions around one.
 use Rattle.std.proofs.Common.{◌≡◌, List, [], ◌∷◌, ◌++◌, refl, sym, ap, subst}
+use Rattle.std.proofs.lemmas.List.{append-nil}
 use Rattle.c_values.specs.Layout.{Layout}
 use Rattle.simpl_lang.specs.Command.{Condition, Simpl, Skip, Throw, Set, SetGlobal, Store, Pick, Seq, Cond, Guard, Catch, While, Call}
 use Rattle.ac_expr.specs.Fact.{Fact}
@@ -7,17 +8,13 @@ use Rattle.generation.specs.Generate.{guarded}
 use Rattle.heap_ready.specs.CommandReady.{AllGiven, AreInOrder, IsCommandReady}
 use Rattle.heap_ready.proofs.ExpressionsReady.{split, all_split}
 
-no_end : {A : Type 0} (xs : List A) → xs ++ [] ≡ xs
-no_end [] = refl
-no_end (x ∷ xs) = ap (λ ys. x ∷ ys) (no_end xs)
-
 one_by_one : {A : Type 0} (xs : List A) (y : A) (ys : List A) → (xs ++ (y ∷ [])) ++ ys ≡ xs ++ (y ∷ ys)
 one_by_one [] y ys = refl
 one_by_one (x ∷ xs) y ys = ap (λ zs. x ∷ zs) (one_by_one xs y ys)
 
 -- a command under conditions in order, which are nested around it
 pub guarded_ready : (l : Layout) (before gs : List Condition) (c : Simpl) → AreInOrder l before gs → IsCommandReady l (before ++ gs) c → IsCommandReady l before (guarded gs c)
-guarded_ready l before [] c h k = subst (λ hs. IsCommandReady l hs c) (no_end before) k
+guarded_ready l before [] c h k = subst (λ hs. IsCommandReady l hs c) (append-nil before) k
 guarded_ready l before (g ∷ gs) c h k = (h.0, guarded_ready l (before ++ (g ∷ [])) gs c h.1 (subst (λ hs. IsCommandReady l hs c) (sym (one_by_one before g gs)) k))
 
 -- what is ready from some conditions is ready from any that give them

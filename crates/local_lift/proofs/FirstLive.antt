@@ -2,6 +2,7 @@
 -- assign.
 use Rattle.std.proofs.Common.{◌≡◌, Bool, true, false, not, ◌&&◌, ◌||◌, List, ◌⊎◌, inl, inr, sym, subst, ◌∙◌}
 use Rattle.std.proofs.lemmas.Bool.{true≢false, and_parts, and_from, or_left, or_right, not-true, not_from_false, cases_Bool}
+use Rattle.std.specs.Cmp.{both_ways}
 use Rattle.c_values.specs.Name.{Name, same_name, is_among}
 use Rattle.c_values.proofs.Laid.{name_is}
 use Rattle.simpl_lang.specs.Command.{Simpl}
@@ -11,7 +12,6 @@ use Rattle.rule_local.proofs.LiftedNames.{either}
 use Rattle.local_lift.specs.Live.{live}
 use Rattle.local_lift.specs.LiftedByLive.{among, carried}
 use Rattle.local_lift.proofs.Spread.{live_grows, live_from_none, live_from_one, into, live_is_sum, live_stays, OnlyItself, live_for_unassigned}
-use Rattle.local_lift.proofs.LiveIsFree.{same_truth}
 
 -- the locals of a row, and those of another that a third doesn't have
 abbrev pub past : (Name → Bool) → (Name → Bool) → (Name → Bool) → Name → Bool
@@ -52,6 +52,6 @@ module _ (xs : List Name) (a : Simpl) (p : Name → Bool) where
 
   pub first_live : (y : Name) → is_among y xs ≡ true → live xs a p y ≡ past (live xs a (among us)) p (λ z. assigns z a) y
   first_live y m =
-      same_truth (live xs a p y) (past (live xs a (among us)) p (λ z. assigns z a) y) (λ h. into xs a p y (λ k. from_first y (live_from_none xs a (among us) y k)) (λ z h l. by_one y z m h l) (live_is_sum xs a p y h))
+      both_ways (live xs a p y) (past (live xs a (among us)) p (λ z. assigns z a) y) (λ h. into xs a p y (λ k. from_first y (live_from_none xs a (among us) y k)) (λ z h l. by_one y z m h l) (live_is_sum xs a p y h))
       (λ h. either (live xs a (among us) y) (p y && not (assigns y a)) h (live_grows xs a (among us) p after_carried y)
       (λ k. let q = and_parts (p y) (not (assigns y a)) k in live_stays xs a p y (not-true (assigns y a) q.1) q.0))

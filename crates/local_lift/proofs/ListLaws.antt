@@ -1,5 +1,6 @@
 -- One more of a list, and the names that are carried.
 use Rattle.std.proofs.Common.{◌≡◌, Bool, true, false, cond, not, ◌&&◌, List, [], ◌∷◌, ◌++◌, map, length, string_bytes, arith, refl, sym, ap, ◌∙◌}
+use Rattle.std.proofs.lemmas.List.{map_push}
 use Rattle.c_values.specs.Name.{Name, is_among}
 use Rattle.expression_lang.specs.Expression.{Exp, And}
 use Rattle.expression_lang.specs.declared.signatures.Binder as B
@@ -35,15 +36,11 @@ pub before_last : (cs : List Condition) (c : Condition) (e : Exp) → conj_befor
 before_last [] c e = refl
 before_last (x ∷ cs) c e = ap (λ d. And x.exp d) (before_last cs c e)
 
-map_more : {A B : Type 0} (f : A → B) (xs : List A) (x : A) → map f (xs ++ x ∷ []) ≡ map f xs ++ f x ∷ []
-map_more f [] x = refl
-map_more f (a ∷ xs) x = ap (λ r. f a ∷ r) (map_more f xs x)
-
 pub conj_of_last : {A : Type 0} (f : A → Condition) (all init : List A) (last : A) (w : Exp) → all ≡ init ++ last ∷ [] → w ≡ (f last).exp → conj_before (map f init) w ≡ conj (map f all)
-conj_of_last f all init last w e h = ap (conj_before (map f init)) h ∙ sym (conj_last (map f init) (f last)) ∙ ap conj (sym (map_more f init last)) ∙ ap (λ cs. conj (map f cs)) (sym e)
+conj_of_last f all init last w e h = ap (conj_before (map f init)) h ∙ sym (conj_last (map f init) (f last)) ∙ ap conj (sym (map_push f init last)) ∙ ap (λ cs. conj (map f cs)) (sym e)
 
 pub before_of_last : {A : Type 0} (f : A → Condition) (all init : List A) (c : A) (v w : Exp) → all ≡ init ++ c ∷ [] → v ≡ And (f c).exp w → conj_before (map f init) v ≡ conj_before (map f all) w
-before_of_last f all init c v w e h = ap (conj_before (map f init)) h ∙ sym (before_last (map f init) (f c) w) ∙ ap (λ cs. conj_before cs w) (sym (map_more f init c)) ∙ ap (λ cs. conj_before (map f cs) w) (sym e)
+before_of_last f all init c v w e h = ap (conj_before (map f init)) h ∙ sym (before_last (map f init) (f c) w) ∙ ap (λ cs. conj_before cs w) (sym (map_push f init c)) ∙ ap (λ cs. conj_before (map f cs) w) (sym e)
 
 pub begun_here : (ps : List Name) (b : B.Binder) (bs : List B.Binder) (f : Bool) (fs : List Bool) → (f && not (is_among (string_bytes b.name) ps)) ≡ true → begun_in ps (b ∷ bs) (f ∷ fs) ≡ string_bytes b.name ∷ begun_in ps bs fs
 begun_here ps b bs f fs h = ap (λ t. cond t (string_bytes b.name ∷ begun_in ps bs fs) (begun_in ps bs fs)) h
@@ -58,7 +55,3 @@ begun_marks ps p (b ∷ bs) = ap (λ r. cond (p (string_bytes b.name) && not (is
 pub mapped_none : {A B : Type 0} (f : A → B) (xs : List A) → map f xs ≡ [] → length xs ≡ 0
 mapped_none f [] h = refl
 mapped_none f (x ∷ xs) h = let clash : f x ∷ map f xs ≡ [] = h in cc
-
-pub no_length : {A : Type 0} (xs : List A) → length xs ≡ 0 → xs ≡ []
-no_length [] h = refl
-no_length (x ∷ xs) h = absurd (omega (arith, h))

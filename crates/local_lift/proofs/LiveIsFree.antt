@@ -1,6 +1,7 @@
 -- What is live before a command is what the lifted command looks at, and a loop hands on what it assigns and is live at its start.
 use Rattle.std.proofs.Common.{◌≡◌, Bool, true, false, not, cond, ◌&&◌, ◌||◌, List, [], ◌∷◌, length, suc, Some, None, ◌⊎◌, inl, inr, refl, sym, subst, ap, ◌∙◌}
 use Rattle.std.proofs.lemmas.Bool.{false≢true, true≢false, and_parts, and_from, or_left, or_right, not-true, not_from_false, cases_Bool, false_from_ne_true}
+use Rattle.std.specs.Cmp.{both_ways, second_so}
 use Rattle.c_values.specs.Name.{Name, same_name, is_among}
 use Rattle.c_values.proofs.Laid.{name_is, same_name-refl, other_name}
 use Rattle.expression_lang.specs.Expression.{Exp}
@@ -16,17 +17,12 @@ use Rattle.rule_local.specs.Table.{vars, as_starts, conj, is_needed}
 use Rattle.rule_local.specs.Lifted.{chosen, handed_on, set_lifted, lifted}
 use Rattle.rule_local.proofs.Parts.{in_vars, starts_named}
 use Rattle.rule_local.proofs.HandedOn.{among_chosen, chosen_passes, settled_has, handed_on_carries}
-use Rattle.rule_local.proofs.LiftedNames.{either, last_of, handed_on_assigned}
+use Rattle.rule_local.proofs.LiftedNames.{either, handed_on_assigned}
 use Rattle.rule_local.proofs.LiftedTaken.{AssignsThese}
 use Rattle.rule_local.proofs.Least.{AllIn, with_exp, with_other, with_parts, start_of, start_is, loop_least}
 use Rattle.local_lift.specs.Live.{none, live}
 use Rattle.local_lift.specs.LiftedByLive.{among, carried}
 use Rattle.local_lift.proofs.Spread.{Leads, Within, or_both, spread_from, spread_closed, spread_keeps, live_grows, live_from_none, live_from_one, into, live_is_sum, live_stays, OnlyItself, live_for_unassigned}
-
-pub same_truth : (p q : Bool) → (p ≡ true → q ≡ true) → (q ≡ true → p ≡ true) → p ≡ q
-same_truth true q f g = sym (f refl)
-same_truth false true f g = absurd (false≢true (g refl))
-same_truth false false f g = refl
 
 pub chosen_same : (test other : Name → Bool) (xs : List Name) → ((y : Name) → is_among y xs ≡ true → test y ≡ other y) → chosen test xs ≡ chosen other xs
 chosen_same test other [] h = refl
@@ -128,8 +124,8 @@ module _ (bs : List Binder) where
     handed_or_needed y h =
         either (in_loop y) (after y) h
         (λ k. either (is_in_start y (as_starts handed)) (bound y) k (λ j. inl (start_is y handed j))
-        (λ j. inr (or_left (tests y || is_free y (body handed)) (is_among y vs) (last_of (not (is_among y (start_names (as_starts handed)))) (tests y || is_free y (body handed)) j))))
-        (λ k. inr (or_right (tests y || is_free y (body handed)) (is_among y vs) (sym (in_vars y vs) ∙ last_of (not (is_among y handed)) (is_in_some y (vars vs)) k)))
+        (λ j. inr (or_left (tests y || is_free y (body handed)) (is_among y vs) (second_so (not (is_among y (start_names (as_starts handed)))) (tests y || is_free y (body handed)) j))))
+        (λ k. inr (or_right (tests y || is_free y (body handed)) (is_among y vs) (sym (in_vars y vs) ∙ second_so (not (is_among y handed)) (is_in_some y (vars vs)) k)))
 
     handed_free : (y : Name) → is_among y handed ≡ true → free y ≡ true
     handed_free y m = or_left (in_loop y) (after y) (or_left (is_in_start y (as_starts handed)) (bound y) (start_of y handed m))
@@ -195,7 +191,7 @@ module _ (bs : List Binder) where
         of c =
             c.are
             ∙ chosen_same c.test (λ y. assigns y a && at_start y) xs
-            (λ y m. same_truth (c.test y) (assigns y a && at_start y) (λ t. let i = subst (λ us. is_among y us ≡ true) (sym c.are) (among_chosen c.test y xs m t) in
+            (λ y m. both_ways (c.test y) (assigns y a && at_start y) (λ t. let i = subst (λ us. is_among y us ≡ true) (sym c.are) (among_chosen c.test y xs m t) in
             and_from (assigns y a) (at_start y) (handed_on_assigned xs gs e a body vs y i).0 (handed_live y i).0)
             (λ t. let p = and_parts (assigns y a) (at_start y) t in
             (chosen_passes c.test y xs (subst (λ us. is_among y us ≡ true) c.are (again y p.0 (handed_or_needed y (while_complete y p.1))))).0))
@@ -253,7 +249,7 @@ module _ (bs : List Binder) where
     between_is : between ≡ carried (names_of bs) a then
     between_is =
         chosen_same (λ z. assigns z a && is_free z second) (λ z. assigns z a && then z) (names_of bs)
-        (λ y m. ap (λ b. assigns y a && b) (same_truth (is_free y second) (then y) (sound_second vs y) (complete_second vs y)))
+        (λ y m. ap (λ b. assigns y a && b) (both_ways (is_free y second) (then y) (sound_second vs y) (complete_second vs y)))
 
   set_sound : (x : Name) (e : Exp) (vs : List Name) → is_among x (names_of bs) ≡ true → (y : Name) (b : Bool) → is_among x vs ≡ b → is_free y (set_lifted b x e vs).right ≡ true → live (names_of bs) (Set x e) (among vs) y ≡ true
   set_sound x e vs i y b h k = by_test b h k
@@ -365,7 +361,7 @@ module _ (bs : List Binder) where
   }
 
   pub live_is_free : (a : Simpl) → AssignsThese bs a → (vs : List Name) (y : Name) → is_free y (lifted bs a vs).right ≡ live (names_of bs) a (among vs) y
-  live_is_free a o vs y = let p = both a o in same_truth (is_free y (lifted bs a vs).right) (live (names_of bs) a (among vs) y) (p.sound vs y) (p.complete vs y)
+  live_is_free a o vs y = let p = both a o in both_ways (is_free y (lifted bs a vs).right) (live (names_of bs) a (among vs) y) (p.sound vs y) (p.complete vs y)
 
   -- what a sequence and a loop hand on
   pub seq_hands_on : (a b : Simpl) → AssignsThese bs a → AssignsThese bs b → (vs : List Name) →

@@ -93,10 +93,6 @@ matrix_moves bs leads t (l ∷ ls) [] ss h k = absurd h
 matrix_moves bs leads t [] [] (s ∷ ss) h k = absurd k
 matrix_moves bs leads t (l ∷ ls) (r ∷ rs) [] h k = absurd k
 
-pub ok_map : {T E : Type 0} (r : Result T E) (P Q : T → Type 0) → ((x : T) → P x → Q x) → IfOk r P → IfOk r Q
-ok_map (Ok x) P Q f h = f x h
-ok_map (Err e) P Q f h = tt
-
 pub flags_push : (rs : List Row) (r : Row) → flags_of (rs ++ r ∷ []) ≡ flags_of rs ++ r.flags.items ∷ []
 flags_push [] r = refl
 flags_push (x ∷ xs) r = ap (λ fs. x.flags.items ∷ fs) (flags_push xs r)

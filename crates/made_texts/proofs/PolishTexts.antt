@@ -1,7 +1,7 @@
 -- A program that was made tidy has a text where the program had one and binds few names at a time; and so has the tree of rules that leads
 -- there, with the programs between and the positions of values.
 use Rattle.std.proofs.Common.{◌≡◌, ℕ, zero, suc, ◌<◌, ◌≤◌, nat_lt, nat_le, Bool, true, false, not, cond, ◌&&◌, List, [], ◌∷◌, length, Option, Some, None, refl, ap, subst, arith}
-use Rattle.std.proofs.lemmas.Bool.{and_parts, and_from, or_parts, or_from, le-leb, leb-true, lt-ltb, cond_both}
+use Rattle.std.proofs.lemmas.Bool.{and_parts, and_from, or_parts, or_from, le-leb, leb-true, lt-ltb, cond_both, not-true}
 use Rattle.c_values.specs.Name.{Name, same_name, is_among, are_distinct}
 use Rattle.expression_lang.specs.Expression.{Exp, TruthLit}
 use Rattle.expression_text.specs.Names.{is_name}
@@ -156,10 +156,6 @@ record TakenFits (i : ℕ) (xs : List Name) (k : Taken) : Type 0 where
   place : i < length xs
   among : (y : Name) → is_among y xs ≡ false → is_among y k.names ≡ false
 
-apart : (b : Bool) → not b ≡ true → b ≡ false
-apart true h = absurd cc
-apart false h = refl
-
 before_fits : (i : ℕ) (e : Exp) (x : Name) (xs : List Name) (o : Option Taken) (k : Taken) → before e x o ≡ Some k →
     is_exp e ≡ true → is_name x ≡ true → is_among x xs ≡ false → ((j : Taken) → o ≡ Some j → TakenFits i xs j) →
     TakenFits (suc i) (x ∷ xs) k
@@ -206,7 +202,7 @@ taken_fits (suc i) (e ∷ es) (x ∷ xs) k q h l d =
     let p = and_parts (is_exp e) (each is_exp es) h in
     let n = and_parts (is_name x) (each is_name xs) l in
     let s = and_parts (not (is_among x xs)) (are_distinct xs) d in
-    before_fits i e x xs (taken_at i es xs) k q p.0 n.0 (apart (is_among x xs) s.0) (λ j m. taken_fits i es xs j m p.1 n.1 s.1)
+    before_fits i e x xs (taken_at i es xs) k q p.0 n.0 (not-true (is_among x xs) s.0) (λ j m. taken_fits i es xs j m p.1 n.1 s.1)
 taken_fits zero [] xs k q h l d = absurd cc
 taken_fits zero (e ∷ es) [] k q h l d = absurd cc
 taken_fits (suc i) [] xs k q h l d = absurd cc

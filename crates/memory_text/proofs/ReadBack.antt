@@ -81,10 +81,6 @@ module _ (u : TypedUnit) (t : Tree) where
 pub written : (u : TypedUnit) (m : Memory) (text : List ℕ) → is_memory u m ≡ true → depth (memory_tree m) ≤ deepest → text ≡ memory_text m → IsMemoryText u text m
 written u m text is shallow same = (record { atoms = memory_atoms u m is; spelled = same; depth = shallow }, is)
 
-pub if_ok : {X E : Type 0} (r : Result X E) (P Q : X → Type 0) → ((x : X) → P x → Q x) → IfOk r P → IfOk r Q
-if_ok (Ok x) P Q h p = h x p
-if_ok (Err e) P Q h p = tt
-
 -- A tree's text is read as no fault.
 
 -- what a fault of a tree's text is

@@ -1,6 +1,7 @@
 -- A program is well-sorted where it is decided so.
 use Rattle.std.proofs.Common.{◌≡◌, ◌==◌, Bool, true, false, ◌&&◌, List, [], ◌∷◌, map, length, Option, Some, None, if◌then◌else◌, refl, sym, ap, ap₂, ◌∙◌}
 use Rattle.std.proofs.lemmas.Bool.{and_parts, eqb-true}
+use Rattle.std.proofs.Math.Bool.{and-true, and-false}
 use Rattle.c_values.specs.Name.{Name, are_distinct}
 use Rattle.expression_lang.specs.Expression.{Exp}
 use Rattle.expression_lang.specs.Sort.{Scalar, Sort, Of, PartsSort, Scope, same_scalar, is_truth, is_kind, sort_of_kind}
@@ -19,14 +20,6 @@ use Rattle.monad_sorts.proofs.ValuesTold.{somes, somes_length, names_length, cou
 abbrev pub is_given : Option (List Scalar) → Bool
 is_given None = false
 is_given (Some ss) = true
-
-and_true : (b : Bool) → (b && true) ≡ b
-and_true true = refl
-and_true false = refl
-
-and_false : (b : Bool) → (b && false) ≡ false
-and_false true = refl
-and_false false = refl
 
 -- where values and tests fit
 
@@ -49,10 +42,10 @@ ends_same : (x z : Bool) (os vs : List (Option Scalar)) (ss : List Scalar) (p : 
     z ≡ is_given p → ((ts : List Scalar) → p ≡ Some ts → vs ≡ somes ts) →
     (x && same_told os vs && z) ≡ is_given (where_fits (x && are_scalars ss p) (Some ss))
 ends_same x z os vs ss None e h k =
-    ap (λ b. x && same_told os vs && b) h ∙ and_false (x && same_told os vs)
-    ∙ sym (ap (λ b. is_given (where_fits b (Some ss))) (and_false x))
+    ap (λ b. x && same_told os vs && b) h ∙ and-false (x && same_told os vs)
+    ∙ sym (ap (λ b. is_given (where_fits b (Some ss))) (and-false x))
 ends_same x z os vs ss (Some ts) e h k =
-    ap (λ b. x && same_told os vs && b) h ∙ and_true (x && same_told os vs)
+    ap (λ b. x && same_told os vs && b) h ∙ and-true (x && same_told os vs)
     ∙ ap (λ b. x && b) (ap₂ same_told e (k ts refl) ∙ same_is ss ts)
     ∙ fits_alone (x && same_scalars ss ts) ss
 

@@ -3,7 +3,7 @@ use Rattle.std.proofs.Common.{◌≡◌, ℕ, zero, suc, ◌^◌, ◌≤◌, ◌
 use Rattle.std.specs.Prelude.{nat_lt, nat_le}
 use Rattle.std.specs.List.{list_all}
 use Rattle.std.specs.Char.{is_ascii_digit}
-use Rattle.std.proofs.lemmas.Bool.{false≢true, and_from, lt-ltb, leb-true}
+use Rattle.std.proofs.lemmas.Bool.{false≢true, and_from, lt-ltb, leb-true, or_left}
 use Rattle.c_lex.specs.Bytes.{is_letter, is_word}
 use Rattle.c_values.specs.Name.{Name}
 use Rattle.c_values.specs.Types.{CType}
@@ -22,10 +22,6 @@ or_between true d s h = refl
 or_between false d true h = refl
 or_between false d false h = h
 
-or_first : (l s : Bool) → l ≡ true → (l || s) ≡ true
-or_first true s h = refl
-or_first false s h = absurd (false≢true h)
-
 words_go_on : (cs : List ℕ) → W.are_words cs ≡ true → list_all goes_on_name cs ≡ true
 words_go_on [] h = refl
 words_go_on (c ∷ cs) h =
@@ -33,7 +29,7 @@ words_go_on (c ∷ cs) h =
 
 pub c_name : (x : Name) → W.IsName x → is_name x ≡ true
 c_name [] h = absurd (false≢true h)
-c_name (c ∷ cs) h = both (or_first (is_letter c) (c == 36) (left (is_letter c) (W.are_words cs) h)) (words_go_on cs (right (is_letter c) (W.are_words cs) h))
+c_name (c ∷ cs) h = both (or_left (is_letter c) (c == 36) (left (is_letter c) (W.are_words cs) h)) (words_go_on cs (right (is_letter c) (W.are_words cs) h))
 
 -- what has texts
 

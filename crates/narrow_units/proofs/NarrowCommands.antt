@@ -1,6 +1,7 @@
 -- The commands of a well-typed statement have no wide operation.
 use Rattle.std.proofs.Common.{◌≡◌, ℕ, Bool, true, false, List, [], ◌∷◌, ◌++◌, Option, Some, None, ℤ, refl}
 use Rattle.std.proofs.lemmas.Bool.{false≢true}
+use Rattle.std.specs.Cmp.{first_so, second_so}
 use Rattle.c_values.specs.Name.{Name}
 use Rattle.c_values.specs.Types.{Target, IntType, CType}
 use Rattle.c_values.specs.Layout.{Layout}
@@ -16,7 +17,6 @@ use Rattle.c_lang.specs.Typed as C
 use Rattle.c_lang.specs.WellTyped.{Scope, Around, is_typed, is_typed_target, is_typed_test, are_arguments, is_use_of, is_call_of, is_statement, are_statements, are_groups, nowhere, in_a_loop, in_a_switch}
 use Rattle.generation.specs.Guards.{conversion, exp, exps, truth, path_of, guards, argument_guards}
 use Rattle.generation.specs.Generate.{call_local, switch_local, first_local, returned, broken, continued, jump, stops_at, body_of_loop, looped, guarded, assignment, target_guards, call, call_of, test_guards, test_truth, after_first, do_while, is_one_of, cases, in_order, is_empty, command, commands, before, cases_of, default_of, whole_body}
-use Rattle.generation.proofs.SortedRows.{first, second}
 use Rattle.generation.proofs.SortedExpressions.{IsScope, simpl_scope}
 use Rattle.narrow.specs.Narrow.{IsNarrow, IsNarrowAlong, AreNarrow, AreConditionsNarrow, IsCommandNarrow}
 use Rattle.narrow_units.proofs.NarrowValues.{none_chosen, number_quiet, conversion_quiet, value_quiet, truth_quiet}
@@ -138,7 +138,7 @@ module _ (g : Scope) (names : Name → Option S.Scalar) (is : IsScope g names) (
   arguments_quiet : (vs : List C.Variable) (es : List C.Expr) → are_arguments g vs es ≡ true → Quiet (argument_guards l level es)
   arguments_quiet [] [] h env s i k = none
   arguments_quiet (v ∷ vs) (e ∷ es) h env s i k =
-      quiet_append (conditions e (second _ _ (first _ _ h)) env s i k) (arguments_quiet vs es (second _ _ h) env s i k)
+      quiet_append (conditions e (second_so _ _ (first_so _ _ h)) env s i k) (arguments_quiet vs es (second_so _ _ h) env s i k)
   arguments_quiet [] (e ∷ es) h env s i k = absurd (false≢true h)
   arguments_quiet (v ∷ vs) [] h env s i k = absurd (false≢true h)
 
@@ -149,7 +149,7 @@ module _ (g : Scope) (names : Name → Option S.Scalar) (is : IsScope g names) (
   use_narrow None n f es (C.Assigned from d) h k = absurd (false≢true h)
   use_narrow (Some t) n f es (C.Assigned from d) h k = (
     k,
-    guarded_narrow (target_guards l level d) _ (target_quiet d (second _ _ h))
+    guarded_narrow (target_guards l level d) _ (target_quiet d (second_so _ _ h))
         (assignment_narrow d _ (converted (C.target_type d) from (call_local n))),
   )
   use_narrow r n f es (C.Returned from to) h k = (k, (converted to from (call_local n), jump_narrow returned))
@@ -158,14 +158,14 @@ module _ (g : Scope) (names : Name → Option S.Scalar) (is : IsScope g names) (
       Good (call_of l level n f es u)
   call_narrow None n f es u h = absurd (false≢true h)
   call_narrow (Some fn) n f es u h =
-      guarded_narrow (argument_guards l level es) (call l level n f (exps l es) u) (arguments_quiet fn.params es (first _ _ h))
-      (use_narrow fn.result n f (exps l es) u (second _ _ h) (values es))
+      guarded_narrow (argument_guards l level es) (call l level n f (exps l es) u) (arguments_quiet fn.params es (first_so _ _ h))
+      (use_narrow fn.result n f (exps l es) u (second_so _ _ h) (values es))
 
   -- tests
 
   test_quiet : (t : C.Test) → is_typed_test g t ≡ true → Quiet (test_guards l level t)
   test_quiet C.Always h env s i k = none
-  test_quiet (C.Tested e) h env s i k = conditions e (second _ _ h) env s i k
+  test_quiet (C.Tested e) h env s i k = conditions e (second_so _ _ h) env s i k
 
   tested : (t : C.Test) → Narrow (test_truth l t)
   tested C.Always env s i k = refl
@@ -178,35 +178,35 @@ module _ (g : Scope) (names : Name → Option S.Scalar) (is : IsScope g names) (
     command_narrow r (C.Declare y t) h = tt
     command_narrow r (C.Assign d e) h =
         guarded_narrow (guards l level e ++ target_guards l level d) _
-        (both _ _ (conditions e (second _ _ (second _ _ h))) (target_quiet d (first _ _ h))) (assignment_narrow d _ (value e))
+        (both _ _ (conditions e (second_so _ _ (second_so _ _ h))) (target_quiet d (first_so _ _ h))) (assignment_narrow d _ (value e))
     command_narrow r (C.Call n f es u) h = call_narrow (C.typed_fn g.functions f) n f es u h
     command_narrow r (C.If e b c) h =
-        let k = first _ _ h in
+        let k = first_so _ _ h in
         guarded_narrow (guards l level e) (Cond (truth l e) (command l level b) (command l level c))
-        (conditions e (second _ _ (first _ _ k)))
-        (test e, command_narrow r b (second _ _ k), command_narrow r c (second _ _ h))
+        (conditions e (second_so _ _ (first_so _ _ k)))
+        (test e, command_narrow r b (second_so _ _ k), command_narrow r c (second_so _ _ h))
     command_narrow r (C.While e b) h =
-        looped_narrow (guards l level e) (truth l e) (body_of_loop (command l level b)) (conditions e (second _ _ (first _ _ h)))
-        (test e) (body_narrow (command l level b) (command_narrow in_a_loop b (second _ _ h)))
+        looped_narrow (guards l level e) (truth l e) (body_of_loop (command l level b)) (conditions e (second_so _ _ (first_so _ _ h)))
+        (test e) (body_narrow (command l level b) (command_narrow in_a_loop b (second_so _ _ h)))
     command_narrow r (C.DoWhile n b e) h =
-        do_while_narrow n (guards l level e) (truth l e) (command l level b) (conditions e (second _ _ (second _ _ h))) (test e)
-        (command_narrow in_a_loop b (first _ _ h))
+        do_while_narrow n (guards l level e) (truth l e) (command l level b) (conditions e (second_so _ _ (second_so _ _ h))) (test e)
+        (command_narrow in_a_loop b (first_so _ _ h))
     command_narrow r (C.For init t step b) h =
-        let k = first _ _ h in
-        let j = first _ _ k in
+        let k = first_so _ _ h in
+        let j = first_so _ _ k in
         let turn = Seq (body_of_loop (command l level b)) (command l level step) in
-        before_narrow init _ (first _ _ j)
-        (looped_narrow (test_guards l level t) (test_truth l t) turn (test_quiet t (second _ _ j)) (tested t)
-        (body_narrow (command l level b) (command_narrow in_a_loop b (second _ _ h)), command_narrow nowhere step (second _ _ k)))
+        before_narrow init _ (first_so _ _ j)
+        (looped_narrow (test_guards l level t) (test_truth l t) turn (test_quiet t (second_so _ _ j)) (tested t)
+        (body_narrow (command l level b) (command_narrow in_a_loop b (second_so _ _ h)), command_narrow nowhere step (second_so _ _ k)))
     command_narrow r (C.Switch n i e gs) h =
-        let typed = first _ _ (first _ _ (first _ _ (first _ _ h))) in
+        let typed = first_so _ _ (first_so _ _ (first_so _ _ (first_so _ _ h))) in
         guarded_narrow (guards l level e)
         (Seq (Set (switch_local n) (exp l e)) (Catch (cases (default_of l level gs) (cases_of l level n i gs)) (stops_at broken)))
-        (conditions e (second _ _ typed)) (
+        (conditions e (second_so _ _ typed)) (
           value e,
           (
-            cases_narrow (default_of l level gs) (default_narrow (in_a_switch r) gs (second _ _ h)) (in_a_switch r) n i gs
-                (second _ _ h),
+            cases_narrow (default_of l level gs) (default_narrow (in_a_switch r) gs (second_so _ _ h)) (in_a_switch r) n i gs
+                (second_so _ _ h),
             stops_narrow broken,
           ),
         )
@@ -214,32 +214,32 @@ module _ (g : Scope) (names : Name → Option S.Scalar) (is : IsScope g names) (
     command_narrow r C.Continue h = jump_narrow continued
     command_narrow r C.ReturnNothing h = jump_narrow returned
     command_narrow r (C.Return e) h =
-        guarded_narrow (guards l level e) (Seq (Set result_local (exp l e)) (jump returned)) (conditions e (second _ _ h))
+        guarded_narrow (guards l level e) (Seq (Set result_local (exp l e)) (jump returned)) (conditions e (second_so _ _ h))
         (value e, jump_narrow returned)
 
     pub commands_narrow : (r : Around) (ss : C.Statements) → are_statements g r ss ≡ true →
         IsCommandNarrow (simpl_scope g names) g.globals (commands g.layout level ss)
     commands_narrow r C.no_statements h = tt
     commands_narrow r (C.next c ss) h =
-        in_order_narrow (command l level c) (is_empty ss) (commands l level ss) (command_narrow r c (first _ _ h))
-        (commands_narrow r ss (second _ _ h))
+        in_order_narrow (command l level c) (is_empty ss) (commands l level ss) (command_narrow r c (first_so _ _ h))
+        (commands_narrow r ss (second_so _ _ h))
 
     before_narrow : (ss : C.Statements) (rest : Simpl) → are_statements g nowhere ss ≡ true → Good rest →
         Good (before l level ss rest)
     before_narrow C.no_statements rest h k = k
-    before_narrow (C.next c ss) rest h k = (command_narrow nowhere c (first _ _ h), before_narrow ss rest (second _ _ h) k)
+    before_narrow (C.next c ss) rest h k = (command_narrow nowhere c (first_so _ _ h), before_narrow ss rest (second_so _ _ h) k)
 
     cases_narrow : (default' : Simpl) → Good default' → (r : Around) (n : ℕ) (i : IntType) (gs : C.Groups) →
         are_groups g r gs ≡ true → Good (cases default' (cases_of l level n i gs))
     cases_narrow default' d r n i C.no_groups h = d
-    cases_narrow default' d r n i (C.group labels true ss gs) h = cases_narrow default' d r n i gs (second _ _ h)
+    cases_narrow default' d r n i (C.group labels true ss gs) h = cases_narrow default' d r n i gs (second_so _ _ h)
     cases_narrow default' d r n i (C.group labels false ss gs) h =
-        (labels_narrow l.target i n labels, commands_narrow r ss (first _ _ h), cases_narrow default' d r n i gs (second _ _ h))
+        (labels_narrow l.target i n labels, commands_narrow r ss (first_so _ _ h), cases_narrow default' d r n i gs (second_so _ _ h))
 
     default_narrow : (r : Around) (gs : C.Groups) → are_groups g r gs ≡ true → Good (default_of l level gs)
     default_narrow r C.no_groups h = tt
-    default_narrow r (C.group labels true ss gs) h = commands_narrow r ss (first _ _ h)
-    default_narrow r (C.group labels false ss gs) h = default_narrow r gs (second _ _ h)
+    default_narrow r (C.group labels true ss gs) h = commands_narrow r ss (first_so _ _ h)
+    default_narrow r (C.group labels false ss gs) h = default_narrow r gs (second_so _ _ h)
 
   pub whole_narrow : (t : Option CType) (c : Simpl) → IsCommandNarrow (simpl_scope g names) g.globals c →
       IsCommandNarrow (simpl_scope g names) g.globals (whole_body t c)

@@ -1,6 +1,7 @@
 -- The conditions of a typed C expression have no wide operation: in them stand sums, differences, products and quotients of
 -- the values of words.
 use Rattle.std.proofs.Common.{◌≡◌, ℕ, ◌^◌, Bool, true, false, cond, List, [], ◌∷◌, ◌++◌, Option, pos}
+use Rattle.std.specs.Cmp.{first_so, second_so}
 use Rattle.c_values.specs.Name.{Name}
 use Rattle.c_values.specs.Types.{Target, IntType, CType, Integer, is_signed, width_of}
 use Rattle.c_values.specs.Number.{NumberOp, Add, Sub, Mul, Div, greatest_of}
@@ -19,7 +20,7 @@ use Rattle.c_lang.specs.Typed as C
 use Rattle.c_lang.specs.WellTyped.{Scope, is_typed, is_typed_place, are_typed_indices}
 use Rattle.generation.specs.Guards.{is_signed_type, number, fits, divides, computes, shifts, exp, under, bounds, accesses, guards, place_guards, index_guards}
 use Rattle.generation.proofs.ExactNumbers.{word_of_bits}
-use Rattle.generation.proofs.SortedRows.{first, second, HasWord}
+use Rattle.generation.proofs.SortedRows.{HasWord}
 use Rattle.generation.proofs.SortedExpressions.{IsScope, simpl_scope, scalar_wide, operand}
 use Rattle.narrow_units.proofs.Magnitudes.{IsBelow, unsigned_below, signed_below, narrow_operation}
 use Rattle.narrow_units.proofs.NarrowValues.{none_of_two, IsQuiet, literal, shifted, to_int, negated, between, at_most, equal, not_so, implication, number_quiet, value_quiet, truth_quiet}
@@ -152,55 +153,55 @@ module _ (g : Scope) (names : Name → Option S.Scalar) (is : IsScope g names) (
       guards_quiet (C.Constant i n) h = none
       guards_quiet (C.Local y t) h = none
       guards_quiet (C.Value p) h = quiet_append (place_guards_quiet p h) (accesses_quiet level p)
-      guards_quiet (C.Convert t a) h = guards_quiet a (second _ _ (second _ _ h))
-      guards_quiet (C.ConvertNull t a) h = guards_quiet a (second _ _ (second _ _ h))
+      guards_quiet (C.Convert t a) h = guards_quiet a (second_so _ _ (second_so _ _ h))
+      guards_quiet (C.ConvertNull t a) h = guards_quiet a (second_so _ _ (second_so _ _ h))
       guards_quiet (C.Negate i a) h =
-          quiet_append (guards_quiet a (second _ _ h))
+          quiet_append (guards_quiet a (second_so _ _ h))
           (fits_quiet l env s l.target level i _ (negated (number_quiet (Integer i) _ (value_quiet l env s a))))
-      guards_quiet (C.Complement i a) h = guards_quiet a (second _ _ h)
+      guards_quiet (C.Complement i a) h = guards_quiet a (second_so _ _ h)
       guards_quiet (C.Compute op i a b) h =
-          quiet_append (quiet_append (guards_quiet a (second _ _ (first _ _ h))) (guards_quiet b (second _ _ (second _ _ h))))
-          (computes_quiet l env s l.target i _ _ (operand_is i a (operand g names is i a (first _ _ h)))
-          (operand_is i b (operand g names is i b (second _ _ h))) level op)
+          quiet_append (quiet_append (guards_quiet a (second_so _ _ (first_so _ _ h))) (guards_quiet b (second_so _ _ (second_so _ _ h))))
+          (computes_quiet l env s l.target i _ _ (operand_is i a (operand g names is i a (first_so _ _ h)))
+          (operand_is i b (operand g names is i b (second_so _ _ h))) level op)
       guards_quiet (C.Combine op i a b) h =
-          quiet_append (guards_quiet a (second _ _ (first _ _ h))) (guards_quiet b (second _ _ (second _ _ h)))
+          quiet_append (guards_quiet a (second_so _ _ (first_so _ _ h))) (guards_quiet b (second_so _ _ (second_so _ _ h)))
       guards_quiet (C.Shift d i a b) h =
-          quiet_append (quiet_append (guards_quiet a (second _ _ (first _ _ h))) (guards_quiet b (second _ _ (second _ _ h))))
+          quiet_append (quiet_append (guards_quiet a (second_so _ _ (first_so _ _ h))) (guards_quiet b (second_so _ _ (second_so _ _ h))))
           (shifts_quiet l env s l.target i d _ _ (value_quiet l env s a) (index_quiet b))
       guards_quiet (C.Compare r i a b) h =
-          quiet_append (guards_quiet a (second _ _ (first _ _ h))) (guards_quiet b (second _ _ (second _ _ h)))
+          quiet_append (guards_quiet a (second_so _ _ (first_so _ _ h))) (guards_quiet b (second_so _ _ (second_so _ _ h)))
       guards_quiet (C.Equate q t a b) h =
-          quiet_append (guards_quiet a (second _ _ (second _ _ (first _ _ h)))) (guards_quiet b (second _ _ (second _ _ h)))
-      guards_quiet (C.Not a) h = guards_quiet a (second _ _ h)
+          quiet_append (guards_quiet a (second_so _ _ (second_so _ _ (first_so _ _ h)))) (guards_quiet b (second_so _ _ (second_so _ _ h)))
+      guards_quiet (C.Not a) h = guards_quiet a (second_so _ _ h)
       guards_quiet (C.And a b) h =
-          quiet_append (guards_quiet a (second _ _ (first _ _ h)))
-          (all_under l env s (truth_quiet l env s a) (guards_quiet b (second _ _ (second _ _ h))))
+          quiet_append (guards_quiet a (second_so _ _ (first_so _ _ h)))
+          (all_under l env s (truth_quiet l env s a) (guards_quiet b (second_so _ _ (second_so _ _ h))))
       guards_quiet (C.Or a b) h =
-          quiet_append (guards_quiet a (second _ _ (first _ _ h)))
-          (all_under l env s (not_so (truth_quiet l env s a)) (guards_quiet b (second _ _ (second _ _ h))))
+          quiet_append (guards_quiet a (second_so _ _ (first_so _ _ h)))
+          (all_under l env s (not_so (truth_quiet l env s a)) (guards_quiet b (second_so _ _ (second_so _ _ h))))
       guards_quiet (C.Choose t c a b) h =
-          let k = first _ _ h in
+          let k = first_so _ _ h in
           quiet_append
-          (quiet_append (guards_quiet c (second _ _ (second _ _ (first _ _ k))))
-          (all_under l env s (truth_quiet l env s c) (guards_quiet a (second _ _ (second _ _ k)))))
-          (all_under l env s (not_so (truth_quiet l env s c)) (guards_quiet b (second _ _ (second _ _ h))))
+          (quiet_append (guards_quiet c (second_so _ _ (second_so _ _ (first_so _ _ k))))
+          (all_under l env s (truth_quiet l env s c) (guards_quiet a (second_so _ _ (second_so _ _ k)))))
+          (all_under l env s (not_so (truth_quiet l env s c)) (guards_quiet b (second_so _ _ (second_so _ _ h))))
       guards_quiet (C.Move d t p a) h =
-          quiet_append (guards_quiet p (second _ _ (second _ _ (first _ _ h)))) (guards_quiet a (second _ _ (second _ _ h)))
+          quiet_append (guards_quiet p (second_so _ _ (second_so _ _ (first_so _ _ h)))) (guards_quiet a (second_so _ _ (second_so _ _ h)))
       guards_quiet (C.MoveBy t a p) h =
-          quiet_append (guards_quiet a (second _ _ (second _ _ (first _ _ h)))) (guards_quiet p (second _ _ (second _ _ h)))
-      guards_quiet (C.Address p t) h = place_guards_quiet p (second _ _ (first _ _ h))
-      guards_quiet (C.Decay p t) h = place_guards_quiet p (second _ _ (first _ _ h))
+          quiet_append (guards_quiet a (second_so _ _ (second_so _ _ (first_so _ _ h)))) (guards_quiet p (second_so _ _ (second_so _ _ h)))
+      guards_quiet (C.Address p t) h = place_guards_quiet p (second_so _ _ (first_so _ _ h))
+      guards_quiet (C.Decay p t) h = place_guards_quiet p (second_so _ _ (first_so _ _ h))
 
       pub place_guards_quiet : (p : C.Place) → is_typed_place g p ≡ true → AreQuiet g.layout env s (place_guards g.layout level p)
       place_guards_quiet (C.Through t p path u) h =
-          let k = first _ _ h in
+          let k = first_so _ _ h in
           quiet_append
-          (quiet_append (guards_quiet p (second _ _ (second _ _ (first _ _ k)))) (index_guards_quiet path (second _ _ k)))
+          (quiet_append (guards_quiet p (second_so _ _ (second_so _ _ (first_so _ _ k)))) (index_guards_quiet path (second_so _ _ k)))
           (bounds_quiet path)
-      place_guards_quiet (C.InGlobal x path u) h = quiet_append (index_guards_quiet path (first _ _ h)) (bounds_quiet path)
+      place_guards_quiet (C.InGlobal x path u) h = quiet_append (index_guards_quiet path (first_so _ _ h)) (bounds_quiet path)
 
       index_guards_quiet : (path : C.Path) → are_typed_indices g path ≡ true → All (index_guards l level path)
       index_guards_quiet C.Here h = none
       index_guards_quiet (C.Member k path) h = index_guards_quiet path h
       index_guards_quiet (C.Element n e path) h =
-          quiet_append (guards_quiet e (second _ _ (first _ _ h))) (index_guards_quiet path (second _ _ h))
+          quiet_append (guards_quiet e (second_so _ _ (first_so _ _ h))) (index_guards_quiet path (second_so _ _ h))

@@ -1,6 +1,6 @@
 -- The Simpl unit of a well-typed unit has no wide operation.
 use Rattle.std.proofs.Common.{◌≡◌, true, false, not, List, [], ◌∷◌, ◌++◌, map, Option, Some, None, refl, sym, ap, ◌∙◌, subst, append_assoc}
-use Rattle.std.proofs.lemmas.Bool.{or_parts, not-true}
+use Rattle.std.proofs.lemmas.Bool.{or_parts, not-true, and_parts}
 use Rattle.c_values.specs.Name.{Name, same_name, with_name, is_among, are_distinct}
 use Rattle.c_values.specs.Types.{Target, CType}
 use Rattle.c_values.specs.Layout.{scalar_width}
@@ -14,7 +14,7 @@ use Rattle.c_lang.specs.Typed as C
 use Rattle.c_lang.specs.WellTyped.{IsWellTyped, scope_in, variable_type, are_variables, is_function, are_functions, are_statements, nowhere}
 use Rattle.c_meaning.specs.Kinds.{variables}
 use Rattle.generation.specs.Generate.{locals, function_of, generated}
-use Rattle.generation.proofs.ExactTests.{all_of_two, all_of_four, same_some, none_is_none, by_cases, where_true, where_false}
+use Rattle.generation.proofs.ExactTests.{all_of_four, same_some, none_is_none, by_cases, where_true, where_false}
 use Rattle.generation.proofs.UnitParts.{more_locals, locals_are}
 use Rattle.generation.proofs.LocalNames.{variables_append}
 use Rattle.generation.proofs.SortedCommands.{kind_word}
@@ -54,7 +54,7 @@ module _ (t : Target) (level : Level) (x : Name) (u : CType) where
   variable_known names [] bs d e = absurd (none_is_none e)
   variable_known names (v ∷ vs) bs d e =
       let others = variables t level vs ++ bs in
-      let p = all_of_two (not (is_among v.name (names_of others))) (are_distinct (names_of others)) d in
+      let p = and_parts (not (is_among v.name (names_of others))) (are_distinct (names_of others)) d in
       by_cases (scalars_among (variables t level (v ∷ vs) ++ bs) names x ≡ Some (WordSort (scalar_width t u))) (same_name v.name x)
       (λ b. found names v others (not-true (is_among v.name (names_of others)) p.0) b
       (same_some (sym (where_true (same_name v.name x) (Some v.type) (variable_type vs x) b) ∙ e)))
@@ -111,7 +111,7 @@ module _ (u : C.TypedUnit) (w : IsWellTyped u) (levels : Name → Level) where
       AreFnsNarrow g (map made fs)
   functions_narrow [] h k = tt
   functions_narrow (f ∷ fs) h k =
-      let p = all_of_two (is_function u f) (are_functions u fs) h in
+      let p = and_parts (is_function u f) (are_functions u fs) h in
       let q = all_of_four (are_kinds (kinds_of (made f).locals)) (are_distinct (names_of (made f).locals))
       (is_sorted (scope_of g (made f)) g.signatures (made f).body) (are_fns_sorted g (map made fs)) k in
       (body_narrow f p.0 q.1, functions_narrow fs p.1 q.3)

@@ -1,5 +1,6 @@
 -- The first value that can be put in, with the names before it in their order.
 use Rattle.std.proofs.Common.{◌≡◌, ℕ, zero, ◌+◌, Bool, true, false, cond, not, ◌&&◌, ◌||◌, List, [], ◌∷◌, ◌++◌, Option, Some, None, refl, sym, ap, ◌∙◌, arith}
+use Rattle.std.proofs.Math.Bool.{or-false, or_comm}
 use Rattle.c_values.specs.Name.{Name, same_name, is_among}
 use Rattle.expression_lang.specs.Expression.{Exp, Var, WordLit, NumberLit, TruthLit}
 use Rattle.monad_lang.specs.Program.{Mon}
@@ -30,20 +31,10 @@ same_put e x xs ys n h = refl
 behind_same : (xs ys zs : List Name) → AreSame xs ys → AreSame (xs ++ zs) (ys ++ zs)
 behind_same xs ys zs h y = among_both y xs zs ∙ ap (λ b. b || is_among y zs) (h y) ∙ sym (among_both y ys zs)
 
-or_none : (a : Bool) → (a || false) ≡ a
-or_none true = refl
-or_none false = refl
-
-or_turn : (a b : Bool) → (a || b) ≡ (b || a)
-or_turn true true = refl
-or_turn true false = refl
-or_turn false true = refl
-or_turn false false = refl
-
 at_end : (x : Name) (xs ys : List Name) → AreSame xs ys → AreSame (x ∷ xs) (ys ++ x ∷ [])
 at_end x xs ys h y =
-    ap (λ b. same_name y x || b) (h y) ∙ or_turn (same_name y x) (is_among y ys)
-    ∙ ap (λ b. is_among y ys || b) (sym (or_none (same_name y x))) ∙ sym (among_both y ys (x ∷ []))
+    ap (λ b. same_name y x || b) (h y) ∙ or_comm (same_name y x) (is_among y ys)
+    ∙ ap (λ b. is_among y ys || b) (sym (or-false (same_name y x))) ∙ sym (among_both y ys (x ∷ []))
 
 ordered : (es : List Exp) (front before xs : List Name) (n : Mon) → AreSame front before → first_put front es xs n ≡ put_behind before es xs n
 ordered [] front before xs n h = refl

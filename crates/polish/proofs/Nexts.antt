@@ -14,10 +14,6 @@ use Rattle.polish.specs.CodeNext.{Settling, Stays, Gives, Skips, Turns, Puts, is
 use Rattle.polish.specs.CodePutting.{with_taken, put_into}
 use Rattle.polish.proofs.Cases.{some_same}
 
-or_true : (b : Bool) → (b || true) ≡ true
-or_true true = refl
-or_true false = refl
-
 pub is_given : (m : Mon) (xs : List Name) (n : Mon) → is_bind_ret m xs n ≡ (is_nothing m xs || gives_names xs n)
 is_given (M.Ret []) [] n = refl
 is_given m xs (M.Ret es) = refl

@@ -1,5 +1,6 @@
 -- The first position that passes a test, where some names were passed.
 use Rattle.std.proofs.Common.{◌≡◌, ℕ, ◌+◌, ◌-◌, true, false, ◌&&◌, List, [], ◌∷◌, ◌++◌, map, length, take, Option, Some, None, refl, sym, ap, ap₂, ◌∙◌, arith}
+use Rattle.std.proofs.lemmas.List.{map_push}
 use Rattle.c_values.specs.Name.{Name}
 use Rattle.expression_lang.specs.Expression.{Exp}
 use Rattle.monad_lang.specs.Program.{Mon}
@@ -10,10 +11,6 @@ use Rattle.polish.specs.CodePutting.{put_later, put_behind}
 use Rattle.polish.specs.Passing.{IsPutLeft, IsConstantLeft}
 use Rattle.polish.proofs.FirstPut.{put_begun, put_here, put_next, constant_begun, constant_here, constant_next}
 use Rattle.polish.proofs.Passed.{all_left, one_more_taken, one_less_left, one_further}
-
-map_more : {A B : Type 0} (f : A → B) (xs : List A) (x : A) → map f (xs ++ x ∷ []) ≡ map f xs ++ f x ∷ []
-map_more f [] x = refl
-map_more f (y ∷ xs) x = ap (λ r. f y ∷ r) (map_more f xs x)
 
 no_more : (k : ℕ) → k - k ≡ 0
 no_more k = omega arith
@@ -63,7 +60,7 @@ module _ {A E : Type 0} (f : A → Name) (g : E → Exp) (values : List E) (name
             ap₂ (λ k xs. put_later k (put_behind (map f xs) (map g others) (map f after) n))
             (one_further names right x after h.names_left e) (one_more_taken names right x after h.names_left e)
             ∙ ap (λ xs. put_later (length names - length right + 1) (put_behind xs (map g others) (map f after) n))
-            (map_more f (take (length names - length right) names) x)
+            (map_push f (take (length names - length right) names) x)
             ∙ sym (put_next (length names - length right) passed (g v) (map g others) (f x) (map f after) n i)
             ∙ here;
       }

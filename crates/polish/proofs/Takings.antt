@@ -49,7 +49,3 @@ taken_on (suc i) ls es es' more e rs xs xs' own x f g h j k l =
     ∙ sym (taken_later i es' xs' e es x xs)
     ∙ ap₂ (λ a b. passed_over es' xs' (taken_at (suc i) a b)) (sym f) (sym g)
     ∙ l
-
-pub mapped_more : {A B : Type 0} (f : A → B) (xs : List A) (x : A) → map f (xs ++ x ∷ []) ≡ map f xs ++ f x ∷ []
-mapped_more f [] x = refl
-mapped_more f (y ∷ xs) x = ap (λ r. f y ∷ r) (mapped_more f xs x)

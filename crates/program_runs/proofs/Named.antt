@@ -1,24 +1,16 @@
 -- What stands at a place of a list in which names are distinct is found by its name.
 use Rattle.std.proofs.Common.{◌≡◌, ℕ, zero, suc, ◌<◌, Bool, true, false, not, ◌||◌, List, [], ◌∷◌, length, get_or, map, Some, refl, sym, ap, ◌∙◌, subst, arith}
-use Rattle.std.proofs.lemmas.Bool.{and_parts, or_parts, false≢true, not-true}
+use Rattle.std.proofs.lemmas.Bool.{and_parts, or_parts, false≢true, not-true, cond-true, cond-false, or_left as or_first, or_right}
 use Rattle.std.specs.Prelude.{slice_get}
 use Rattle.std.specs.Option.{IsSomeAnd}
 use Rattle.c_values.specs.Name.{Name, same_name, is_among, are_distinct}
 use Rattle.c_values.specs.Program.{function_named}
 use Rattle.c_values.proofs.Laid.{name_is, same_name-refl}
-use Rattle.global_changes.proofs.Changed.{by_test, where_true, where_false}
+use Rattle.global_changes.proofs.Changed.{by_test}
 
 or_left : (a b : Bool) → a ≡ false → (a || b) ≡ true → b ≡ true
 or_left true b h k = absurd (false≢true (sym h))
 or_left false b h k = k
-
-or_first : (a b : Bool) → a ≡ true → (a || b) ≡ true
-or_first true b h = refl
-or_first false b h = absurd (false≢true h)
-
-or_second : (a b : Bool) → b ≡ true → (a || b) ≡ true
-or_second true b h = refl
-or_second false b h = h
 
 apart : (x y : Name) (ys : List Name) → is_among x ys ≡ false → is_among y ys ≡ true → same_name x y ≡ false
 apart x y [] h k = absurd (false≢true k)
@@ -33,17 +25,17 @@ module _ {F : Type 0} (name : F → Name) where
   among_at [] k f lt e = absurd (omega arith)
   among_at (g ∷ fs) zero f lt e =
       or_first (same_name (name f) (name g)) (is_among (name f) (map name fs)) (ap (λ h. same_name (name f) (name h)) (sym e) ∙ same_name-refl (name f))
-  among_at (g ∷ fs) (suc k) f lt e = or_second (same_name (name f) (name g)) (is_among (name f) (map name fs)) (among_at fs k f (omega arith) e)
+  among_at (g ∷ fs) (suc k) f lt e = or_right (same_name (name f) (name g)) (is_among (name f) (map name fs)) (among_at fs k f (omega arith) e)
 
   pub found_at : (fs : List F) (k : ℕ) (f : F) → are_distinct (map name fs) ≡ true → k < length fs → f ≡ get_or fs k f → function_named name fs (name f) ≡ Some f
   found_at [] k f d lt e = absurd (omega arith)
   found_at (g ∷ fs) zero f d lt e =
-      where_true (same_name (name g) (name f)) (Some g) (function_named name fs (name f)) (ap (λ h. same_name (name h) (name f)) (sym e) ∙ same_name-refl (name f))
+      cond-true (same_name (name g) (name f)) (Some g) (function_named name fs (name f)) (ap (λ h. same_name (name h) (name f)) (sym e) ∙ same_name-refl (name f))
       ∙ ap Some (sym e)
   found_at (g ∷ fs) (suc k) f d lt e =
       let p = and_parts (not (is_among (name g) (map name fs))) (are_distinct (map name fs)) d in
       let lt' : k < length fs = omega arith in
-      where_false (same_name (name g) (name f)) (Some g) (function_named name fs (name f))
+      cond-false (same_name (name g) (name f)) (Some g) (function_named name fs (name f))
       (apart (name g) (name f) (map name fs) (not-true _ p.0) (among_at fs k f lt' e))
       ∙ found_at fs k f p.1 lt' e
 

@@ -1,6 +1,6 @@
 -- Writes: what a place and the expression are, and that the part takes a value of its shape.
 use Rattle.std.proofs.Common.{◌≡◌, ◌<◌, ◌^◌, ◌&&◌, ℕ, Bool, true, false, cond, Option, Some, None, refl}
-use Rattle.std.proofs.lemmas.Bool.{and_parts, false≢true}
+use Rattle.std.proofs.lemmas.Bool.{and_parts, false≢true, and_from}
 use Rattle.std.specs.Prelude.{IsSome}
 use Rattle.c_values.specs.Name.{Name}
 use Rattle.c_values.specs.Types.{Target, Ilp32, Lp64, CType, address_width}
@@ -55,10 +55,6 @@ sort_there : (b : Bool) (o : Option Sort) → IsSome (cond b None o) → IsSome 
 sort_there true o h = absurd (false≢true h)
 sort_there false o h = h
 
-both_true : (a b : Bool) → a ≡ true → b ≡ true → (a && b) ≡ true
-both_true true b e h = h
-both_true false b e h = absurd (false≢true e)
-
 -- what a part takes doesn't depend on where the object stands
 abbrev null : Target → Exp
 null t = WordLit (record { width = address_width t; bits = 0 })
@@ -91,7 +87,7 @@ module _ (u : FinalUnit) (layout : IsLayout u.layout) (bs : Bindings) (all : Are
       let f = fine_path g layout env s (environment u bs all) state.globals state.heap path (shape_of l t) q.0 q.1 in
       let at_null : fits_place (typed_place g t (null l.target) path) (program_sort g e) ≡ true =
       fits_where (is_object l t && is_word_of (address_width l.target) (program_sort g (null l.target))) (part_place g t path) (program_sort g e)
-      (both_true (is_object l t) (is_word_of (address_width l.target) (program_sort g (null l.target))) object (null_sorted g l.target)) fits in
+      (and_from (is_object l t) (is_word_of (address_width l.target) (program_sort g (null l.target))) object (null_sorted g l.target)) fits in
       record {
         leads = (shape_of l t, q.0, q.1);
         sorted = sort_there (has is_part_of_value e) (sort_of g e) b.1;

@@ -64,7 +64,3 @@ can_run u fs bs m b s out h = record { bindings = h.now.bindings; scalars = h.he
 
 pub can_turn : (u : FinalUnit) (fs : List Pending) (bs : Bindings) (t : Turns) (vs : List Value) (s : State) (out : List Scalar) → IsSorted u (record { stack = fs; now = Turning bs t vs; state = s }) out → CanTurn u bs t vs
 can_turn u fs bs t vs s out h = record { scalars = h.here; loop = h.now.0; values = h.now.1 }
-
-pub none_there : {A : Type 0} (xs : List A) → length xs ≡ 0 → xs ≡ []
-none_there [] h = refl
-none_there (x ∷ xs) h = absurd (omega arith)

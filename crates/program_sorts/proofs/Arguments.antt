@@ -1,6 +1,7 @@
 -- What a call asks, argument by argument.
 use Rattle.std.proofs.Common.{◌≡◌, Bool, true, false, ◌&&◌, List, [], ◌∷◌, map, Option, Some, None, refl, sym, length, ◌==◌, ◌∙◌, suc, eqb-true, arith}
 use Rattle.std.proofs.lemmas.Bool.{false_from_ne_true}
+use Rattle.std.proofs.Math.Bool.{and-false}
 use Rattle.expression_lang.specs.declared.signatures.Binder as B
 use Rattle.expression_lang.specs.declared.expression.Exp as R
 use Rattle.expression_lang.specs.CodeExpression.{exp_of}
@@ -11,16 +12,12 @@ use Rattle.expression_lang.specs.Signature.{kinds_of}
 use Rattle.expression_lang.specs.Sorted.{program_sort, scalar_in, with_scalar, scalars_of}
 use Rattle.program_sorts.specs.Sorts.{is_scalar_of, may_take}
 
-and_false : (b : Bool) → (b && false) ≡ false
-and_false true = refl
-and_false false = refl
-
 -- one argument more
 takes_sort : (f : Kind → Scalar) (k : Kind) (ks : List Kind) (o : Option Sort) (rest : Option (List Scalar)) →
     may_take f (k ∷ ks) (with_scalar (scalar_in o) rest) ≡ (is_scalar_of (Some (f k)) o && may_take f ks rest)
 takes_sort f k ks None rest = refl
 takes_sort f k ks (Some (PartsSort t)) rest = refl
-takes_sort f k ks (Some (Of s)) None = sym (and_false (same_scalar (f k) s))
+takes_sort f k ks (Some (Of s)) None = sym (and-false (same_scalar (f k) s))
 takes_sort f k ks (Some (Of s)) (Some ss) = refl
 
 pub takes_one : (f : Kind → Scalar) (g : Scope) (k : Kind) (ks : List Kind) (e : Exp) (es : List Exp) →

@@ -12,10 +12,6 @@ use Rattle.text_answers.proofs.OneAnswer.{one_answer}
 use Rattle.remarks.specs.Remark.{Again, IsSeen}
 use Rattle.remarks.specs.CodeRefused.{told_part, IsToldOf}
 
-pub of_result : {T E : Type 0} (r : Result T E) (P Q : T → Type 0) → ((x : T) → P x → Q x) → IfOk r P → IfOk r Q
-of_result (Ok x) P Q f h = f x h
-of_result (Err e) P Q f h = tt
-
 -- what is told of a file from where its own reading began
 module _ (held held' : Name → Option (List ℕ)) (before mid after : Name → ℕ) (same : (n : Name) → held' n ≡ held n) (grew : (n : Name) → before n ≤ mid n)
     (file : Name) (limit : ℕ) (unread long : List ℕ) (said : List ℕ → List ℕ → Type 0) (bytes : List ℕ) where

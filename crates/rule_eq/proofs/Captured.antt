@@ -1,6 +1,6 @@
 -- The test of captures tells exactly whether some name of the expression is captured.
 use Rattle.std.proofs.Common.{◌≡◌, Bool, true, false, not, ◌&&◌, ◌||◌, List, [], ◌∷◌, ◌⊎◌, inl, inr, refl, sym, ap, ◌∙◌}
-use Rattle.std.proofs.lemmas.Bool.{or_parts, or_from, true≢false}
+use Rattle.std.proofs.lemmas.Bool.{or_parts, or_from, true≢false, cases_Bool, not_from_true}
 use Rattle.c_values.specs.Name.{Name, same_name, is_among}
 use Rattle.c_values.proofs.Laid.{same_name-refl}
 use Rattle.expression_lang.specs.Expression.{Exp}
@@ -16,10 +16,6 @@ use Rattle.rule_eq.proofs.PutIn.{unnamed_apart}
 -- names of the expression
 abbrev EachName : Exp → (Name → Bool) → Type 0
 EachName e test = (y : Name) → X.names y e ≡ true → test y ≡ false
-
-two_cases : (b : Bool) → (b ≡ true) ⊎ (b ≡ false)
-two_cases true = inl refl
-two_cases false = inr refl
 
 -- if none of the names is in it, it names none
 apart_unnamed : (xs : List Name) (e : Exp) → EachName e (λ y. is_among y xs) → is_unnamed xs e ≡ true
@@ -38,9 +34,6 @@ right_none : (a b : Bool) → (a && b) ≡ false → a ≡ true → b ≡ false
 right_none true b h i = h
 right_none false b h i = absurd (true≢false (sym i))
 
-not_none : (b : Bool) → b ≡ true → not b ≡ false
-not_none b h = ap not h
-
 not_both : (a b : Bool) → (not a && b) ≡ false → b ≡ true → a ≡ true
 not_both true b h i = refl
 not_both false b h i = absurd (true≢false (sym i ∙ h))
@@ -50,7 +43,7 @@ module _ (e : Exp) (x : Name) (xs : List Name) (free inner : Bool) (captured : N
   binder_told : EachName e (λ y. not (is_among x xs) && ((is_among y xs && free) || captured y)) → (EachName e captured → inner ≡ false) → (not (is_among x xs) && ((not (is_unnamed xs e) && free) || inner)) ≡ false
   binder_told h k = and_none (not (is_among x xs)) ((not (is_unnamed xs e) && free) || inner) (λ i.
       let inside : EachName e (λ y. (is_among y xs && free) || captured y) = λ y j. right_none (not (is_among x xs)) ((is_among y xs && free) || captured y) (h y j) i in
-      or_from (not (is_unnamed xs e) && free) inner (by_free (two_cases free) inside) (k (λ y j. (or_parts (is_among y xs && free) (captured y) (inside y j)).1)))
+      or_from (not (is_unnamed xs e) && free) inner (by_free (cases_Bool free) inside) (k (λ y j. (or_parts (is_among y xs && free) (captured y) (inside y j)).1)))
     where
       and_false : (b : Bool) → (b && false) ≡ false
       and_false true = refl
@@ -61,13 +54,13 @@ module _ (e : Exp) (x : Name) (xs : List Name) (free inner : Bool) (captured : N
       left_none false b m n = refl
 
       by_free : (free ≡ true) ⊎ (free ≡ false) → EachName e (λ y. (is_among y xs && free) || captured y) → (not (is_unnamed xs e) && free) ≡ false
-      by_free (inl f) m = ap (λ b. b && free) (not_none (is_unnamed xs e) (apart_unnamed xs e (λ y j. left_none (is_among y xs) free (or_parts (is_among y xs && free) (captured y) (m y j)).0 f)))
+      by_free (inl f) m = ap (λ b. b && free) (not_from_true (is_unnamed xs e) (apart_unnamed xs e (λ y j. left_none (is_among y xs) free (or_parts (is_among y xs && free) (captured y) (m y j)).0 f)))
       by_free (inr f) m = ap (λ b. not (is_unnamed xs e) && b) f ∙ and_false (not (is_unnamed xs e))
 
   binder_tells : (not (is_among x xs) && ((not (is_unnamed xs e) && free) || inner)) ≡ false → (inner ≡ false → EachName e captured) → EachName e (λ y. not (is_among x xs) && ((is_among y xs && free) || captured y))
   binder_tells h k y j = and_none (not (is_among x xs)) ((is_among y xs && free) || captured y) (λ i.
       let o = or_parts (not (is_unnamed xs e) && free) inner (right_none (not (is_among x xs)) ((not (is_unnamed xs e) && free) || inner) h i) in
-      or_from (is_among y xs && free) (captured y) (by_free (two_cases free) o.0) (k o.1 y j))
+      or_from (is_among y xs && free) (captured y) (by_free (cases_Bool free) o.0) (k o.1 y j))
     where
       and_false : (b : Bool) → (b && false) ≡ false
       and_false true = refl

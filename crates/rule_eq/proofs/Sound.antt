@@ -55,9 +55,6 @@ use Rattle.rule_eq.proofs.SubstitutedRuns.{HeldAt, substituted_does}
 use Rattle.rule_eq.proofs.PutIn.{kept_names, unnamed_apart, is_taken, bound_none, given_back}
 use Rattle.rule_eq.proofs.Direct.{scalars_sorted, starts_are_sorted, truth_sorted, write_sorted}
 
-same_true : (b : Bool) → b ≡ true → not b ≡ false
-same_true b h = ap not h
-
 module _ (l : Layout) (laid : IsLayout l) (p : Choice) (vs : List GlobalVar) (sigs : List Signature) (P : Mon → Env → State → Type 0) (respects : Respects l P) where
   abbrev Scoped : NamesInScope → Setting
   Scoped names = setting l laid p vs sigs P respects names

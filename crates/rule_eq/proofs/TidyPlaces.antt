@@ -1,6 +1,6 @@
 -- A program is tidy exactly where no place of it is the left side of a rule that makes programs simpler.
 use Rattle.std.proofs.Common.{◌≡◌, ℕ, zero, suc, Bool, true, false, not, ◌&&◌, ◌||◌, List, [], ◌∷◌, ◌++◌, map, Option, Some, None, ◌⊎◌, inl, inr, ◌↔◌, refl, sym, ap, ap₂, ◌∙◌, subst}
-use Rattle.std.proofs.lemmas.Bool.{and_parts, and_from, or_parts, or_from, or_left, not-true, true≢false, false_from_ne_true}
+use Rattle.std.proofs.lemmas.Bool.{and_parts, and_from, or_parts, or_from, or_left, not-true, true≢false, false_from_ne_true, or_cases, or_right}
 use Rattle.c_values.specs.Name.{Name, same_name, is_among}
 use Rattle.c_values.proofs.Laid.{name_is, same_name-refl, other_name}
 use Rattle.expression_lang.specs.Expression.{Exp, Var, WordLit, NumberLit, TruthLit}
@@ -157,18 +157,10 @@ record Found (front : List Name) (es : List Exp) (xs : List Name) (n : Mon) : Ty
   pub taken : taken_at position es xs ≡ Some value
   pub put : can_be_put value.exp value.name (front ++ value.names) n ≡ true
 
-true_or : (a b : Bool) → (a || b) ≡ true → (a ≡ true) ⊎ (b ≡ true)
-true_or true b h = inl refl
-true_or false b h = inr h
-
-or_true : (a b : Bool) → b ≡ true → (a || b) ≡ true
-or_true true b h = refl
-or_true false b h = h
-
 found : (front : List Name) (es : List Exp) (xs : List Name) (n : Mon) → some_can_be_put front es xs n ≡ true →
     Found front es xs n
 found front (e ∷ es) (x ∷ xs) n h =
-    either (true_or (can_be_put e x (front ++ xs) n) (some_can_be_put (x ∷ front) es xs n) h) (λ k. found (x ∷ front) es xs n k)
+    either (or_cases (can_be_put e x (front ++ xs) n) (some_can_be_put (x ∷ front) es xs n) h) (λ k. found (x ∷ front) es xs n k)
   where
     either : (can_be_put e x (front ++ xs) n ≡ true) ⊎ (some_can_be_put (x ∷ front) es xs n ≡ true) →
         (some_can_be_put (x ∷ front) es xs n ≡ true → Found (x ∷ front) es xs n) → Found front (e ∷ es) (x ∷ xs) n
@@ -193,7 +185,7 @@ some_found front zero (e ∷ es) (x ∷ xs) n k h p =
     ap (λ b. b || some_can_be_put (x ∷ front) es xs n)
     (subst (λ q. can_be_put q.exp q.name (front ++ q.names) n ≡ true) (sym (some_taken h)) p)
 some_found front (suc i) (e ∷ es) (x ∷ xs) n k h p =
-    or_true (can_be_put e x (front ++ xs) n) (some_can_be_put (x ∷ front) es xs n)
+    or_right (can_be_put e x (front ++ xs) n) (some_can_be_put (x ∷ front) es xs n)
     (behind (taken_at i es xs) refl h (λ j f q. some_found (x ∷ front) i es xs n j f q))
   where
     behind : (o : Option Taken) → taken_at i es xs ≡ o → before e x o ≡ Some k →
@@ -247,27 +239,27 @@ module _ (at : Point) where
   seen_bind m xs n (by_bind_ret h) =
       or_left _ (is_ret_one m xs n) (or_left _ (is_true_guard m xs) (or_left _ (is_assoc m xs n) (left_back at m xs n h)))
   seen_bind m xs n (by_assoc h) =
-      or_left _ (is_ret_one m xs n) (or_left _ (is_true_guard m xs) (or_true (is_bind_ret m xs n) _ (left_assoc at m xs n h)))
+      or_left _ (is_ret_one m xs n) (or_left _ (is_true_guard m xs) (or_right (is_bind_ret m xs n) _ (left_assoc at m xs n h)))
   seen_bind m xs n (by_if_const h) = absurd h.1
   seen_bind m xs n (by_guard_known g h) =
-      or_left _ (is_ret_one m xs n) (or_true (is_bind_ret m xs n || is_assoc m xs n) _ (left_guard at m xs n g))
+      or_left _ (is_ret_one m xs n) (or_right (is_bind_ret m xs n || is_assoc m xs n) _ (left_guard at m xs n g))
   seen_bind m xs n (by_ret_one i a h) =
-      or_true ((is_bind_ret m xs n || is_assoc m xs n) || is_true_guard m xs) _ (left_ret i m xs n a h)
+      or_right ((is_bind_ret m xs n || is_assoc m xs n) || is_true_guard m xs) _ (left_ret i m xs n a h)
 
   bind_seen : (m : Mon) (xs : List Name) (n : Mon) → simple_bind m xs n ≡ true → IsSimplified at (M.Bind m xs n)
-  bind_seen m xs n h = first (true_or ((is_bind_ret m xs n || is_assoc m xs n) || is_true_guard m xs) (is_ret_one m xs n) h)
+  bind_seen m xs n h = first (or_cases ((is_bind_ret m xs n || is_assoc m xs n) || is_true_guard m xs) (is_ret_one m xs n) h)
     where
       third : (is_bind_ret m xs n ≡ true) ⊎ (is_assoc m xs n ≡ true) → IsSimplified at (M.Bind m xs n)
       third (inl k) = by_bind_ret (back_left at m xs n k)
       third (inr k) = by_assoc (assoc_left at m xs n k)
 
       second : ((is_bind_ret m xs n || is_assoc m xs n) ≡ true) ⊎ (is_true_guard m xs ≡ true) → IsSimplified at (M.Bind m xs n)
-      second (inl k) = third (true_or (is_bind_ret m xs n) (is_assoc m xs n) k)
+      second (inl k) = third (or_cases (is_bind_ret m xs n) (is_assoc m xs n) k)
       second (inr k) = let g = guard_left at m xs n k in by_guard_known g.0 g.1
 
       first : (((is_bind_ret m xs n || is_assoc m xs n) || is_true_guard m xs) ≡ true) ⊎ (is_ret_one m xs n ≡ true) →
           IsSimplified at (M.Bind m xs n)
-      first (inl k) = second (true_or (is_bind_ret m xs n || is_assoc m xs n) (is_true_guard m xs) k)
+      first (inl k) = second (or_cases (is_bind_ret m xs n || is_assoc m xs n) (is_true_guard m xs) k)
       first (inr k) = ret_left m xs n k
 
   seen_choice : (e : Exp) (m n : Mon) → IsSimplified at (M.If e m n) → is_constant_truth e ≡ true

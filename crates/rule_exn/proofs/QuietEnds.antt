@@ -1,6 +1,6 @@
 -- A quiet command ends normally whenever it ends.
 use Rattle.std.proofs.Common.{◌≡◌, ℕ, Bool, true, false, ◌||◌, List, [], ◌∷◌, Option, ◌⊎◌, inl, inr, refl, sym, subst}
-use Rattle.std.proofs.lemmas.Bool.{false≢true, and_parts}
+use Rattle.std.proofs.lemmas.Bool.{false≢true, and_parts, or_cases}
 use Rattle.correspondence.specs.Outcome.{Ends, done, fault, choose}
 use Rattle.correspondence.specs.Always.{Always}
 use Rattle.correspondence.proofs.Always.{then_always, Ended, loop_always}
@@ -27,10 +27,6 @@ choose_always P false p q h k = k
 
 fault_always : {A : Type 0} (P : A → Type 0) (k : GuardKind) → Always {A = A} P (fault k)
 fault_always P k a h = absurd h
-
-either_true : (a b : Bool) → (a || b) ≡ true → (a ≡ true) ⊎ (b ≡ true)
-either_true true b h = inl refl
-either_true false b h = inr h
 
 module _ (l : Layout) (p : Choice) (locals : List Binder) (depth : Option ℕ) where
   checked_always : {A : Type 0} (P : A → Type 0) (cs : List Condition) (m : Machine) (next : Ends A GuardKind) → Always P next → Always P (checked l cs m next)
@@ -77,7 +73,7 @@ module _ (l : Layout) (p : Choice) (locals : List Binder) (depth : Option ℕ) w
       let h = and_parts (quiet a) (quiet b) q in
       choose_always IsNormal (holds_on l m e) _ _ (quiet_ends_normally a h.0 fs m) (quiet_ends_normally b h.1 fs m)
   quiet_ends_normally (Guard c a) q fs m = choose_always IsNormal (holds_on l m c.exp) _ _ (quiet_ends_normally a q fs m) (fault_always IsNormal c.kind)
-  quiet_ends_normally (Catch a b) q fs m = catch_normal fs a b m (either_true (quiet a) (quiet b) q) (λ h. quiet_ends_normally a h fs m) (λ h. quiet_ends_normally b h fs)
+  quiet_ends_normally (Catch a b) q fs m = catch_normal fs a b m (or_cases (quiet a) (quiet b) q) (λ h. quiet_ends_normally a h fs m) (λ h. quiet_ends_normally b h fs)
   quiet_ends_normally (While cs e a) q fs m =
       loop_always IsNormal _ _ (enters_normal cs e) (λ gs n. then_always IsNormal (Ended IsNormal) _ _ (quiet_ends_normally a q gs n) turned_normal) fs m
   quiet_ends_normally (Call x f es) q fs m = then_always (λ r. Unit {0}) IsNormal _ _ (λ a h. tt) (λ r h. done_always IsNormal _ tt)

@@ -1,17 +1,12 @@
 -- An expression without a load is its own lifted one.
 use Rattle.std.proofs.Common.{◌≡◌, Bool, true, false, ◌||◌, refl, ap, ap₂, ◌∙◌}
-use Rattle.std.proofs.lemmas.Bool.{or_parts, true≢false}
+use Rattle.std.proofs.lemmas.Bool.{or_parts, true≢false, or_from}
 use Rattle.expression_lang.specs.Expression.{Exp, Var, WordLit, NumberLit, TruthLit, WordBinary, WordShift, WordUnary, WordCompare, Cast, ToNat, ToInt, ToWord, Arith, Negate, Lt, Le, Between, Eq, And, Or, Imp, Not, If, Padd, At, Load, Read, Tagged, PtrOk, Global, Sel, Upd, Path, Here, IntoField, IntoElement}
 use Rattle.expression_lang.specs.Form.{has, path_has, is_load, is_part_of_value}
 use Rattle.rule_heap.specs.ExpLifted.{exp_lifted, path_lifted}
 
 has_some : (x y : Bool) → ((true || x) || y) ≡ false → ⊥
 has_some x y h = absurd (true≢false h)
-
-pub neither : (x y : Bool) → x ≡ false → y ≡ false → (x || y) ≡ false
-neither false false h k = refl
-neither true y h k = absurd cc
-neither false true h k = absurd cc
 
 mutual
   pub exp_stays : (e : Exp) → has is_load e ≡ false → exp_lifted e ≡ e
@@ -66,39 +61,39 @@ mutual
   exp_free (WordLit x) = refl
   exp_free (NumberLit x) = refl
   exp_free (TruthLit x) = refl
-  exp_free (WordBinary op a b) = neither (has is_load (exp_lifted a)) (has is_load (exp_lifted b)) (exp_free a) (exp_free b)
-  exp_free (WordShift op a b) = neither (has is_load (exp_lifted a)) (has is_load (exp_lifted b)) (exp_free a) (exp_free b)
+  exp_free (WordBinary op a b) = or_from (has is_load (exp_lifted a)) (has is_load (exp_lifted b)) (exp_free a) (exp_free b)
+  exp_free (WordShift op a b) = or_from (has is_load (exp_lifted a)) (has is_load (exp_lifted b)) (exp_free a) (exp_free b)
   exp_free (WordUnary op a) = exp_free a
-  exp_free (WordCompare op a b) = neither (has is_load (exp_lifted a)) (has is_load (exp_lifted b)) (exp_free a) (exp_free b)
+  exp_free (WordCompare op a b) = or_from (has is_load (exp_lifted a)) (has is_load (exp_lifted b)) (exp_free a) (exp_free b)
   exp_free (Cast op n a) = exp_free a
   exp_free (ToNat a) = exp_free a
   exp_free (ToInt a) = exp_free a
   exp_free (ToWord n a) = exp_free a
-  exp_free (Arith op a b) = neither (has is_load (exp_lifted a)) (has is_load (exp_lifted b)) (exp_free a) (exp_free b)
+  exp_free (Arith op a b) = or_from (has is_load (exp_lifted a)) (has is_load (exp_lifted b)) (exp_free a) (exp_free b)
   exp_free (Negate a) = exp_free a
-  exp_free (Lt a b) = neither (has is_load (exp_lifted a)) (has is_load (exp_lifted b)) (exp_free a) (exp_free b)
-  exp_free (Le a b) = neither (has is_load (exp_lifted a)) (has is_load (exp_lifted b)) (exp_free a) (exp_free b)
+  exp_free (Lt a b) = or_from (has is_load (exp_lifted a)) (has is_load (exp_lifted b)) (exp_free a) (exp_free b)
+  exp_free (Le a b) = or_from (has is_load (exp_lifted a)) (has is_load (exp_lifted b)) (exp_free a) (exp_free b)
   exp_free (Between low a high) = exp_free a
-  exp_free (Eq a b) = neither (has is_load (exp_lifted a)) (has is_load (exp_lifted b)) (exp_free a) (exp_free b)
-  exp_free (And a b) = neither (has is_load (exp_lifted a)) (has is_load (exp_lifted b)) (exp_free a) (exp_free b)
-  exp_free (Or a b) = neither (has is_load (exp_lifted a)) (has is_load (exp_lifted b)) (exp_free a) (exp_free b)
-  exp_free (Imp a b) = neither (has is_load (exp_lifted a)) (has is_load (exp_lifted b)) (exp_free a) (exp_free b)
+  exp_free (Eq a b) = or_from (has is_load (exp_lifted a)) (has is_load (exp_lifted b)) (exp_free a) (exp_free b)
+  exp_free (And a b) = or_from (has is_load (exp_lifted a)) (has is_load (exp_lifted b)) (exp_free a) (exp_free b)
+  exp_free (Or a b) = or_from (has is_load (exp_lifted a)) (has is_load (exp_lifted b)) (exp_free a) (exp_free b)
+  exp_free (Imp a b) = or_from (has is_load (exp_lifted a)) (has is_load (exp_lifted b)) (exp_free a) (exp_free b)
   exp_free (Not a) = exp_free a
-  exp_free (If a b c) = neither ((has is_load (exp_lifted a)) || (has is_load (exp_lifted b))) (has is_load (exp_lifted c)) (neither (has is_load (exp_lifted a)) (has is_load (exp_lifted b)) (exp_free a) (exp_free b)) (exp_free c)
-  exp_free (Padd t a b) = neither (has is_load (exp_lifted a)) (has is_load (exp_lifted b)) (exp_free a) (exp_free b)
-  exp_free (At t a path) = neither (has is_load (exp_lifted a)) (path_has is_load (path_lifted path)) (exp_free a) (path_free path)
-  exp_free (Load t a path) = neither (has is_load (exp_lifted a)) (path_has is_load (path_lifted path)) (exp_free a) (path_free path)
-  exp_free (Read t a path) = neither (has is_load (exp_lifted a)) (path_has is_load (path_lifted path)) (exp_free a) (path_free path)
+  exp_free (If a b c) = or_from ((has is_load (exp_lifted a)) || (has is_load (exp_lifted b))) (has is_load (exp_lifted c)) (or_from (has is_load (exp_lifted a)) (has is_load (exp_lifted b)) (exp_free a) (exp_free b)) (exp_free c)
+  exp_free (Padd t a b) = or_from (has is_load (exp_lifted a)) (has is_load (exp_lifted b)) (exp_free a) (exp_free b)
+  exp_free (At t a path) = or_from (has is_load (exp_lifted a)) (path_has is_load (path_lifted path)) (exp_free a) (path_free path)
+  exp_free (Load t a path) = or_from (has is_load (exp_lifted a)) (path_has is_load (path_lifted path)) (exp_free a) (path_free path)
+  exp_free (Read t a path) = or_from (has is_load (exp_lifted a)) (path_has is_load (path_lifted path)) (exp_free a) (path_free path)
   exp_free (Tagged t a) = exp_free a
   exp_free (PtrOk t a) = exp_free a
   exp_free (Global x path) = path_free path
-  exp_free (Sel a path) = neither (has is_load (exp_lifted a)) (path_has is_load (path_lifted path)) (exp_free a) (path_free path)
-  exp_free (Upd a path b) = neither ((has is_load (exp_lifted a)) || (path_has is_load (path_lifted path))) (has is_load (exp_lifted b)) (neither (has is_load (exp_lifted a)) (path_has is_load (path_lifted path)) (exp_free a) (path_free path)) (exp_free b)
+  exp_free (Sel a path) = or_from (has is_load (exp_lifted a)) (path_has is_load (path_lifted path)) (exp_free a) (path_free path)
+  exp_free (Upd a path b) = or_from ((has is_load (exp_lifted a)) || (path_has is_load (path_lifted path))) (has is_load (exp_lifted b)) (or_from (has is_load (exp_lifted a)) (path_has is_load (path_lifted path)) (exp_free a) (path_free path)) (exp_free b)
 
   pub path_free : (path : Path) → path_has is_load (path_lifted path) ≡ false
   path_free Here = refl
   path_free (IntoField k path) = path_free path
-  path_free (IntoElement e path) = neither (has is_load (exp_lifted e)) (path_has is_load (path_lifted path)) (exp_free e) (path_free path)
+  path_free (IntoElement e path) = or_from (has is_load (exp_lifted e)) (path_has is_load (path_lifted path)) (exp_free e) (path_free path)
 
 -- a part of a value is in it where it was
 mutual

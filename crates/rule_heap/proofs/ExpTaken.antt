@@ -15,10 +15,6 @@ path_head_stays Here = refl
 path_head_stays (IntoField k path) = ap (λ p. IntoField k p) (path_head_stays path)
 path_head_stays (IntoElement e path) = ap (λ p. IntoElement (TruthLit false) p) (path_head_stays path)
 
-no_end : {A : Type 0} (xs : List A) → xs ++ [] ≡ xs
-no_end [] = refl
-no_end (x ∷ xs) = ap (λ ys. x ∷ ys) (no_end xs)
-
 some_child : {A : Type 0} {x : A} {xs : List A} → ◌≡◌ {A = List A} (x ∷ xs) [] → ⊥
 some_child h = absurd cc
 

@@ -1,7 +1,7 @@
 -- A lifted program is in heaps form, and gives the scalars that it gave; a lifted unit is well-formed, and the rules take the unit to
 -- it where it is ready.
 use Rattle.std.proofs.Common.{◌≡◌, Bool, true, false, cond, ◌&&◌, ◌||◌, List, [], ◌∷◌, map, Option, Some, None, refl, sym, ap, ap₂, ◌∙◌, subst}
-use Rattle.std.proofs.lemmas.Bool.{and_parts, false≢true, not_from_false}
+use Rattle.std.proofs.lemmas.Bool.{and_parts, false≢true, not_from_false, or_from}
 use Rattle.std.proofs.Math.Path.{fun_ext}
 use Rattle.c_values.specs.Name.{Name, are_distinct}
 use Rattle.c_values.specs.Types.{CType, same_type, address_width}
@@ -23,7 +23,7 @@ use Rattle.monad_lang.specs.Sorted.{Setting, setting_with, start_scalars, are_sc
 use Rattle.rule_heap.specs.ExpLifted.{exp_lifted, path_lifted}
 use Rattle.rule_heap.specs.HeapLifted.{exps_lifted, starts_lifted, place_lifted, is_pair, on_heaps, heap_tree, function_on_heaps, functions_on_heaps, unit_on_heaps, IsLiftable, AreFunctionsReady}
 use Rattle.rule_heap.specs.Units.{IsTakenWhere, AreTakenTo, IsUnitTakenTo, UnitsKeepHeaps}
-use Rattle.rule_heap.proofs.ExpForms.{neither, exp_free, path_free, path_parts_stay}
+use Rattle.rule_heap.proofs.ExpForms.{exp_free, path_free, path_parts_stay}
 use Rattle.rule_heap.proofs.ExpSorts.{along_stays, program_sort_stays}
 use Rattle.rule_heap.proofs.HeapTaken.{program_taken, starts_named}
 use Rattle.rule_heap.proofs.UnitsKeep.{units_keep_heaps}
@@ -32,15 +32,15 @@ use Rattle.rule_heap.proofs.UnitsKeep.{units_keep_heaps}
 
 exps_free : (es : List Exp) → some_has is_load (exps_lifted es) ≡ false
 exps_free [] = refl
-exps_free (e ∷ es) = neither (has is_load (exp_lifted e)) (some_has is_load (exps_lifted es)) (exp_free e) (exps_free es)
+exps_free (e ∷ es) = or_from (has is_load (exp_lifted e)) (some_has is_load (exps_lifted es)) (exp_free e) (exps_free es)
 
 starts_free : (xs : List Start) → start_has is_load (starts_lifted xs) ≡ false
 starts_free [] = refl
-starts_free (x ∷ xs) = neither (has is_load (exp_lifted x.exp)) (start_has is_load (starts_lifted xs)) (exp_free x.exp) (starts_free xs)
+starts_free (x ∷ xs) = or_from (has is_load (exp_lifted x.exp)) (start_has is_load (starts_lifted xs)) (exp_free x.exp) (starts_free xs)
 
 place_free : (place : M.Place) → (is_stored (place_lifted place) || place_has is_load (place_lifted place)) ≡ false
-place_free (M.Stored t p path) = neither (has is_load (exp_lifted p)) (path_has is_load (path_lifted path)) (exp_free p) (path_free path)
-place_free (M.Written t p path) = neither (has is_load (exp_lifted p)) (path_has is_load (path_lifted path)) (exp_free p) (path_free path)
+place_free (M.Stored t p path) = or_from (has is_load (exp_lifted p)) (path_has is_load (path_lifted path)) (exp_free p) (path_free path)
+place_free (M.Written t p path) = or_from (has is_load (exp_lifted p)) (path_has is_load (path_lifted path)) (exp_free p) (path_free path)
 place_free (M.Global x path) = path_free path
 
 one_free : (b : Bool) (m n : Mon) → program_has is_load is_stored m ≡ false → program_has is_load is_stored n ≡ false → program_has is_load is_stored (cond b m n) ≡ false
@@ -51,16 +51,16 @@ program_free : (m : Mon) → program_has is_load is_stored (on_heaps m) ≡ fals
 program_free (M.Ret es) = exps_free es
 program_free (M.Bind m xs n) =
     one_free (is_pair m xs n) (on_heaps n) (M.Bind (on_heaps m) xs (on_heaps n)) (program_free n)
-    (neither (program_has is_load is_stored (on_heaps m)) (program_has is_load is_stored (on_heaps n)) (program_free m) (program_free n))
+    (or_from (program_has is_load is_stored (on_heaps m)) (program_has is_load is_stored (on_heaps n)) (program_free m) (program_free n))
 program_free (M.Guard e) = exp_free e
 program_free (M.If e m n) =
-    neither (has is_load (exp_lifted e) || program_has is_load is_stored (on_heaps m)) (program_has is_load is_stored (on_heaps n))
-    (neither (has is_load (exp_lifted e)) (program_has is_load is_stored (on_heaps m)) (exp_free e) (program_free m)) (program_free n)
-program_free (M.Write place e) = neither (is_stored (place_lifted place) || place_has is_load (place_lifted place)) (has is_load (exp_lifted e)) (place_free place) (exp_free e)
+    or_from (has is_load (exp_lifted e) || program_has is_load is_stored (on_heaps m)) (program_has is_load is_stored (on_heaps n))
+    (or_from (has is_load (exp_lifted e)) (program_has is_load is_stored (on_heaps m)) (exp_free e) (program_free m)) (program_free n)
+program_free (M.Write place e) = or_from (is_stored (place_lifted place) || place_has is_load (place_lifted place)) (has is_load (exp_lifted e)) (place_free place) (exp_free e)
 program_free (M.Loop starts g t m) =
-    neither (start_has is_load (starts_lifted starts) || has is_load (exp_lifted g) || has is_load (exp_lifted t)) (program_has is_load is_stored (on_heaps m))
-    (neither (start_has is_load (starts_lifted starts) || has is_load (exp_lifted g)) (has is_load (exp_lifted t))
-    (neither (start_has is_load (starts_lifted starts)) (has is_load (exp_lifted g)) (starts_free starts) (exp_free g)) (exp_free t)) (program_free m)
+    or_from (start_has is_load (starts_lifted starts) || has is_load (exp_lifted g) || has is_load (exp_lifted t)) (program_has is_load is_stored (on_heaps m))
+    (or_from (start_has is_load (starts_lifted starts) || has is_load (exp_lifted g)) (has is_load (exp_lifted t))
+    (or_from (start_has is_load (starts_lifted starts)) (has is_load (exp_lifted g)) (starts_free starts) (exp_free g)) (exp_free t)) (program_free m)
 program_free (M.Call f es) = exps_free es
 program_free (M.Pick k) = refl
 

@@ -2,6 +2,7 @@
 -- the left side on its own. One lemma for each row.
 use Rattle.std.proofs.Common.{◌≡◌, ℕ, suc, Bool, true, false, not, ◌&&◌, ◌||◌, List, [], ◌∷◌, length, refl, sym, ap, ap₂, ◌∙◌, subst}
 use Rattle.std.proofs.lemmas.Bool.{not_from_false}
+use Rattle.std.proofs.Math.Nat.{suc_inj}
 use Rattle.c_values.specs.Types.{CType}
 use Rattle.c_values.specs.Value.{Value, Truth, word_in, truth_in}
 use Rattle.c_values.specs.Layout.{Layout, IsLayout, shape_of}
@@ -28,9 +29,6 @@ use Rattle.rule_heap.proofs.InRange.{Leads, leads_there}
 pub covered_ok : (l : Layout) (s : State) (t : CType) (a : ℕ) → IsLayout l → AreTags l (heap_tags s.heap) → is_tagged l s.heap t a ≡ true → is_pointer_ok l t a ≡ true
 covered_ok l s t a h placed covered =
     let u = covered_tag l (heap_tags s.heap) t a covered in root_pointer_ok l h u.0 t a u.2 (tag_among l (heap_tags s.heap) u.0 placed u.1) u.3
-
-one_less : {m n : ℕ} → suc m ≡ suc n → m ≡ n
-one_less h = cc
 
 no_more : {n : ℕ} → suc n ≡ 0 → ⊥
 no_more h = absurd cc
@@ -129,7 +127,7 @@ module _ (l : Layout) (laid : IsLayout l) (alike : State → State → Type 0) (
     pub each_same : (fs : List Fact) (as' bs : List Exp) → length bs ≡ length as' → AllHold P (each fs as' bs) → (env : Env) (s s' : State) → alike s s' → AllSay l env s' fs →
         SameValues l env env s s' as' bs
     each_same fs [] [] n h env s s' near said = refl
-    each_same fs (a ∷ as') (b ∷ bs) n h env s s' near said = ap₂ (λ v vs. v ∷ vs) (of_exp fs a b h.0 env s s' near said) (each_same fs as' bs (one_less n) h.1 env s s' near said)
+    each_same fs (a ∷ as') (b ∷ bs) n h env s s' near said = ap₂ (λ v vs. v ∷ vs) (of_exp fs a b h.0 env s s' near said) (each_same fs as' bs (suc_inj n) h.1 env s s' near said)
     each_same fs [] (b ∷ bs) n h env s s' near said = absurd (no_more n)
     each_same fs (a ∷ as') [] n h env s s' near said = absurd (no_more (sym n))
 

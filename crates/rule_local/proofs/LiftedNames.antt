@@ -1,6 +1,7 @@
 -- What a lifted program looks at is named by the command, or is an output.
 use Rattle.std.proofs.Common.{◌≡◌, Bool, true, false, not, cond, ◌&&◌, ◌||◌, List, [], ◌∷◌, length, suc, Some, None, ◌⊎◌, inl, inr, sym, ◌∙◌}
 use Rattle.std.proofs.lemmas.Bool.{false≢true, and_parts, or_cases, or_left, or_right}
+use Rattle.std.specs.Cmp.{second_so}
 use Rattle.c_values.specs.Name.{Name, same_name, is_among}
 use Rattle.expression_lang.specs.Expression.{Exp, Var}
 use Rattle.expression_lang.specs.Mentions.{names}
@@ -22,9 +23,6 @@ either {P} p q h j k = of (or_cases p q h)
     of : (p ≡ true) ⊎ (q ≡ true) → P
     of (inl e) = j e
     of (inr e) = k e
-
-pub last_of : (p q : Bool) → (p && q) ≡ true → q ≡ true
-last_of p q h = (and_parts p q h).1
 
 pub assigned_named : (y : Name) (a : Simpl) → assigns y a ≡ true → command_names y a ≡ true
 assigned_named y Skip h = absurd (false≢true h)
@@ -108,7 +106,7 @@ module _ (y : Name) where
   lifted_names bs (Set x e) vs h = set_known x e vs (is_among x vs) h
   lifted_names bs (SetGlobal x path e) vs h = either (path_names y path || names y e) (is_in_some y (vars vs)) h inl (output vs)
   lifted_names bs (Store t p path e) vs h = either (names y p || path_names y path || names y e) (is_in_some y (vars vs)) h inl (output vs)
-  lifted_names bs (Pick x) vs h = output vs (last_of (not (is_among y (x ∷ []))) (is_in_some y (vars vs)) h)
+  lifted_names bs (Pick x) vs h = output vs (second_so (not (is_among y (x ∷ []))) (is_in_some y (vars vs)) h)
   lifted_names bs (Seq a b) vs h =
       let second = (lifted bs b vs).right in
       let us = chosen (λ z. assigns z a && is_free z second) (names_of bs) in
@@ -116,7 +114,7 @@ module _ (y : Name) where
       (λ k. into (or_left (command_names y a) (command_names y b))
       (λ j. inl (or_left (command_names y a) (command_names y b)
       (assigned_named y a (and_parts (assigns y a) (is_free y second) (chosen_passes (λ z. assigns z a && is_free z second) y (names_of bs) j).0).0))) (lifted_names bs a us k))
-      (λ k. into (or_right (command_names y a) (command_names y b)) (λ j. inr j) (lifted_names bs b vs (last_of (not (is_among y us)) (is_free y second) k)))
+      (λ k. into (or_right (command_names y a) (command_names y b)) (λ j. inr j) (lifted_names bs b vs (second_so (not (is_among y us)) (is_free y second) k)))
   lifted_names bs (Cond e a b) vs h =
       either (names y e || is_free y (lifted bs a vs).right) (is_free y (lifted bs b vs).right) h
       (λ k. either (names y e) (is_free y (lifted bs a vs).right) k (λ j. inl (or_left (names y e || command_names y a) (command_names y b) (or_left (names y e) (command_names y a) j)))
@@ -133,11 +131,11 @@ module _ (y : Name) where
       let test = or_left (conditions_name y cs || names y e) (command_names y a) in
       either (is_in_start y (as_starts us) || (not (is_among y (start_names (as_starts us))) && (names y (conj cs) || names y e || is_free y m))) (not (is_among y us) && is_in_some y (vars vs)) h
       (λ k. either (is_in_start y (as_starts us)) (not (is_among y (start_names (as_starts us))) && (names y (conj cs) || names y e || is_free y m)) k (λ j. own (start_known us j))
-      (λ j. either (names y (conj cs) || names y e) (is_free y m) (last_of (not (is_among y (start_names (as_starts us)))) (names y (conj cs) || names y e || is_free y m) j)
+      (λ j. either (names y (conj cs) || names y e) (is_free y m) (second_so (not (is_among y (start_names (as_starts us)))) (names y (conj cs) || names y e || is_free y m) j)
       (λ i. inl (test (either (names y (conj cs)) (names y e) i (λ t. or_left (conditions_name y cs) (names y e) (conj_names cs t)) (or_right (conditions_name y cs) (names y e)))))
       (λ i. into of_body own (lifted_names bs a us i))))
-      (λ k. output vs (last_of (not (is_among y us)) (is_in_some y (vars vs)) k))
+      (λ k. output vs (second_so (not (is_among y us)) (is_in_some y (vars vs)) k))
   lifted_names bs (Call (Some x) f es) vs h =
       either (is_in_some y es) (not (is_among y (x ∷ [])) && is_in_some y (vars vs)) h (λ k. inl (or_right (same_name y x) (some_names y es) (some_same es k)))
-      (λ k. output vs (last_of (not (is_among y (x ∷ []))) (is_in_some y (vars vs)) k))
+      (λ k. output vs (second_so (not (is_among y (x ∷ []))) (is_in_some y (vars vs)) k))
   lifted_names bs (Call None f es) vs h = either (is_in_some y es) (is_in_some y (vars vs)) h (λ k. inl (some_same es k)) (output vs)

@@ -1,6 +1,7 @@
 -- What the body of a function is lifted to is accepted, from a function's start.
 use Rattle.std.proofs.Common.{◌≡◌, true, false, not, ◌&&◌, ◌||◌, List, [], ◌∷◌, Some, None, ◌⊎◌, inl, inr, refl, sym, subst, ap, ◌∙◌}
 use Rattle.std.proofs.lemmas.Bool.{false≢true, and_parts, and_from, or_left, or_right, not-true, not_from_false, cases_Bool}
+use Rattle.std.specs.Cmp.{second_so}
 use Rattle.c_values.specs.Name.{Name, same_name, is_among}
 use Rattle.c_values.proofs.Laid.{same_name-refl}
 use Rattle.expression_lang.specs.Expression.{Exp}
@@ -21,7 +22,7 @@ use Rattle.rule_local.specs.Table.{zero_exp, zero_first, zeros, AllFreeAmong, ro
 use Rattle.rule_local.specs.Lifted.{Lifted, chosen, zeros_there, lifted, begun, locals_lifted}
 use Rattle.rule_local.proofs.HandedOn.{among_chosen, chosen_passes}
 use Rattle.rule_local.proofs.LiftedTaken.{local_kind, lifted_taken}
-use Rattle.rule_local.proofs.LiftedNames.{assigned_named, either, last_of, lifted_names}
+use Rattle.rule_local.proofs.LiftedNames.{assigned_named, either, lifted_names}
 
 module _ (ctx : Context) where
   -- a part whose free names are parameters is a whole body
@@ -98,7 +99,7 @@ locals_lifted_taken ctx a vs flat own outputs =
     begun_taken ctx a vs (lifted ctx.locals a vs) (lifted_taken ctx a flat (λ y h. own y (assigned_named y a h)) vs)
     (chosen (λ y. is_free y (lifted ctx.locals a vs).right && not (is_among y ctx.parameters)) (names_of ctx.locals))
     (λ y h. let p = chosen_passes (λ z. is_free z (lifted ctx.locals a vs).right && not (is_among z ctx.parameters)) y (names_of ctx.locals) h in
-    (not-true (is_among y ctx.parameters) (last_of (is_free y (lifted ctx.locals a vs).right) (not (is_among y ctx.parameters)) p.0), p.1))
+    (not-true (is_among y ctx.parameters) (second_so (is_free y (lifted ctx.locals a vs).right) (not (is_among y ctx.parameters)) p.0), p.1))
     (λ y f n. by_test y f n (cases_Bool (is_among y ctx.parameters)))
   where
     known : (y : Name) → (command_names y a ≡ true) ⊎ (is_among y vs ≡ true) → is_among y (names_of ctx.locals) ≡ true

@@ -35,10 +35,6 @@ marked_and a b i = ap is_one (bit_at_and a b i) ∙ one_of_min (bit_at a i) (bit
 pub marked_but : (a b i : ℕ) → b < 2 ^ 64 → i < 64 → is_marked (bit_and (bit_not w64 b) a) i ≡ (not (is_marked b i) && is_marked a i)
 marked_but a b i h k = marked_and (bit_not w64 b) a i ∙ ap (λ t. t && is_marked a i) (ap is_one (bit_at_not w64 b i h k) ∙ one_of_not (bit_at b i) (bit_at-lt b i))
 
-pub or_all : (a : Bool) → (a || true) ≡ true
-or_all true = refl
-or_all false = refl
-
 pub marked_with : (n k : ℕ) → k < 64 → is_marked (bit_or n (1 * 2 ^ k % 2 ^ 64)) k ≡ true
 marked_with n k h = ap is_one (bit_at_set_same w64 n k h)
 

@@ -1,5 +1,6 @@
 -- What becomes of a name in parts that are passed one by one is what becomes of it in the whole.
 use Rattle.std.proofs.Common.{◌≡◌, Bool, true, false, not, ◌&&◌, ◌||◌, List, refl, sym, ap, ap₂, ◌∙◌}
+use Rattle.std.proofs.Math.Bool.{or-false, or-true}
 use Rattle.c_values.specs.Name.{Name, is_among}
 use Rattle.expression_lang.specs.Expression.{Exp}
 use Rattle.expression_lang.specs.Mentions.{names}
@@ -42,26 +43,18 @@ beside_then p y e e' a b m n vs = same_made _ _ _ _ _ _
     (either p.uses.assigned (uses y a m vs).assigned (uses y b n vs).assigned)
     (free_beside p.uses.free p.hidden (names y e' || is_free y m) (is_free y n))
 
-or_none : (a : Bool) → (a || false) ≡ a
-or_none true = refl
-or_none false = refl
-
-or_all : (a : Bool) → (a || true) ≡ true
-or_all true = refl
-or_all false = refl
-
 lost_after : (l pl r d pa h pf rf : Bool) → ((l || pl || (d && pf)) || r || (not h && (d || pa) && rf)) ≡ (l || (pl || r || (not h && pa && rf)) || (d && (pf || (not h && rf))))
 lost_after true pl r d pa h pf rf = refl
 lost_after false true r d pa h pf rf = refl
 lost_after false false true false pa h pf rf = refl
 lost_after false false true true pa h true rf = refl
 lost_after false false true true pa h false rf = refl
-lost_after false false false true pa h true rf = sym (or_all (not h && pa && rf))
+lost_after false false false true pa h true rf = sym (or-true (not h && pa && rf))
 lost_after false false false true pa true false rf = refl
 lost_after false false false true false false false rf = refl
 lost_after false false false true true false false true = refl
 lost_after false false false true true false false false = refl
-lost_after false false false false pa h pf rf = sym (or_none (not h && pa && rf))
+lost_after false false false false pa h pf rf = sym (or-false (not h && pa && rf))
 
 free_after : (f hidden h pf rf : Bool) → ((f || (not hidden && pf)) || (not (hidden || h) && rf)) ≡ (f || (not hidden && (pf || (not h && rf))))
 free_after true hidden h pf rf = refl

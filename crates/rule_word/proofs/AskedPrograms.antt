@@ -1,6 +1,7 @@
 -- What lists show whose lengths or first members are looked at.
 use Rattle.std.proofs.Common.{◌≡◌, ◌↔◌, ◌==◌, ℕ, suc, true, List, [], ◌∷◌, map, length, Option, Some, None, refl, sym, ap, ap₂, ◌∙◌, eqb-true, arith, IsTrue}
 use Rattle.std.proofs.lemmas.Bool.Decides.{Decides-eqb}
+use Rattle.std.proofs.Math.Nat.{suc_inj}
 use Rattle.c_values.specs.Name.{Name}
 use Rattle.expression_lang.specs.Signature.{Binder, kinds_of}
 use Rattle.monad_lang.specs.Program.{Start}
@@ -9,13 +10,10 @@ use Rattle.expression_lang.specs.Sort.{Kind}
 use Rattle.rule_word.specs.Table.{AreMatched, recast, recasts, recast_first}
 use Rattle.rule_parts.specs.Starts.{start_exps}
 
-suc_is : {m n : ℕ} → suc m ≡ suc n → m ≡ n
-suc_is h = omega arith
-
 pub matched_lengths : {A B C : Type 0} (xs : List A) (ys : List B) (zs : List C) → ((length xs ≡ length ys) × (length zs ≡ length ys)) ↔ AreMatched xs ys zs
 matched_lengths [] [] [] = ((λ h. tt), (λ h. (refl, refl)))
 matched_lengths (x ∷ xs) (y ∷ ys) (z ∷ zs) =
-    let r = matched_lengths xs ys zs in ((λ h. r.0 (suc_is h.0, suc_is h.1)), (λ h. (ap suc (r.1 h).0, ap suc (r.1 h).1)))
+    let r = matched_lengths xs ys zs in ((λ h. r.0 (suc_inj h.0, suc_inj h.1)), (λ h. (ap suc (r.1 h).0, ap suc (r.1 h).1)))
 matched_lengths [] (y ∷ ys) zs = ((λ h. absurd (never (length ys) h.0)), (λ h. absurd h))
   where
     never : (n : ℕ) → 0 ≡ suc n → ⊥

@@ -1,13 +1,10 @@
 -- The range of an operation at its base is known.
 use Rattle.std.proofs.Common.{◌≡◌, ℕ, Bool, true, false, cond, ◌||◌, List, [], ◌∷◌, ◌++◌, Option, Some, None, ◌⊎◌, inl, inr, refl, sym, subst, ap, ◌∙◌}
+use Rattle.std.proofs.lemmas.Bool.{or_cases}
 use Rattle.expression_lang.specs.Expression.{Exp, NumberLit, TruthLit, Le, Between, And, Imp}
 use Rattle.ac_expr.specs.Fact.{Fact, Whole, stands_for}
 use Rattle.ac_expr.specs.Known.{IsKnown, Gives, GivesAtOnce, SomeFact}
 use Rattle.rule_word.specs.Bases.{Surroundings, known_there, Base, Words, Naturals, Integers, natural_range, integer_range, gives_at_once, some_gives, or_else, range_given, first_range, oldest_range, or_words, base_in, signed_or_words, signed_base_in}
-
-either : (a b : Bool) → (a || b) ≡ true → (a ≡ true) ⊎ (b ≡ true)
-either true b h = inl refl
-either false b h = inr h
 
 module _ (same : Exp → Exp → Bool) (is_same : (a b : Exp) → same a b ≡ true → a ≡ b) where
   itself : (fact e : Exp) → same fact e ≡ true → GivesAtOnce fact fact → GivesAtOnce fact e
@@ -15,16 +12,16 @@ module _ (same : Exp → Exp → Bool) (is_same : (a b : Exp) → same a b ≡ t
 
   at_once : (fact e : Exp) → gives_at_once same fact e ≡ true → GivesAtOnce fact e
   at_once (And a b) e h =
-      elim (either (same (And a b) e || gives_at_once same a e) (gives_at_once same b e) h) [
-        | inl x ↦ elim (either (same (And a b) e) (gives_at_once same a e) x) [
+      elim (or_cases (same (And a b) e || gives_at_once same a e) (gives_at_once same b e) h) [
+        | inl x ↦ elim (or_cases (same (And a b) e) (gives_at_once same a e) x) [
           | inl y ↦ inl (sym (is_same (And a b) e y))
           | inr y ↦ inr (inl (at_once a e y))
         ]
         | inr x ↦ inr (inr (at_once b e x))
       ]
   at_once (Between low x high) e h =
-      elim (either (same (Between low x high) e || same (Le (NumberLit low) x) e) (same (Le x (NumberLit high)) e) h) [
-        | inl z ↦ elim (either (same (Between low x high) e) (same (Le (NumberLit low) x) e) z) [
+      elim (or_cases (same (Between low x high) e || same (Le (NumberLit low) x) e) (same (Le x (NumberLit high)) e) h) [
+        | inl z ↦ elim (or_cases (same (Between low x high) e) (same (Le (NumberLit low) x) e) z) [
           | inl y ↦ inl (sym (is_same (Between low x high) e y))
           | inr y ↦ inr (inl (sym (is_same (Le (NumberLit low) x) e y)))
         ]
@@ -34,7 +31,7 @@ module _ (same : Exp → Exp → Bool) (is_same : (a b : Exp) → same a b ≡ t
 
   some_at_once : (fs : List Fact) (e : Exp) → some_gives same fs e ≡ true → SomeFact (λ fact. GivesAtOnce fact e) fs
   some_at_once (f ∷ fs) e h =
-      elim (either (gives_at_once same (stands_for f) e) (some_gives same fs e) h) [
+      elim (or_cases (gives_at_once same (stands_for f) e) (some_gives same fs e) h) [
         | inl x ↦ inl (at_once (stands_for f) e x)
         | inr x ↦ inr (some_at_once fs e x)
       ]

@@ -1,6 +1,6 @@
 -- Values that are bound at some kinds, at other kinds of the same words.
 use Rattle.std.proofs.Common.{◌≡◌, ℕ, ◌==◌, Bool, true, false, cond, not, List, [], ◌∷◌, map, Option, Some, None, refl, sym, ap, ap₂, ◌∙◌}
-use Rattle.std.proofs.lemmas.Bool.{and_parts, or_parts, cond-true, cond-false, eqb-true}
+use Rattle.std.proofs.lemmas.Bool.{and_parts, or_parts, cond-true, cond-false, eqb-true, not-true}
 use Rattle.c_values.specs.Name.{Name, same_name, with_name, is_among, are_distinct}
 use Rattle.c_values.specs.Word.{IsWord, word, unsigned, signed}
 use Rattle.c_values.specs.Value.{Value, Bits, Number, Truth, Parts, word_in, number_in}
@@ -106,15 +106,11 @@ stays y (x ∷ xs) (v ∷ vs) env h =
     let d = or_parts (same_name y x) (is_among y xs) h in
     stays y xs vs (with_name x v env) d.1 ∙ cond-false (same_name x y) v (env y) (other_name y x d.0)
 
-pub not_there : (b : Bool) → not b ≡ true → b ≡ false
-not_there false h = refl
-not_there true h = absurd cc
-
 bound_holds : (ys : List Name) (js : List Kind) (us : List Value) (env : Env) → are_distinct ys ≡ true → Holds (bound ys (views_at js us) env) ys js us
 bound_holds [] [] [] env h = tt
 bound_holds (y ∷ ys) (j ∷ js) (u ∷ us) env h =
     let d = and_parts (not (is_among y ys)) (are_distinct ys) h in (
-      stays y ys (views_at js us) (with_name y (view_at j u) env) (not_there (is_among y ys) d.0) ∙ cond-true (same_name y y) (view_at j u) (env y) (same_name-refl y),
+      stays y ys (views_at js us) (with_name y (view_at j u) env) (not-true (is_among y ys) d.0) ∙ cond-true (same_name y y) (view_at j u) (env y) (same_name-refl y),
       bound_holds ys js us (with_name y (view_at j u) env) d.1,
     )
 bound_holds _ _ _ env h = tt

@@ -1,6 +1,6 @@
 -- What the rules take a well-sorted program to is well-sorted: it gives what stands for words at the kinds.
 use Rattle.std.proofs.Common.{◌≡◌, ◌==◌, ℕ, suc, Bool, true, false, not, ◌&&◌, List, [], ◌∷◌, ◌++◌, length, map, Option, Some, None, refl, sym, subst, ap, ap₂, ◌∙◌}
-use Rattle.std.proofs.lemmas.Bool.{and_parts, and_from, or_parts, cond-true, cond-false}
+use Rattle.std.proofs.lemmas.Bool.{and_parts, and_from, or_parts, cond-true, cond-false, not-true}
 use Rattle.std.proofs.lemmas.Bool.Decides.{Decides-eqb}
 use Rattle.c_values.specs.Name.{Name, same_name, with_name, is_among, are_distinct}
 use Rattle.c_values.specs.Layout.{IsLayout, global_type}
@@ -33,7 +33,7 @@ use Rattle.program_facts.proofs.PlacesAgree.{place_as_many}
 use Rattle.rule_word.proofs.ProgramSorts.{some_is, then_inv, fits_inv, are_inv, scalar_first, scalar_there, fits_there, call_inv}
 use Rattle.rule_word.proofs.ProgramsGive.{Gives, GivesThere, claim_gives, starts_given}
 use Rattle.rule_word.proofs.ProgramWidths.{AllWide, WideNames, WideCalls, wide_after, given_wide}
-use Rattle.rule_word.proofs.Recasts.{same_widths, first_inv, not_there, recast_sorts}
+use Rattle.rule_word.proofs.Recasts.{same_widths, first_inv, recast_sorts}
 use Rattle.rule_word.proofs.RightSorted.{HasWidths, sort_given, There, SortedThere, claim_sorted, given_kind}
 use Rattle.rule_word.proofs.ScopesAfter.{names_after, setting_after}
 use Rattle.rule_word.proofs.SoundExpressions.{one_less}
@@ -79,7 +79,7 @@ stays y (x ∷ xs) (s ∷ ss) names h =
 are_named : (ys : List Name) (js : List Kind) (names : Name → Option Scalar) → are_distinct ys ≡ true → AreNamed (names_with ys (map sort_of_kind js) names) ys js
 are_named (y ∷ ys) (j ∷ js) names h =
     let d = and_parts (not (is_among y ys)) (are_distinct ys) h in (
-      stays y ys (map sort_of_kind js) (with_name y (Some (sort_of_kind j)) names) (not_there (is_among y ys) d.0) ∙ cond-true (same_name y y) (Some (sort_of_kind j)) (names y) (same_name-refl y),
+      stays y ys (map sort_of_kind js) (with_name y (Some (sort_of_kind j)) names) (not-true (is_among y ys) d.0) ∙ cond-true (same_name y y) (Some (sort_of_kind j)) (names y) (same_name-refl y),
       are_named ys js (with_name y (Some (sort_of_kind j)) names) d.1,
     )
 are_named [] js names h = tt

@@ -3,15 +3,10 @@ use Rattle.std.proofs.Common.{◌≡◌, ℕ, Bool, true, false, ◌==◌, ℤ, 
 use Rattle.std.proofs.lemmas.Bool.{eqb-true, and_parts, and_from}
 use Rattle.std.proofs.lemmas.Bool.Decides.{Decides-int_eq, Decides-eqb}
 use Rattle.std.specs.Ordering.{int_eq}
+use Rattle.std.specs.Cmp.{both_ways}
 use Rattle.c_values.specs.Word.{Word, IsWord, unsigned, signed, word}
 use Rattle.c_values.specs.Value.{Bits, same_value}
 use Rattle.c_values.proofs.WordValues.{word-signed, word-unsigned}
-
--- two tests are alike where each follows from the other
-pub alike : (p q : Bool) → (p ≡ true → q ≡ true) → (q ≡ true → p ≡ true) → p ≡ q
-alike true q h k = sym (h refl)
-alike false true h k = k refl
-alike false false h k = refl
 
 int_same : (a b : ℤ) → int_eq a b ≡ true → a ≡ b
 int_same a b h = (Decides-int_eq a b).0 h
@@ -28,11 +23,11 @@ same_refl : (a b : Word) → a ≡ b → same_value (Bits a) (Bits b) ≡ true
 same_refl a b h = and_from (a.width == b.width) (a.bits == b.bits) ((Decides-eqb a.width b.width).1 (ap (λ w. w.width) h)) ((Decides-eqb a.bits b.bits).1 (ap (λ w. w.bits) h))
 
 pub unsigned_same : (n : ℕ) (a b : Word) → IsWord n a → IsWord n b → int_eq (unsigned a) (unsigned b) ≡ same_value (Bits a) (Bits b)
-unsigned_same n a b h k = alike (int_eq (unsigned a) (unsigned b)) (same_value (Bits a) (Bits b))
+unsigned_same n a b h k = both_ways (int_eq (unsigned a) (unsigned b)) (same_value (Bits a) (Bits b))
     (λ e. same_refl a b (sym (word-unsigned n a h) ∙ ap (word n) (int_same (unsigned a) (unsigned b) e) ∙ word-unsigned n b k))
     (λ e. int_refl (unsigned a) (unsigned b) (ap unsigned (same_is a b e)))
 
 pub signed_same : (n : ℕ) (a b : Word) → IsWord n a → IsWord n b → int_eq (signed a) (signed b) ≡ same_value (Bits a) (Bits b)
-signed_same n a b h k = alike (int_eq (signed a) (signed b)) (same_value (Bits a) (Bits b))
+signed_same n a b h k = both_ways (int_eq (signed a) (signed b)) (same_value (Bits a) (Bits b))
     (λ e. same_refl a b (sym (word-signed n a h) ∙ ap (word n) (int_same (signed a) (signed b) e) ∙ word-signed n b k))
     (λ e. int_refl (signed a) (signed b) (ap signed (same_is a b e)))

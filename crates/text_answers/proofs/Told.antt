@@ -35,8 +35,3 @@ module _ (t : Target) (of_unit : TypedUnit → Status → List ℕ → Type 0) w
   refused_answer ts (parse.Limit limit at) status lines f a =
       subst (λ s. IsTokensAnswer t of_unit ts s lines) (sym a.0) (inl (record { limit = limit; at = at; passes = f; written = a.1 }))
   refused_answer ts parse.Memory status lines f a = absurd a
-
--- what is true of a result and gives something more
-pub of_result : {T E : Type 0} (r : Result T E) (P Q : T → Type 0) → ((x : T) → P x → Q x) → IfOk r P → IfOk r Q
-of_result (Ok x) P Q f h = f x h
-of_result (Err e) P Q f h = tt

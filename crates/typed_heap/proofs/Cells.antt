@@ -3,6 +3,7 @@ use Rattle.std.proofs.Common.{◌≡◌, ℕ, ◌+◌, ◌<◌, ◌%◌, List, [
 use Rattle.std.proofs.Math.Nat.{mod-mod}
 use Rattle.std.proofs.lemmas.Option.{slice_get-map, slice_get-get_or}
 use Rattle.std.specs.Option.{option_map}
+use Rattle.std.proofs.lemmas.List.{map_push}
 use Rattle.c_values.specs.declared.types.CType as C
 use Rattle.c_memory.specs.CodeTag.{tag_of}
 use Rattle.c_values.specs.declared.values.Value as V
@@ -25,10 +26,6 @@ cells_push (u ∷ us) (w ∷ ws) t v e = ap (λ cs. record { tag = u; value = va
 
 abbrev pub cell_of : Layout → (ℕ → ℕ) → Tag → Cell
 cell_of l bytes t = record { tag = t; value = load (space l) bytes (shape_of l t.type) t.address }
-
-map_push : {A B : Type 0} (f : A → B) (xs : List A) (x : A) → map f (xs ++ x ∷ []) ≡ map f xs ++ f x ∷ []
-map_push f [] x = refl
-map_push f (y ∷ ys) x = ap (λ zs. f y ∷ zs) (map_push f ys x)
 
 pub cell_made : (l : Layout) (bytes : ℕ → ℕ) (ts : List Tag) (vs : List V.Value) (t : Tag) (v : V.Value) → length vs ≡ length ts → cells_from ts vs ≡ map (cell_of l bytes) ts →
     value_of v ≡ load (space l) bytes (shape_of l t.type) t.address → cells_from (ts ++ t ∷ []) (vs ++ v ∷ []) ≡ map (cell_of l bytes) (ts ++ t ∷ [])

@@ -1,7 +1,7 @@
 -- Values of integer types: those of constants, and those that a conversion gives.
 use Rattle.std.proofs.Common.{◌≡◌, ℕ, ◌-◌, ◌^◌, ◌%◌, ◌<◌, ◌≤◌, Bool, true, false, cond, leb, ℤ, pos, negsuc, arith}
 use Rattle.std.proofs.lemmas.Int.{ints}
-use Rattle.std.proofs.lemmas.Nat.{pow_pos}
+use Rattle.std.proofs.lemmas.Nat.{pow_pos, mod_below}
 use Rattle.c_values.specs.Types.{Target, Ilp32, Lp64, IntType, Char, SChar, UChar, Short, UShort, Int, UInt, Long, ULong, LLong, ULLong, Integer, size_type, width_of, is_signed}
 use Rattle.c_values.specs.Number.{is_of_type, is_between, least, greatest}
 use Rattle.c_values.specs.Layout.{Layout, largest_size}
@@ -16,14 +16,11 @@ pub size_fits : (t : Target) (n : ℕ) → leb n largest_size ≡ true → is_of
 size_fits Ilp32 n h = grind arith
 size_fits Lp64 n h = grind arith
 
-rest_below : (a d : ℕ) → 0 < d → a % d < d
-rest_below a d h = grind arith
-
 rest_below_less : (a d : ℕ) → 0 < d → d - 1 - a % d < d
 rest_below_less a d h = omega arith
 
 bits_fit : (width : ℕ) (n : ℤ) → (word width n).bits < 2 ^ width
-bits_fit width (pos a) = rest_below a (2 ^ width) (pow_pos width)
+bits_fit width (pos a) = mod_below a (2 ^ width) (pow_pos width)
 bits_fit width (negsuc a) = rest_below_less a (2 ^ width) (pow_pos width)
 
 signed_fits : (width bits : ℕ) (n : ℤ) → 1 ≤ width → IsSigned width bits n → is_between (least true width) n (greatest true width) ≡ true

@@ -6,18 +6,13 @@ use Rattle.std.proofs.lemmas.List.Folds.{list_any-append}
 use Rattle.std.specs.List.{list_any}
 use Rattle.std.specs.HashSet.{contains}
 use Rattle.std.specs.Ordering.{int_eq}
+use Rattle.std.proofs.Math.Bool.{or_comm}
 use Rattle.typing_statements.specs.CodeKeys.{Keys, Finds, Notes, key_eq, key_of}
-
-or_swapped : (a b : Bool) → (a || b) ≡ (b || a)
-or_swapped true true = refl
-or_swapped true false = refl
-or_swapped false true = refl
-or_swapped false false = refl
 
 -- with more numbers
 pub finds_more : (old new : Keys) (ns more : List ℤ) → Finds old ns → Notes more old new → Finds new (ns ++ more)
 finds_more old new ns more h notes = λ n.
-    notes n ∙ ap (λ b. list_any (int_eq n) more || b) (h n) ∙ or_swapped (list_any (int_eq n) more) (list_any (int_eq n) ns) ∙ sym (list_any-append (int_eq n) ns more)
+    notes n ∙ ap (λ b. list_any (int_eq n) more || b) (h n) ∙ or_comm (list_any (int_eq n) more) (list_any (int_eq n) ns) ∙ sym (list_any-append (int_eq n) ns more)
 
 key_same : (m n : ℤ) → key_eq (key_of n) (key_of m) ≡ int_eq m n
 key_same (pos a) (pos b) = grind (arith, ints, nat_tests)

@@ -2,6 +2,7 @@
 use Rattle.std.proofs.lemmas.Bool.{false≢true}
 use Rattle.std.specs.Option.{option_map}
 use Rattle.std.proofs.Common.{is_some, ◌≡◌, ℤ, ℕ, ◌+◌, ◌-◌, ◌<◌, ◌≤◌, arith, length, get_or, take, drop, Bool, true, false, ◌||◌, List, [], ◌∷◌, ◌++◌, map, Option, Some, None, if◌then◌else◌, refl, sym, ap, ◌∙◌}
+use Rattle.std.proofs.Math.Bool.{or-true}
 use Rattle.expression_lang.specs.Expression as X
 use Rattle.expression_lang.specs.Expression.{Exp}
 use Rattle.ac_expr.specs.Fact.{Fact, Whole, stands_for}
@@ -76,10 +77,6 @@ not_yet f older x outer conditions n i e h =
 
 -- by the forms that the code finds
 
-or_true : (b : Bool) → (b || true) ≡ true
-or_true true = refl
-or_true false = refl
-
 pub gives_itself : (fact e : Exp) → same_exp fact e ≡ true → gives_at_once same_exp fact e ≡ true
 gives_itself (X.And a b) e h = ap (λ c. (c || gives_at_once same_exp a e) || gives_at_once same_exp b e) h
 gives_itself (X.Between low x high) e h = ap (λ c. (c || same_exp (X.Le (X.NumberLit low) x) e) || same_exp (X.Le x (X.NumberLit high)) e) h
@@ -88,7 +85,7 @@ gives_itself fact e h = h
 pub gives_first : (fact e a b : Exp) → fact ≡ X.And a b → gives_at_once same_exp a e ≡ true → gives_at_once same_exp fact e ≡ true
 gives_first fact e a b q h =
     ap (λ f. gives_at_once same_exp f e) q ∙ ap (λ c. (same_exp (X.And a b) e || c) || gives_at_once same_exp b e) h
-    ∙ ap (λ c. c || gives_at_once same_exp b e) (or_true (same_exp (X.And a b) e))
+    ∙ ap (λ c. c || gives_at_once same_exp b e) (or-true (same_exp (X.And a b) e))
 
 pub gives_rest : (fact e a b : Exp) → fact ≡ X.And a b → same_exp fact e ≡ false → gives_at_once same_exp a e ≡ false → gives_at_once same_exp fact e ≡ gives_at_once same_exp b e
 gives_rest fact e a b q s h =

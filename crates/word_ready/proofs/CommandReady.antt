@@ -2,6 +2,7 @@
 -- around its command give its range. A command behind another, in a branch, in a handler or in a loop's body has its own
 -- conditions, and counts on no other.
 use Rattle.std.proofs.Common.{Bool, List, [], ◌∷◌, ◌++◌, ◌≡◌, true, false, refl, sym, ap, subst}
+use Rattle.std.proofs.lemmas.List.{append-nil}
 use Rattle.expression_lang.specs.Expression.{Exp, And}
 use Rattle.expression_lang.specs.Sort.{Scope}
 use Rattle.expression_lang.specs.Signature.{Binder}
@@ -10,10 +11,6 @@ use Rattle.rule_word.specs.Bases.{Surroundings}
 use Rattle.generation.specs.Generate.{guarded}
 use Rattle.word_ready.proofs.ReadyWords.{IsReady, IsPathReady}
 use Rattle.word_ready.proofs.GivenRanges.{AllThere, split, all_split}
-
-pub no_end : {A : Type 0} (xs : List A) → xs ++ [] ≡ xs
-no_end [] = refl
-no_end (x ∷ xs) = ap (λ ys. x ∷ ys) (no_end xs)
 
 pub one_by_one : {A : Type 0} (xs : List A) (y : A) (ys : List A) → (xs ++ (y ∷ [])) ++ ys ≡ xs ++ (y ∷ ys)
 one_by_one [] y ys = refl
@@ -97,7 +94,7 @@ module _ (same : Exp → Exp → Bool) (finds : (e : Exp) → same e e ≡ true)
   -- a command under conditions in order, which are nested around it
   pub guarded_ready : (before gs : List Condition) (c : Simpl) → AreInOrder before gs → IsCommandReady (before ++ gs) c →
       IsCommandReady before (guarded gs c)
-  guarded_ready before [] c h i = subst (λ hs. IsCommandReady hs c) (no_end before) i
+  guarded_ready before [] c h i = subst (λ hs. IsCommandReady hs c) (append-nil before) i
   guarded_ready before (d ∷ ds) c h i =
       (h.0, guarded_ready (before ++ (d ∷ [])) ds c h.1 (subst (λ hs. IsCommandReady hs c) (sym (one_by_one before d ds)) i))
 

@@ -1,6 +1,7 @@
 -- The guard of an operation gives what the operation stands for, wherever it stands behind the guard, under the conditions that
 -- the guard names, and however many guards are between.
 use Rattle.std.proofs.Common.{◌≡◌, Bool, true, false, cond, ◌||◌, List, [], ◌∷◌, ◌++◌, map, Option, Some, None, ◌⊎◌, inl, inr, refl, ap, ◌∙◌}
+use Rattle.std.proofs.lemmas.Bool.{or_left, or_right}
 use Rattle.expression_lang.specs.Expression as X
 use Rattle.expression_lang.specs.Expression.{Exp}
 use Rattle.expression_lang.specs.Sort.{Scope}
@@ -17,14 +18,6 @@ abbrev pub under_all : List Exp → Exp → Exp
 under_all [] e = e
 under_all (c ∷ cs) e = X.Imp c (under_all cs e)
 
-true_or : (a b : Bool) → a ≡ true → (a || b) ≡ true
-true_or true b h = refl
-true_or false b h = absurd cc
-
-or_true : (a b : Bool) → b ≡ true → (a || b) ≡ true
-or_true true b h = refl
-or_true false b h = h
-
 module _ (same : Exp → Exp → Bool) (finds : (e : Exp) → same e e ≡ true) (g : Scope) (names : List Binder) where
   -- what a test becomes
   abbrev pub become : Surroundings → Exp → Exp
@@ -35,13 +28,13 @@ module _ (same : Exp → Exp → Bool) (finds : (e : Exp) → same e e ≡ true)
   under_each k (c ∷ cs) = under_each (under (Whole (become k c)) k) cs
 
   itself : (e : Exp) → gives_at_once same e e ≡ true
-  itself (X.And a b) = true_or _ _ (true_or _ _ (finds (X.And a b)))
-  itself (X.Between low x high) = true_or _ _ (true_or _ _ (finds (X.Between low x high)))
+  itself (X.And a b) = or_left _ _ (or_left _ _ (finds (X.And a b)))
+  itself (X.Between low x high) = or_left _ _ (or_left _ _ (finds (X.Between low x high)))
   itself e = finds e
 
   still_given : (k : Surroundings) (cs : List Exp) (e : Exp) → some_gives same k.conditions e ≡ true → some_gives same (under_each k cs).conditions e ≡ true
   still_given k [] e h = h
-  still_given k (c ∷ cs) e h = still_given (under (Whole (become k c)) k) cs e (or_true (gives_at_once same (become k c) e) _ h)
+  still_given k (c ∷ cs) e h = still_given (under (Whole (become k c)) k) cs e (or_right (gives_at_once same (become k c) e) _ h)
 
   -- each condition is given under them all
   abbrev AllGiven : List Fact → Surroundings → List Exp → Type 0
@@ -51,7 +44,7 @@ module _ (same : Exp → Exp → Bool) (finds : (e : Exp) → same e e ≡ true)
   all_given : (before : List Fact) (k : Surroundings) (cs : List Exp) → ((e : Exp) → some_gives same (under_each k cs).conditions e ≡ true → some_gives same before e ≡ true) → AllGiven before k cs
   all_given before k [] h = tt
   all_given before k (c ∷ cs) h = (
-    h (become k c) (still_given (under (Whole (become k c)) k) cs (become k c) (true_or _ _ (itself (become k c)))),
+    h (become k c) (still_given (under (Whole (become k c)) k) cs (become k c) (or_left _ _ (itself (become k c)))),
     all_given before (under (Whole (become k c)) k) cs h,
   )
 

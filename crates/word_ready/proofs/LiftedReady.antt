@@ -2,6 +2,7 @@
 -- there.
 use Rattle.std.proofs.Common.{◌≡◌, Bool, true, false, not, cond, ◌&&◌, ◌||◌, List, [], ◌∷◌, ◌++◌, Option, Some, None, refl, sym, subst, ap, ◌∙◌}
 use Rattle.std.proofs.lemmas.Bool.{and_parts, and_from, false≢true}
+use Rattle.std.proofs.lemmas.List.{append-nil}
 use Rattle.c_values.specs.Name.{Name, same_name, is_among}
 use Rattle.c_values.specs.Layout.{global_type}
 use Rattle.expression_lang.specs.Expression as X
@@ -41,7 +42,7 @@ use Rattle.rule_word.specs.Ready.{path_ready, exp_ready, guard_ready, all_ready,
 use Rattle.heap_ready.specs.CommandReady.{Unless}
 use Rattle.word_ready.proofs.ReadyWords.{IsReady, IsPathReady, tested, done, path_done}
 use Rattle.word_ready.proofs.GivenRanges.{IsThere, AllThere as AllGiven, unless_there, all_split, all_more, there_now}
-use Rattle.word_ready.proofs.CommandReady.{no_end, one_by_one, is_and, AreSingle, AreReady, AreInOrder, IsCommandReady}
+use Rattle.word_ready.proofs.CommandReady.{one_by_one, is_and, AreSingle, AreReady, AreInOrder, IsCommandReady}
 use Rattle.word_ready.proofs.AlikeSettings.{itself_alike, alike}
 use Rattle.word_ready.proofs.ReadyAlike.{ready_alike, paths_alike}
 use Rattle.word_ready.proofs.NamesStay.{name_stays, path_name_stays}
@@ -210,7 +211,7 @@ module _ (same : Exp → Exp → Bool) (finds : (e : Exp) → same e e ≡ true)
   -- each of them, as facts one after the other
   facts_given : (bs : List Binder) (before cs : List Condition) (fs : List Fact) → AreInOrder same finds g before cs →
       Agree bs (λ y. names_it y (conj cs)) → Given bs fs before → Given bs (facts_of same ctx bs fs cs) (before ++ cs)
-  facts_given bs before [] fs i h k = subst (λ gs. Given bs fs gs) (sym (no_end before)) k
+  facts_given bs before [] fs i h k = subst (λ gs. Given bs fs gs) (sym (append-nil before)) k
   facts_given bs before (c ∷ cs) fs i h k =
       let a = first_agree bs c cs h in
       subst (λ gs. Given bs (facts_of same ctx bs (fact_of same ctx bs fs c.exp ∷ fs) cs) gs) (one_by_one before c cs)

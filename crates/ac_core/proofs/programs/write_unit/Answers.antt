@@ -1,11 +1,11 @@
 -- The first name that isn't there, or each is there.
 use Rattle.std.proofs.Common.{map, sym, ap, ◌∙◌}
 use Rattle.std.specs.HashSet.{contains_text}
+use Rattle.std.proofs.lemmas.Result.{IfOk-weaker}
 use Rattle.c_values.specs.Name.{is_among}
 use Rattle.c_lang.specs.CodeTyped.{function_of, unit_of}
 use Rattle.command_line.specs.CodeCommand.{form_in}
 use Rattle.command_line.proofs.UnknownNames.{same_unknown}
-use Rattle.text_answers.proofs.Told.{of_result}
 use Rattle.ac_core.specs.CodeTasks.{options_of}
 use Rattle.ac_core.specs.Written.{is_function}
 use Rattle.ac_core.proofs.Told.{unnamed_answer}
@@ -19,7 +19,7 @@ write_named-requires-clause-named g c =
 
 pub returns-in-Some : goal.returns-in-Some
 returns-in-Some g c =
-    of_result c.unknown_name.result _ _
+    IfOk-weaker c.unknown_name.result _ _
     (λ a. unnamed_answer (form_in c.args.asked.writing) (options_of c.args.asked) (unit_of c.args.unit.now) c.in-Some.name.now a.status a.lines.items
     (same_unknown (is_function (unit_of c.args.unit.now)) (contains_text c.in_ok-functions.functions)
     (λ x. sym (c.in_ok-functions.ensures x ∙ ap (λ gs. is_among x (map (λ f. f.name) (map function_of gs))) c.deref.ensures.value)) (options_of c.args.asked)

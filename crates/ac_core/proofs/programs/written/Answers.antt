@@ -1,5 +1,6 @@
 -- What is written, as a tree, as lines or as a certificate.
 use Rattle.std.proofs.Common.{sym, subst}
+use Rattle.std.proofs.lemmas.Result.{IfOk-weaker}
 use Rattle.c_lang.specs.CodeTyped.{unit_of}
 use Rattle.simpl_lang.specs.Command.{SimplUnit}
 use Rattle.simpl_lang.specs.CodeCommand.{simpl_unit_of}
@@ -10,7 +11,6 @@ use Rattle.unit_text.specs.UnitText.{unit_text}
 use Rattle.abs_print.specs.Programs.{unit_text as unit_lines}
 use Rattle.command_line.specs.Words.{target_of}
 use Rattle.command_line.specs.CodeCommand.{form_in}
-use Rattle.text_answers.proofs.Told.{of_result}
 use Rattle.text_answers.proofs.WellTyped.{well_typed}
 use Rattle.ac_core.specs.CodeTasks.{options_of}
 use Rattle.ac_core.specs.Written.{gives}
@@ -43,14 +43,14 @@ certificate-requires g c =
 
 pub returns-in-Certificate : goal.returns-in-Certificate
 returns-in-Certificate g c =
-    of_result c.certificate.result _ _
+    IfOk-weaker c.certificate.result _ _
     (λ lines e. subst (λ w. gives (options_of c.args.asked) (unit_of c.args.unit.now) (form_in w) lines.items) (sym c.in-Certificate.is)
     (translates (options_of c.args.asked) (unit_of c.args.unit.now) c.requires.read (simpl_unit_of c.args.generated) c.requires.named c.requires.generated lines.items e))
     c.certificate.ensures
 
 pub returns-in_ok-programs-in-Tree : goal.returns-in_ok-programs-in-Tree
 returns-in_ok-programs-in-Tree g c =
-    of_result c.write_program.result _ _
+    IfOk-weaker c.write_program.result _ _
     (λ lines e. subst (λ w. gives (options_of c.args.asked) (unit_of c.args.unit.now) (form_in w) lines.items) (sym c.in-Tree.is)
     (shows (options_of c.args.asked) (unit_of c.args.unit.now) c.requires.read (simpl_unit_of c.args.generated) c.requires.named c.requires.generated unit_text
     (final_unit_of c.in_ok-programs-in-Tree.programs) lines.items c.in_ok-programs-in-Tree.ensures.last e))
@@ -58,7 +58,7 @@ returns-in_ok-programs-in-Tree g c =
 
 pub returns-in_ok-programs-in-Notation : goal.returns-in_ok-programs-in-Notation
 returns-in_ok-programs-in-Notation g c =
-    of_result c.print.result _ _
+    IfOk-weaker c.print.result _ _
     (λ lines e. subst (λ w. gives (options_of c.args.asked) (unit_of c.args.unit.now) (form_in w) lines.items) (sym c.in-Notation.is)
     (shows (options_of c.args.asked) (unit_of c.args.unit.now) c.requires.read (simpl_unit_of c.args.generated) c.requires.named c.requires.generated unit_lines
     (final_unit_of c.in_ok-programs-in-Notation.programs) lines.items c.in_ok-programs-in-Notation.ensures.last e))

@@ -1,13 +1,11 @@
 use Rattle.std.proofs.Common.{◌≡◌, ◌≤◌, ℕ, false, arith}
 use Rattle.std.proofs.lemmas.Grind.{common_steps}
 use Rattle.std.specs.Ordering.{nat_cmp, is_gt, is_lt}
+use Rattle.std.proofs.lemmas.Map.Keys.{le_from_not_gt}
 use Rattle.c_memory.proofs.nearest.last_at.Goals as goal
 
 within : (q n : ℕ) → q ≤ n → is_gt (nat_cmp q n) ≡ false
 within q n h = grind (arith, common_steps)
-
-not_above : (q n : ℕ) → is_gt (nat_cmp q n) ≡ false → q ≤ n
-not_above q n h = grind (arith, common_steps)
 
 not_below : (q n : ℕ) → is_lt (nat_cmp n q) ≡ false → q ≤ n
 not_below q n h = grind (arith, common_steps)
@@ -20,7 +18,7 @@ returns-in-Some-clause-some c =
     let n = c.args.number in
     record {
       key = key;
-      below = not_above key n here.0.1;
+      below = le_from_not_gt key n here.0.1;
       is = here.1;
       last = λ k le some. not_below k key (last k (tt, within k n le) some);
     }

@@ -1,15 +1,15 @@
 use Rattle.std.proofs.Common.{◌≡◌, ◌++◌, sym, ap, ◌∙◌}
 use Rattle.std.proofs.lemmas.List.{append-nil}
+use Rattle.std.proofs.lemmas.Result.{IfOk-weaker}
 use Rattle.expression_lang.specs.CodeExpression.{level_of}
 use Rattle.c_lang.specs.CodeTyped.{function_of}
-use Rattle.checking.proofs.Results.{of_result}
 use Rattle.checking.proofs.LinesLeft.{reason_at, line_whole, with_reason, no_reason}
 use Rattle.checking.proofs.lines.add_line.Goals as goal
 use Rattle.checking.proofs.lines.add_line.Goals.{in-Bytes+in_ok-add_reason-in-Bytes, in-Words}
 
 pub returns : goal.returns
 returns c =
-    of_result c.push-4.result _ _
+    IfOk-weaker c.push-4.result _ _
     (λ _ e levels is level.
     let reasoned : c.match-level.lines.items ≡ c.push-3.new.lines.items ++ reason_at levels (function_of c.args.function.now) (level_of c.args.level) =
     elim c.match-level.branch [

@@ -1,5 +1,6 @@
 -- The names of the index are those of the certificate.
 use Rattle.std.proofs.Common.{◌≡◌, Err, None, sym, ap, ap₂, ◌∙◌}
+use Rattle.std.proofs.lemmas.Result.{IfOk-weaker}
 use Rattle.simpl_lang.specs.CodeCommand.{simpl_unit_of}
 use Rattle.certificate_text.specs.CodeIndex.{index_in}
 use Rattle.checking.specs.CodeRefused.{answer_of, refused_of}
@@ -7,7 +8,6 @@ use Rattle.checking.specs.Refused.{names_apart}
 use Rattle.checking.proofs.Answered.{answer_apart, answer_judged, answers_decide}
 use Rattle.checking.proofs.Indexed.{code_apart, apart_there}
 use Rattle.checking.proofs.OneText.{one_index}
-use Rattle.checking.proofs.Results.{of_result}
 use Rattle.checking.proofs.texts.check_telling.Goals as goal
 
 pub check_each-requires-clause-listed : goal.check_each-requires-clause-listed
@@ -31,8 +31,8 @@ returns-in-None-clause-answer g c = λ d is.
     let none : names_apart (simpl_unit_of c.args.u.now) d.functions ≡ None =
     sym (apart_there c.args.index.now d (one_index c.args.bytes.now (index_in c.args.index.now) d c.requires.scanned is) c.args.u.now.functions.items)
     ∙ sym (ap₂ code_apart c.deref.ensures.value c.deref-2.ensures.value) ∙ sym c.in-None.ensures in
-    of_result c.check_each.result _ _ (λ r. answer_judged (simpl_unit_of c.args.u.now) d.functions none (answer_of r)) (c.check_each.ensures d is)
+    IfOk-weaker c.check_each.result _ _ (λ r. answer_judged (simpl_unit_of c.args.u.now) d.functions none (answer_of r)) (c.check_each.ensures d is)
 
 pub returns-in-None-clause-decided : goal.returns-in-None-clause-decided
 returns-in-None-clause-decided g c = λ d is.
-    of_result c.check_each.result _ _ (λ r. answers_decide (simpl_unit_of c.args.u.now) d.functions (answer_of r)) (returns-in-None-clause-answer g c d is)
+    IfOk-weaker c.check_each.result _ _ (λ r. answers_decide (simpl_unit_of c.args.u.now) d.functions (answer_of r)) (returns-in-None-clause-answer g c d is)

@@ -1,5 +1,6 @@
 -- Each part by what is live before it, and what is done of what stands before a last part.
 use Rattle.std.proofs.Common.{rules, ◌≡◌, List, map, sym, subst, ap, ◌∙◌, IfOk}
+use Rattle.std.proofs.lemmas.Result.{IfOk-weaker}
 use Rattle.expression_lang.specs.CodeExpression.{exp_of}
 use Rattle.simpl_lang.specs.Command as plain
 use Rattle.simpl_lang.specs.CodeCommand.{condition_of, simpl_of}
@@ -10,7 +11,7 @@ use Rattle.local_lift.specs.CodePlan.{around, command_of, AreRight, IsRight, tur
 use Rattle.local_lift.specs.CodeRows.{flags_of, Matrix, Moves}
 use Rattle.local_lift.specs.declared.plan.Fronts.{size-Fronts}
 use Rattle.local_lift.proofs.PlanLaws.{left, less_left}
-use Rattle.local_lift.proofs.RowLaws.{ok_map, moves_then, same_moves}
+use Rattle.local_lift.proofs.RowLaws.{moves_then, same_moves}
 use Rattle.local_lift.proofs.liveness.+lived.Goals as goal
 
 pub lived-returns-in-Alone : goal.lived-returns-in-Alone
@@ -37,7 +38,7 @@ lived-returns-in-While t c =
     let e : command_of c.args.plan.now ≡ plain.While gs test body = search rules in
     let r = subst (IsRight bs) c.in-While.is c.requires in
     let rows : c.in-While.turns.value.steps.items ≡ c.as_slice.result.now = search rules in
-    ok_map c.all_spread.result _ _
+    IfOk-weaker c.all_spread.result _ _
     (λ v h. subst (λ (a : plain.Simpl). Moves bs (live (names bs) a) c.args.rows.items v.items) (sym e)
     (h bs (turn_steps (names bs) body) (turn_own (names bs) gs test body) (subst (λ (rs : List Row). Matrix bs (turn_steps (names bs) body) bs rs) rows r.2.steps)
     (ap (λ turns. turns.own.flags.items) c.deref-in-While-2.ensures ∙ r.2.own))) c.all_spread.ensures
@@ -88,6 +89,6 @@ lived_choice-returns t c =
     let first = command_of c.args.first.now in
     let second = command_of c.args.second.now in
     let same : flags_of c.in_ok-others.others.items ≡ flags_of c.args.rows.items = c.in_ok-others.ensures ∙ ap flags_of c.as_slice.ensures.value in
-    ok_map c.before_test.result _ _
+    IfOk-weaker c.before_test.result _ _
     (λ v h. h c.args.rows.items first second c.in_ok-lefts.ensures
     (moves_then bs (λ p. p) (live (names bs) second) c.args.rows.items c.in_ok-others.others.items c.in_ok-rights.rights.items (same_moves bs c.args.rows.items c.in_ok-others.others.items same) c.in_ok-rights.ensures)) c.before_test.ensures

@@ -1,11 +1,11 @@
 -- A first part put aside, and a last part behind what is put aside.
 use Rattle.std.proofs.Common.{rules, ◌≡◌, ◌≤◌, sym, subst, ap, ◌∙◌}
+use Rattle.std.proofs.lemmas.Result.{IfOk-weaker}
 use Rattle.simpl_lang.specs.declared.command.Simpl.{size-Simpl}
 use Rattle.simpl_lang.specs.Command as plain
 use Rattle.simpl_lang.specs.CodeCommand.{simpl_of}
 use Rattle.local_lift.specs.CodePlan.{around, AreRight, AssignedBeside, IsAssigned}
 use Rattle.local_lift.proofs.PlanLaws.{beside_first, less_last}
-use Rattle.local_lift.proofs.RowLaws.{ok_map}
 use Rattle.local_lift.proofs.planning.+plan_of.Goals as goal
 
 pub planned_spine-along-preserved-in-Seq : goal.planned_spine-along-preserved-in-Seq
@@ -35,4 +35,4 @@ planned_spine-along-preserved-in-Seq t c =
 pub planned_spine-returns-in_default : goal.planned_spine-returns-in_default
 planned_spine-returns-in_default t c =
     let i = c.along.invariant in
-    ok_map c.behind.result _ _ (λ p h. h c.args.locals.now (simpl_of c.along.rest.now) (simpl_of c.args.c.now) i.right c.in_ok-last-in_default.ensures i.same i.beside) c.behind.ensures
+    IfOk-weaker c.behind.result _ _ (λ p h. h c.args.locals.now (simpl_of c.along.rest.now) (simpl_of c.args.c.now) i.right c.in_ok-last-in_default.ensures i.same i.beside) c.behind.ensures

@@ -1,5 +1,6 @@
 -- What is found of a loop, from the rows before its body of each local alone and of none.
 use Rattle.std.proofs.Common.{rules, ◌≡◌, Bool, ◌||◌, List, [], ◌∷◌, ◌++◌, map, sym, subst, ap₂, ◌∙◌}
+use Rattle.std.proofs.lemmas.Result.{IfOk-weaker}
 use Rattle.c_values.specs.Name.{Name, same_name}
 use Rattle.expression_lang.specs.CodeExpression.{exp_of}
 use Rattle.expression_lang.specs.Mentions as mentions
@@ -10,7 +11,7 @@ use Rattle.local_lift.specs.Live.{none, live}
 use Rattle.local_lift.specs.CodeNames.{names}
 use Rattle.local_lift.specs.CodePlan.{command_of, IsTurns}
 use Rattle.local_lift.specs.CodeRows.{either_row, MatrixAnd}
-use Rattle.local_lift.proofs.RowLaws.{ok_map, either_marks}
+use Rattle.local_lift.proofs.RowLaws.{either_marks}
 use Rattle.local_lift.proofs.MatrixLaws.{matrix_and_moves, matrix_apart, matrix_and_some}
 use Rattle.local_lift.proofs.planning.turns_of.Goals as goal
 
@@ -34,6 +35,6 @@ returns c =
     let all = matrix_and_moves bs same_name none (live (names bs) a) bs c.in_ok-singles.singles.items c.in_ok-leads.leads.items c.in_ok-singles.ensures c.in_ok-leads.ensures in
     let apart : c.in_ok-leads.leads.items ≡ c.pop.new.self.items ++ c.in-Some.of_none ∷ [] = search rules in
     let q = matrix_apart bs leads (live (names bs) a none) bs c.pop.new.self.items c.in-Some.of_none (subst (λ (rs : List Row). MatrixAnd bs leads (live (names bs) a none) bs rs) apart all) in
-    ok_map c.boxed_turns.result _ _
+    IfOk-weaker c.boxed_turns.result _ _
     (λ b e. subst (IsTurns bs gs test a) (sym e)
     (record { steps = c.in_ok-steps.ensures leads q.0; own = c.in_ok-own.ensures ∙ ap₂ either_row c.in_ok-named.ensures q.1 ∙ either_marks named (live (names bs) a none) bs })) c.boxed_turns.ensures

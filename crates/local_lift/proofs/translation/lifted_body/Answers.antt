@@ -1,6 +1,7 @@
 -- The body lifted, with a start where some locals are looked at first.
 use Rattle.std.proofs.Common.{◌≡◌, [], List, length, map, string_bytes, eq-eqb, eqb-true, sym, subst, ap, ◌∙◌}
 use Rattle.std.proofs.lemmas.Bool.{false≢true}
+use Rattle.std.proofs.lemmas.List.{nil_from_length}
 use Rattle.c_values.specs.Name.{Name}
 use Rattle.expression_lang.specs.CodeExpression.{exp_of}
 use Rattle.expression_lang.specs.CodeSignature.{binder_of}
@@ -16,7 +17,7 @@ use Rattle.local_lift.specs.CodeNames.{names}
 use Rattle.local_lift.specs.CodeLifted.{lifted_of, IsLifted}
 use Rattle.local_lift.specs.CodePlan.{command_of}
 use Rattle.local_lift.specs.CodeLists.{begun_in}
-use Rattle.local_lift.proofs.ListLaws.{begun_marks, mapped_none, no_length}
+use Rattle.local_lift.proofs.ListLaws.{begun_marks, mapped_none}
 use Rattle.local_lift.proofs.BodyLifted.{begins, body_started, body_unstarted}
 use Rattle.local_lift.proofs.translation.lifted_body.Goals as goal
 
@@ -30,7 +31,7 @@ returns-then-is_empty c =
     let same : command_of c.deref.result.now ≡ a = ap command_of c.deref.ensures ∙ c.in_ok-command.ensures.same in
     let inner = subst (λ (d : plain.Simpl). IsLifted ls d vs c.in_ok-inner.inner) same c.in_ok-inner.ensures in
     let u : us ≡ chosen (begins ctx a vs) (names_of ctx.locals) = c.in_ok-names.ensures ∙ ap (begun_in ctx.parameters ls) inner.before ∙ begun_marks ctx.parameters (live (names ls) a (among vs)) ls in
-    let none : c.in_ok-names.names.items ≡ [] = sym c.as_slice-given.ensures.value ∙ no_length c.as_slice-given.result.now (eqb-true (length c.as_slice-given.result.now) 0 (sym c.is_empty.ensures ∙ c.if-is_empty.true)) in
+    let none : c.in_ok-names.names.items ≡ [] = sym c.as_slice-given.ensures.value ∙ nil_from_length c.as_slice-given.result.now (eqb-true (length c.as_slice-given.result.now) 0 (sym c.is_empty.ensures ∙ c.if-is_empty.true)) in
     λ g. body_unstarted ctx a vs us (lifted_of c.in_ok-inner.inner.lifted) inner.lifted u (ap (λ ns. map string_bytes ns) none)
 
 pub returns : goal.returns

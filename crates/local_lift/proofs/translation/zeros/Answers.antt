@@ -1,8 +1,9 @@
 use Rattle.std.proofs.Common.{rules, ◌≡◌, ◌++◌, ◌∷◌, [], map, string_bytes, subst, ap, ◌∙◌}
+use Rattle.std.proofs.lemmas.List.{nil_from_length}
 use Rattle.expression_lang.specs.CodeExpression.{exp_of}
 use Rattle.expression_lang.specs.CodeSignature.{binder_of}
 use Rattle.simpl_lang.specs.Command.{kind_of}
-use Rattle.local_lift.proofs.ListLaws.{mapped_push, no_length}
+use Rattle.local_lift.proofs.ListLaws.{mapped_push}
 use Rattle.local_lift.proofs.ZeroLaws.{ZerosSo, zeros_all, zeros_more}
 use Rattle.local_lift.proofs.translation.zeros.Goals as goal
 
@@ -21,6 +22,6 @@ along-preserved c =
 
 pub returns : goal.returns
 returns c =
-    let none : c.along.rest.now ≡ [] = no_length c.along.rest.now c.in_default.ensures.cases in
+    let none : c.along.rest.now ≡ [] = nil_from_length c.along.rest.now c.in_default.ensures.cases in
     λ es z g. zeros_all (map binder_of c.args.locals.now) (map exp_of c.along.exps.items) es
     (subst (λ ws. ZerosSo (map binder_of c.args.locals.now) (map string_bytes ws) (map exp_of c.along.exps.items) es) none (c.along.invariant es z g))

@@ -1,7 +1,8 @@
 use Rattle.std.proofs.Common.{ℕ, List, Err, inl, inr, ap, subst, arith}
+use Rattle.std.proofs.lemmas.Result.{IfOk-weaker}
 use Rattle.c_values.specs.CodeTypes.{target_of}
 use Rattle.remarks.specs.Remark.{Again, OfRefused, about, not_accepted, certificate_limit}
-use Rattle.remarks.proofs.Again.{of_result, from_first}
+use Rattle.remarks.proofs.Again.{from_first}
 use Rattle.remarks.proofs.refused.of_files.Goals as goal
 
 pub returns-in-Ok-clause-said : goal.returns-in-Ok-clause-said
@@ -15,7 +16,7 @@ returns-in-Ok-clause-said g c =
     let target = target_of c.args.target in
     let alone = about cert not_accepted in
     let within = c.in-Ok.ensures.within in
-    of_result c.of_certificate.result _ _
+    IfOk-weaker c.of_certificate.result _ _
     (λ v h. inl (record {
       text = c.in-Ok.text.items;
       is_text = c.in-Ok.ensures.whole;
@@ -27,8 +28,8 @@ returns-in-Ok-clause-said g c =
 
 pub returns-in-Err-ReadFault-clause-said : goal.returns-in-Err-ReadFault-clause-said
 returns-in-Err-ReadFault-clause-said g c =
-    of_result c.about.result _ _ (λ v e. inr (inl (record { fault = c.in-Err-ReadFault.ensures.fault (ap (λ e. Err e) c.in-Err-ReadFault.field-0-is); written = e }))) c.about.ensures
+    IfOk-weaker c.about.result _ _ (λ v e. inr (inl (record { fault = c.in-Err-ReadFault.ensures.fault (ap (λ e. Err e) c.in-Err-ReadFault.field-0-is); written = e }))) c.about.ensures
 
 pub returns-in-Err-Limit-clause-said : goal.returns-in-Err-Limit-clause-said
 returns-in-Err-Limit-clause-said g c =
-    of_result c.about-in-Err-Limit.result _ _ (λ v e. inr (inr (record { longer = c.in-Err-Limit.ensures.limit (ap (λ e. Err e) c.in-Err-Limit.field-0-is); written = e }))) c.about-in-Err-Limit.ensures
+    IfOk-weaker c.about-in-Err-Limit.result _ _ (λ v e. inr (inr (record { longer = c.in-Err-Limit.ensures.limit (ap (λ e. Err e) c.in-Err-Limit.field-0-is); written = e }))) c.about-in-Err-Limit.ensures

@@ -1,7 +1,7 @@
 -- Each reason has its text.
 use Rattle.std.proofs.Common.{◌≡◌, ◌++◌, List, ℕ, OnOk, ap, ◌∙◌}
 use Rattle.std.specs.Prelude.{codes}
-use Rattle.ac_sx.proofs.Opened.{on_ok}
+use Rattle.std.proofs.lemmas.Result.{on_ok_weaker}
 use Rattle.correspondence.specs.Outcome.{Turns, Depth}
 use Rattle.c_values.specs.CodeNumber.{number_op_of}
 use Rattle.run_lines.specs.CodeEnds.{program_stop_of}
@@ -15,7 +15,7 @@ returns c = λ u f m.
     let whole = program_lines u f m (program_stop_of c.args.stop) in
     let written : (text : List ℕ) → whole ≡ program_word ++ (text ++ line_end) → c.match-stop.lines.items ≡ c.push.new.lines.items ++ text → OnOk c.push-2.result (c.push-2.new.lines.items ≡ c.args.lines.now.items ++ whole) =
     λ text is said.
-    on_ok c.push-2.result (λ ended. line_written c.args.lines.now.items c.push.new.lines.items c.match-stop.lines.items c.push-2.new.lines.items program_word text line_end whole c.in_ok-push.ensures said is ended) c.push-2.ensures in
+    on_ok_weaker c.push-2.result (λ ended. line_written c.args.lines.now.items c.push.new.lines.items c.match-stop.lines.items c.push-2.new.lines.items program_word text line_end whole c.in_ok-push.ensures said is ended) c.push-2.ensures in
     elim c.match-stop.branch [
       | in-Fails+in_ok-push-in-Fails w ↦ written (codes " fails") (ap (λ s. program_lines u f m (program_stop_of s)) w.in-Fails.is) (ap (λ l. l.items) w.lines-is ∙ w.in_ok-push-in-Fails.ensures)
       | in-Wide+in_ok-push_wide-in-Wide w ↦

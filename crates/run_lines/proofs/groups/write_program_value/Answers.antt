@@ -1,6 +1,6 @@
 -- The lines of the parts are those of the whole.
 use Rattle.std.proofs.Common.{◌++◌, map, ap, sym, subst, ◌∙◌}
-use Rattle.ac_sx.proofs.Opened.{on_ok}
+use Rattle.std.proofs.lemmas.Result.{on_ok_weaker}
 use Rattle.c_values.specs.CodeValue.{global_of}
 use Rattle.c_memory.specs.CodeTag.{tag_of}
 use Rattle.expression_lang.specs.CodeState.{globals_of}
@@ -33,7 +33,7 @@ returns g c =
     let value = c.in_ok-result_line.ensures ∙ ap (λ v. old ++ result_line program_word l f.result v) (sym (first_given c.args.value.now)) in
     let tags = c.in_ok-tag_lines.ensures ∙ ap (λ ts. first ++ tag_lines program_word l heap (map tag_of ts)) c.deref.ensures.value in
     let globals = c.in_ok-global_lines.ensures ∙ ap (λ xs. second ++ global_lines program_word l (map global_of xs) (globals_of xs c.args.globals.now)) c.deref-2.ensures.value in
-    on_ok c.bytes_lines.result
+    on_ok_weaker c.bytes_lines.result
     (λ ended. four_written old first second third c.bytes_lines.new.lines.items _ _ _ _ value tags globals
     (ended ∙ ap (λ rs. third ++ bytes_lines program_word heap (map run_of rs)) c.deref-3.ensures.value))
     c.bytes_lines.ensures

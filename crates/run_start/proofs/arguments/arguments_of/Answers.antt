@@ -1,5 +1,6 @@
 -- The arguments are those of the memory, and of the parameters' types.
 use Rattle.std.proofs.Common.{◌≡◌, map, ap, ap₂, sym, subst, ◌∙◌}
+use Rattle.std.proofs.lemmas.Result.{IfOk-weaker}
 use Rattle.c_values.specs.CodeParts.{values_in}
 use Rattle.c_values.specs.CodeTypes.{type_of}
 use Rattle.c_values.specs.Layout.{shape_of}
@@ -9,7 +10,6 @@ use Rattle.c_lang.specs.declared.tree.Variable.{Variable}
 use Rattle.c_meaning.specs.Fitting.{AreOfTypes}
 use Rattle.memory_text.specs.CodeMemory.{memory_of}
 use Rattle.memory_text.specs.MemoryText.{parameter_shapes}
-use Rattle.memory_text.proofs.ReadBack.{if_ok}
 use Rattle.memory_text.proofs.Shapes.{parameters_shapes}
 use Rattle.run_start.specs.Start.{all_as_words}
 use Rattle.run_start.proofs.Begins.{arguments_typed}
@@ -27,6 +27,6 @@ returns c =
     ap₂ (λ vs ws. all_as_words (map (shape_of l) (map (λ (v : Variable). type_of v.ty) vs)) (values_in ws)) c.deref.ensures.value c.deref-2.ensures.value
     ∙ ap (λ ss. all_as_words ss m.arguments) (parameters_shapes l c.args.function.now.params.items) in
     record {
-      arguments = if_ok c.all_as_words.result _ _ (λ words e. listed_as words.items whole (e ∙ same)) c.all_as_words.ensures;
-      typed = if_ok c.all_as_words.result _ _ (λ words e. subst (AreOfTypes l f.params) (sym (listed_as words.items whole (e ∙ same))) (arguments_typed u f m c.requires.unit c.requires.function c.requires.memory)) c.all_as_words.ensures;
+      arguments = IfOk-weaker c.all_as_words.result _ _ (λ words e. listed_as words.items whole (e ∙ same)) c.all_as_words.ensures;
+      typed = IfOk-weaker c.all_as_words.result _ _ (λ words e. subst (AreOfTypes l f.params) (sym (listed_as words.items whole (e ∙ same))) (arguments_typed u f m c.requires.unit c.requires.function c.requires.memory)) c.all_as_words.ensures;
     }

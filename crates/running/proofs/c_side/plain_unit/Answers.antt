@@ -1,9 +1,9 @@
 -- Each function has a level, and so each is generated.
 use Rattle.std.proofs.Common.{arith}
 use Rattle.std.proofs.lemmas.List.{length-map}
+use Rattle.std.proofs.lemmas.Result.{IfOk-weaker}
 use Rattle.c_lang.specs.CodeTyped.{function_of, unit_of}
 use Rattle.c_meaning.specs.CRun.{plain}
-use Rattle.memory_text.proofs.ReadBack.{if_ok}
 use Rattle.running.proofs.CRuns.{as_many}
 use Rattle.running.proofs.c_side.plain_unit.Goals as goal
 
@@ -14,4 +14,4 @@ generate-requires c =
     omega (arith, all, each)
 
 pub returns : goal.returns
-returns c = if_ok c.generate.result _ _ (λ u h. h plain c.in_ok-modes.ensures) c.generate.ensures.generated
+returns c = IfOk-weaker c.generate.result _ _ (λ u h. h plain c.in_ok-modes.ensures) c.generate.ensures.generated

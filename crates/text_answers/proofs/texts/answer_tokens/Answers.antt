@@ -1,6 +1,7 @@
+use Rattle.std.proofs.lemmas.Result.{IfOk-weaker}
 use Rattle.c_lex.specs.Lexeme.{lexemes_of}
 use Rattle.c_grammar.specs.CodeTree.{unit_of}
-use Rattle.text_answers.proofs.Told.{tree_answer, refused_answer, of_result}
+use Rattle.text_answers.proofs.Told.{tree_answer, refused_answer}
 use Rattle.text_answers.proofs.texts.answer_tokens.Goals as goal
 
 pub answer_tree-requires : goal.answer_tree-requires
@@ -12,12 +13,12 @@ answer_tree-requires g c = record {
 
 pub returns-in-Ok : goal.returns-in-Ok
 returns-in-Ok g c =
-    of_result c.answer_tree.result _ _
+    IfOk-weaker c.answer_tree.result _ _
     (λ a. tree_answer (g.T.Task.target_for c.args.task.now) (g.T.Task.answers c.args.task.now) (lexemes_of c.args.tokens.items) (unit_of c.in-Ok.tree) a.status a.lines.items (record { spells = c.in-Ok.ensures.found.0; within = c.in-Ok.ensures.found.1 }))
     c.answer_tree.ensures
 
 pub returns-in-Err : goal.returns-in-Err
 returns-in-Err g c =
-    of_result c.parse_refusal.result _ _
+    IfOk-weaker c.parse_refusal.result _ _
     (λ a. refused_answer (g.T.Task.target_for c.args.task.now) (g.T.Task.answers c.args.task.now) (lexemes_of c.args.tokens.items) c.in-Err.fault a.status a.lines.items c.in-Err.ensures.fault)
     c.parse_refusal.ensures

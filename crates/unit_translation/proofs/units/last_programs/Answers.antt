@@ -1,6 +1,7 @@
 -- The generated functions are ready, and what is made of them is the last unit of an accepted certificate.
 use Rattle.std.proofs.Common.{◌≡◌, sym, subst, ◌∙◌, ap}
 use Rattle.std.specs.Prelude.{Result, Ok, Err, IfOk}
+use Rattle.std.proofs.lemmas.Result.{IfOk-weaker}
 use Rattle.ac_expr.specs.SameExp.{same_exp}
 use Rattle.simpl_lang.specs.Command.{SimplUnit}
 use Rattle.simpl_lang.specs.CodeCommand.{simpl_unit_of}
@@ -19,10 +20,6 @@ use Rattle.unit_translation.proofs.LevelsThere.{levels_of, are_levels}
 use Rattle.unit_translation.proofs.Formed.{last_formed, last_programs, last_forms}
 use Rattle.unit_translation.proofs.units.last_programs.Goals as goal
 
-on_ok : {T E : Type 0} (r : Result T E) (P Q : T → Type 0) → ((x : T) → P x → Q x) → IfOk r P → IfOk r Q
-on_ok (Ok x) P Q f h = f x h
-on_ok (Err e) P Q f h = tt
-
 pub translate_generated-requires : goal.translate_generated-requires
 translate_generated-requires c =
     let levels = levels_of c.args.u.now c.args.modes.now in
@@ -32,17 +29,17 @@ translate_generated-requires c =
 
 pub returns-clause-translated : goal.returns-clause-translated
 returns-clause-translated c =
-    on_ok c.translate_generated.result _ _
+    IfOk-weaker c.translate_generated.result _ _
     (λ v e levels are. e ∙ ap (λ h. last_unit h (tidy_certificate same_exp h)) (c.in_ok-generated.ensures.generated levels are))
     c.translate_generated.ensures.last
 
 pub returns-clause-accepted : goal.returns-clause-accepted
 returns-clause-accepted c =
-    on_ok c.translate_generated.result _ _ (λ v e levels are calls. certificate_is_accepted (unit_of c.args.u.now) c.requires.typed levels calls) c.translate_generated.ensures.last
+    IfOk-weaker c.translate_generated.result _ _ (λ v e levels are calls. certificate_is_accepted (unit_of c.args.u.now) c.requires.typed levels calls) c.translate_generated.ensures.last
 
 pub returns-clause-of_unit : goal.returns-clause-of_unit
 returns-clause-of_unit c =
-    on_ok c.translate_generated.result _ _
+    IfOk-weaker c.translate_generated.result _ _
     (λ v is levels are calls.
     let u = unit_of c.args.u.now in
     let cs = tidy_certificate same_exp (generated u levels) in
@@ -52,7 +49,7 @@ returns-clause-of_unit c =
 
 pub returns-clause-formed : goal.returns-clause-formed
 returns-clause-formed c =
-    on_ok c.translate_generated.result _ _
+    IfOk-weaker c.translate_generated.result _ _
     (λ v is levels are calls.
     let u = unit_of c.args.u.now in
     let cs = tidy_certificate same_exp (generated u levels) in
@@ -63,7 +60,7 @@ returns-clause-formed c =
 
 pub returns-clause-exact : goal.returns-clause-exact
 returns-clause-exact c =
-    on_ok c.translate_generated.result _ _
+    IfOk-weaker c.translate_generated.result _ _
     (λ v is levels are calls.
     subst (λ (v : FinalUnit). IsExact (unit_of c.args.u.now) levels v) (sym (is levels are)) (made_is_exact (unit_of c.args.u.now) c.requires.typed levels calls))
     (returns-clause-translated c)

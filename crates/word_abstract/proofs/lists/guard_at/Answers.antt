@@ -1,4 +1,5 @@
 use Rattle.std.proofs.Common.{rules, ◌≡◌, List, [], ◌∷◌, ◌++◌, map, sym, ap, ◌∙◌}
+use Rattle.std.proofs.lemmas.Result.{IfOk-weaker}
 use Rattle.expression_lang.specs.declared.expression.Exp as E
 use Rattle.expression_lang.specs.Expression.{And}
 use Rattle.expression_lang.specs.CodeExpression.{exp_of}
@@ -12,7 +13,6 @@ use Rattle.word_abstract.specs.CodeFacts.{fact_in, whole}
 use Rattle.word_abstract.specs.CodeAbstracted.{abstracted_in}
 use Rattle.word_abstract.specs.CodeScenes.{context_at, binders_at, guard_there, guard_behind}
 use Rattle.word_abstract.specs.declared.abstracted.Abstracted as A
-use Rattle.word_abstract.proofs.OkLaws.{ok_map}
 use Rattle.word_abstract.proofs.GuardLaws.{guard_last, guard_also}
 use Rattle.word_abstract.proofs.lists.guard_at.Goals as goal
 
@@ -26,7 +26,7 @@ returns-in_default c =
     c.in_ok-last.ensures
     ∙ ap (λ (own : List E.Exp). exp_at same_exp numbers (context_at at) (binders_at at) (newest_first (map whole own) (newest_first (map fact_in at.known.outer.now) [])) rest truth) c.deref.ensures.value
     ∙ sym (guard_last same_exp numbers (context_at at) (binders_at at) (newest_first (map whole c.along.own.items) (newest_first (map fact_in at.known.outer.now) [])) rest alone) in
-    ok_map c.all_hold.result (λ x. abstracted_in x ≡ all_hold (map abstracted_in c.along.before.items) (abstracted_in c.in_ok-last.last)) (λ x. abstracted_in x ≡ guard_there at (exp_of c.args.e.now))
+    IfOk-weaker c.all_hold.result (λ x. abstracted_in x ≡ all_hold (map abstracted_in c.along.before.items) (abstracted_in c.in_ok-last.last)) (λ x. abstracted_in x ≡ guard_there at (exp_of c.args.e.now))
     (λ x e. e ∙ ap (all_hold (map abstracted_in c.along.before.items)) last ∙ c.along.invariant) c.all_hold.ensures
 
 pub along-preserved : goal.along-preserved

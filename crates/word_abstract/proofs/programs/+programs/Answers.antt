@@ -1,4 +1,5 @@
 use Rattle.std.proofs.Common.{rules, arith, ◌≡◌, [], ◌∷◌, ◌++◌, Option, IfOk, if◌then◌else◌, map, string_bytes, refl, sym, subst, ap, ap₂, ◌∙◌}
+use Rattle.std.proofs.lemmas.Result.{IfOk-weaker}
 use Rattle.c_values.specs.Name.{Name}
 use Rattle.expression_lang.specs.Sort.{Kind}
 use Rattle.expression_lang.specs.CodeExpression.{exp_of, kind_of}
@@ -22,7 +23,6 @@ use Rattle.word_abstract.specs.CodeTrees.{with_trees}
 use Rattle.word_abstract.specs.CodeTranslated.{translated_in}
 use Rattle.word_abstract.specs.CodeFronts.{with_fronts}
 use Rattle.word_abstract.specs.CodeScenes.{context_at, binders_at, facts_at, local_kinds, program_there, program_under}
-use Rattle.word_abstract.proofs.OkLaws.{ok_map}
 use Rattle.word_abstract.proofs.KnownLaws.{newest_push}
 use Rattle.word_abstract.proofs.WholeLaws.{loop_made}
 use Rattle.word_abstract.proofs.FrontLaws.{with_fronts_push, made_behind, front_behind}
@@ -42,7 +42,7 @@ program-returns-in_default t c =
     let names = c.push_all-names.ensures ∙ ap (λ bs. with_kinds (names_of (map binder_of bs)) (kinds_of (map binder_of bs)) (binders_at at)) c.deref.ensures.value in
     let last : translated_in c.in_ok-last.last.value ≡ program_behind at c.along.passed (mon_of c.along.rest.now) ks =
     c.in_ok-last.ensures ∙ made_behind at c.along.passed (mon_of c.along.rest.now) ks _ _ known names in
-    ok_map c.closed.result (λ new. translated_in new.value ≡ with_fronts c.along.fronts.items (translated_in c.in_ok-last.last.value)) (λ new. translated_in new.value ≡ program_there at (mon_of c.args.m.now) ks)
+    IfOk-weaker c.closed.result (λ new. translated_in new.value ≡ with_fronts c.along.fronts.items (translated_in c.in_ok-last.last.value)) (λ new. translated_in new.value ≡ program_there at (mon_of c.args.m.now) ks)
     (λ new e. e ∙ ap (with_fronts c.along.fronts.items) last ∙ c.along.invariant.same) c.closed.ensures
 
 pub program-along-preserved : goal.program-along-preserved
@@ -75,7 +75,7 @@ turns-returns t c =
     let tested = c.in_ok-test.ensures ∙ ap₂ (λ bs e. exp_at same_exp s.numbers (context_at at) bs (Whole (exp_of e) ∷ []) test truth) c.start-names.ensures c.deref.ensures in
     let body = c.in_ok-a.ensures ∙ ap (λ d. program_abstracted same_exp s.numbers (context_at at) table (Whole (exp_of d) ∷ Whole (exp_of c.deref.result.now) ∷ []) (binders_in c.start-names.result) (mon_of c.args.body.now) ks) c.deref-2.ensures
     ∙ ap₂ (λ bs e. program_abstracted same_exp s.numbers (context_at at) table (Whole (exp_of c.in_ok-test.test.right.value) ∷ Whole (exp_of e) ∷ []) bs (mon_of c.args.body.now) ks) c.start-names.ensures c.deref.ensures in
-    ok_map c.looped.result _ (λ new. translated_in new.value ≡ program_there at (M.Loop (map start_of c.args.starts.now) guard test (mon_of c.args.body.now)) ks)
+    IfOk-weaker c.looped.result _ (λ new. translated_in new.value ≡ program_there at (M.Loop (map start_of c.args.starts.now) guard test (mon_of c.args.body.now)) ks)
     (λ new e. e ∙ loop_made same_exp s.numbers (context_at at) table (facts_at at) (binders_at at) (map start_of c.args.starts.now) guard test (mon_of c.args.body.now) ks (map start_of c.in_ok-begun.begun.starts.items)
     (λ more. with_trees c.in_ok-begun.begun.trees.items more) (abstracted_in c.in_ok-guard.guard) (abstracted_in c.in_ok-test.test) (translated_in c.in_ok-a.a.value) c.in_ok-begun.ensures.starts c.in_ok-begun.ensures.trees guarded tested body) c.looped.ensures
 
@@ -87,5 +87,5 @@ under-returns t c =
     let pushed : c.push.new.self.items ≡ c.in_ok-facts.facts.items ++ more ∷ [] = search rules in
     let facts : newest_first (map fact_in c.deref.result.now) [] ≡ (if c.args.holds then Whole (exp_of c.args.condition.now) else NotTrue (exp_of c.args.condition.now)) ∷ facts_at at =
     ap (λ fs. newest_first (map fact_in fs) []) (c.deref.ensures.value ∙ pushed) ∙ newest_push fact_in c.in_ok-facts.facts.items more [] ∙ ap (λ fs. fact_in more ∷ fs) c.in_ok-facts.ensures in
-    ok_map c.part.result _ (λ new. translated_in new.value ≡ program_under at c.args.holds (exp_of c.args.condition.now) (mon_of c.args.m.now) ks)
+    IfOk-weaker c.part.result _ (λ new. translated_in new.value ≡ program_under at c.args.holds (exp_of c.args.condition.now) (mon_of c.args.m.now) ks)
     (λ new e. e ∙ ap (λ fs. program_abstracted same_exp at.setting.now.numbers (context_at at) (λ x. local_kinds at.setting.now x) fs (binders_at at) (mon_of c.args.m.now) ks) facts) c.part.ensures

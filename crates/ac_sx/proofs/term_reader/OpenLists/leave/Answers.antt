@@ -1,12 +1,13 @@
 use Rattle.std.proofs.Common.{Some, reverse, map, ap, sym, subst, ◌∙◌}
 use Rattle.std.specs.Prelude.{Vec}
 use Rattle.std.specs.declared.alloc.Global.{Global}
+use Rattle.std.proofs.lemmas.Result.{on_ok_weaker}
 use Rattle.ac_sx.specs.declared.terms.TermId.{TermId}
 use Rattle.ac_sx.specs.Tree.{Node}
 use Rattle.ac_sx.specs.Table.{trees_at, trees_of}
 use Rattle.ac_sx.specs.CodeBuilder.{left}
 use Rattle.ac_sx.specs.CodeTermReader.{open_of, numbers, building_in, with_part, Stands}
-use Rattle.ac_sx.proofs.Opened.{on_ok, opened, stands_left, around-pop}
+use Rattle.ac_sx.proofs.Opened.{opened, stands_left, around-pop}
 use Rattle.ac_sx.proofs.term_reader.OpenLists.leave.Goals as goal
 
 pub returns-clause-next : goal.returns-clause-next
@@ -19,4 +20,4 @@ returns-clause-next c =
     let found = c.in_ok-id.ensures.found ∙ ap (λ (v : Vec TermId Global). Some (Node (trees_at (trees_of old) (numbers v.items)))) c.replace-parts.ensures.value in
     let stands = stands_left old new o (numbers c.in-Some.outer.items) rest c.in_ok-id.id.0 popped c.requires.below c.intern.ensures.kept found in
     let after = ap (λ (v : Vec TermId Global). with_part (opened (numbers v.items) rest) c.in_ok-id.id.0) c.replace-parts.ensures.after in
-    on_ok c.place.result (λ put. subst (λ x. Stands new x (left (building_in old o))) (sym (put ∙ after)) stands) c.place.ensures
+    on_ok_weaker c.place.result (λ put. subst (λ x. Stands new x (left (building_in old o))) (sym (put ∙ after)) stands) c.place.ensures

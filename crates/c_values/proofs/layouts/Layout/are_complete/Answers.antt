@@ -1,9 +1,9 @@
 use Rattle.std.proofs.Common.{◌≡◌, ◌<◌, map, length, get_or, ap, sym, ◌∙◌, rules}
-use Rattle.std.proofs.lemmas.Bool.{not-true}
+use Rattle.std.proofs.lemmas.Bool.{not-true, not-false}
 use Rattle.std.proofs.lemmas.List.{get_or-map, length-map}
 use Rattle.c_values.specs.Layout.{shape_of}
 use Rattle.c_values.specs.CodeLayout.{member_of}
-use Rattle.c_values.proofs.Following.{complete_further, incomplete_here, not_false}
+use Rattle.c_values.proofs.Following.{complete_further, incomplete_here}
 use Rattle.c_values.proofs.layouts.Layout.are_complete.Goals as goal
 
 pub returns-then-not-extent : goal.returns-then-not-extent
@@ -26,4 +26,4 @@ loop-ty-preserved c =
     let within' : i < length (map member_of ms) = rw length-map within in
     let here : m ≡ get_or (map member_of ms) i m = ap member_of c.loop-ty-item.is ∙ sym (get_or-map member_of ms i c.loop-ty-item.result m within)
     in
-    c.loop-ty.invariant ∙ complete_further (shape_of c.args.self.now) (map member_of ms) i m within' here (sym c.extent.ensures.measures.complete ∙ not_false c.extent.result.complete c.if-not-extent.false)
+    c.loop-ty.invariant ∙ complete_further (shape_of c.args.self.now) (map member_of ms) i m within' here (sym c.extent.ensures.measures.complete ∙ not-false c.extent.result.complete c.if-not-extent.false)

@@ -1,5 +1,6 @@
 use Rattle.std.proofs.Common.{rules, ◌≡◌, ◌<◌, List, [], ◌∷◌, length, reverse, map, Some, Err, refl, sym, subst}
 use Rattle.std.specs.Prelude.{IfErr}
+use Rattle.std.proofs.lemmas.List.{nil_from_length}
 use Rattle.correspondence.specs.Outcome.{Done}
 use Rattle.c_values.specs.CodeValue.{value_of}
 use Rattle.expression_lang.specs.Sort.{Scalar}
@@ -10,7 +11,7 @@ use Rattle.program_runs.specs.declared.machine.Next as N
 use Rattle.program_runs.specs.declared.machine.Pending as W
 use Rattle.program_runs.specs.Machine.{Machine, Gave, setting_at, machine_cost, runs_at, turns_at}
 use Rattle.program_runs.specs.CodeRun.{state_in, stack_of, machine_at, machine_in, now_of, bound_of, turns_of, AreMarked, HasStopped}
-use Rattle.program_runs.proofs.Whole.{Goes, same_ends, can_run, can_turn, whole_stops, step_goes, step_less, popped_first, none_there}
+use Rattle.program_runs.proofs.Whole.{Goes, same_ends, can_run, can_turn, whole_stops, step_goes, step_less, popped_first}
 use Rattle.program_runs.proofs.machine.Setting.run.Goals as goal
 
 pub steps-init : goal.steps-init
@@ -136,7 +137,7 @@ returns-in-None-clause-gives g c =
     let inv : Goes fu k first Gives (machine_in g.H.Heap.content u bs items c.steps.next c.steps.state) = record { sorted = c.steps.invariant.sorted; within = c.steps.invariant.within } in
     let here : Goes fu k first Gives (machine_at bs items (now_of bs (N.TheVariants.Gave c.in-Gave.values)) s) = subst (λ n. Goes fu k first Gives (machine_at bs items (now_of bs n) s)) c.in-Gave.is inv in
     let zero : length items ≡ 0 = search rules in
-    let none : items ≡ [] = none_there items zero in
+    let none : items ≡ [] = nil_from_length items zero in
     let last = subst (λ xs. Goes fu k first Gives (machine_at bs xs (Gave (map value_of c.in-Gave.values.items)) s)) none here in
     last.within.each (Done (record { values = map value_of c.in-Gave.values.items; state = s })) refl
 
