@@ -1,6 +1,6 @@
 -- Where two lists of expressions differ in one place alone, the step is there; and an expression is one step apart from itself
 -- exactly where a constant is in it.
-use Rattle.std.proofs.Common.{◌≡◌, ◌≢◌, ◌↔◌, ◌<◌, ◌+◌, ℕ, zero, suc, Bool, true, false, not, ◌||◌, List, [], ◌∷◌, ◌++◌, Some, ◌⊎◌, inl, inr, refl, sym, ap, ap₂, ◌∙◌, subst, ℤ, arith}
+use Rattle.std.proofs.Common.{◌≡◌, ◌≢◌, ◌↔◌, ◌<◌, ◌+◌, ℕ, zero, suc, Bool, true, false, not, ◌||◌, List, [], ◌∷◌, ◌++◌, Some, inl, inr, refl, sym, ap, ap₂, ◌∙◌, subst, ℤ, arith}
 use Rattle.std.proofs.lemmas.Bool.{true≢false, or_cases, or_left, or_right}
 use Rattle.std.proofs.Math.Bool.{or-false}
 use Rattle.c_values.specs.Word.{Word}
@@ -9,12 +9,12 @@ use Rattle.expression_lang.specs.Expression.{Exp, Var, WordLit, NumberLit, Truth
 use Rattle.expression_lang.specs.Form.{has, path_has}
 use Rattle.expression_lang.specs.Sort.{Scope}
 use Rattle.c_values.specs.Number.{Add}
+use Rattle.c_values.proofs.Options.{some_is}
 use Rattle.ac_expr.specs.Fact.{Fact}
 use Rattle.ac_expr.specs.Heads.{head, children, path_children}
 use Rattle.ac_expr.specs.Step.{is_open, is_wide, constant, constant_value, Shortens, IsItsValue, IsStep, at_each, child_facts, OneStepApart, shorter, longer, inside, OneOfThem, this, later}
 use Rattle.ac_expr.proofs.Apart.{Inside, apart_is, is_apart, one_is, is_one}
 use Rattle.ac_expr.proofs.HeadsAgree.{filled, whole}
-use Rattle.ac_expr.proofs.ConstantsSound.{some_is}
 use Rattle.ac_expr.specs.CodeApart.{is_literal, IsAmong, size, path_size}
 
 -- one of a list

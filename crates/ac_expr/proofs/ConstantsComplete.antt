@@ -1,71 +1,32 @@
 -- Of a well-sorted expression of constants alone a value is computed, of its sort.
-use Rattle.std.proofs.Common.{◌≡◌, ◌<◌, ℕ, ◌^◌, ◌==◌, nat_lt, Bool, true, false, not, cond, ◌&&◌, ◌||◌, Option, Some, None, ℤ, pos, negsuc, ◌-◌, refl, sym, ap, ap₂, ◌∙◌, subst}
-use Rattle.std.specs.Prelude.{neg_ℤ, ◌+ℤ◌, ◌-ℤ◌, ◌*ℤ◌, int_lt, int_le, bit_and, bit_or, bit_xor}
-use Rattle.std.specs.Int.{int_div_euclid}
+use Rattle.std.proofs.Common.{◌≡◌, ◌<◌, ℕ, ◌^◌, ◌==◌, nat_lt, Bool, true, false, not, cond, ◌&&◌, ◌||◌, Option, Some, None, ℤ, pos, ◌-◌, refl, sym, ap, ap₂, ◌∙◌, subst}
+use Rattle.std.specs.Prelude.{neg_ℤ, ◌*ℤ◌, int_lt, int_le}
 use Rattle.std.proofs.lemmas.Bool.{and_parts, and_from, or_parts, ltb-true, true≢false}
 use Rattle.std.proofs.lemmas.Bool.Decides.{Decides-eqb, Decides-ltb}
 use Rattle.c_values.specs.Types.{address_width}
-use Rattle.c_values.specs.Word.{Word, IsWord, WordOp, Wadd, Wsub, Wmul, Wand, Wor, Wxor, Wudiv, Wumod, Wsdiv, Wsmod, ShiftOp, Wshl, Wushr, Wsshr, UnaryOp, Wneg, Wnot, unsigned, signed, word, word_op, word_shift, word_unary, word_test, is_shift, power_of_two}
-use Rattle.c_values.specs.Number.{number_op, is_between, quotient, remainder}
+use Rattle.c_values.specs.Word.{Word, IsWord, unsigned, signed, word, word_op, word_shift, word_unary, word_test}
+use Rattle.c_values.specs.Number.{number_op, is_between}
 use Rattle.c_values.specs.Value.{Value, Bits, Number, Truth, Parts, word_in, number_in, same_value}
 use Rattle.c_values.specs.Layout.{Layout, Shape, Incomplete, Scalar as WordShape, Record, Row, space, size, size_of, shape_of, is_object}
 use Rattle.c_values.specs.Path.{Spot, Field, Index, member_spot, step_spot, IsBits}
+use Rattle.c_values.proofs.Options.{some_is}
 use Rattle.c_memory.specs.Memory.{address_at}
 use Rattle.c_memory.specs.CodePlace.{place_from}
 use Rattle.c_memory.specs.Tags.{is_pointer_ok}
-use Rattle.expression_lang.specs.Expression.{Exp, CastOp, Zext, Sext, Trunc, Var, WordLit, NumberLit, TruthLit, WordBinary, WordShift, WordUnary, WordCompare, Cast, ToNat, ToInt, ToWord, Arith, Negate, Lt, Le, Between, Eq, And, Or, Imp, Not, If, Padd, At, Load, Read, Tagged, PtrOk, Global, Sel, Upd, Path, Here, IntoField, IntoElement}
+use Rattle.expression_lang.specs.Expression.{Exp, Var, WordLit, NumberLit, TruthLit, WordBinary, WordShift, WordUnary, WordCompare, Cast, ToNat, ToInt, ToWord, Arith, Negate, Lt, Le, Between, Eq, And, Or, Imp, Not, If, Padd, At, Load, Read, Tagged, PtrOk, Global, Sel, Upd, Path, Here, IntoField, IntoElement}
 use Rattle.expression_lang.specs.Evaluation.{cast_op, if_truth}
 use Rattle.expression_lang.specs.Form.{has, path_has}
 use Rattle.expression_lang.specs.Sort.{Scope, Sort, Of, PartsSort, WordSort, NumberSort, TruthSort, sort_of, shape_along, shape_in, is_width, is_unary, word_width, word_sort, is_word_of, is_number, is_truth, are_same, number_sort, truth_sort, where_holds, of_word, of_shape, cast_fits}
 use Rattle.expression_lang.specs.States.{IsOfSort}
-use Rattle.expression_lang.proofs.Good.{is_word, address_below}
+use Rattle.expression_lang.proofs.Good.{address_below}
 use Rattle.expression_lang.proofs.Inversion.{where_inv, words_inv, word_inv, width_inv, number_inv, truth_inv, word_of_inv, same_inv, shape_inv}
+use Rattle.expression_lang.proofs.Fine.{op_word, shift_word, unary_word, cast_word}
+use Rattle.expression_lang.proofs.Filled.{word_fits}
 use Rattle.ac_expr.specs.CodeConstants.{of_one, of_two, by_word, by_number, by_truth, by_words, by_numbers, by_truths, narrow, test_words, join_words, of_width, by_address, pointer, moved_by, object_ok, at_address, at_place, number_of, at_index, computed, computed_at}
 use Rattle.ac_expr.specs.Step.{is_wide}
-use Rattle.ac_expr.proofs.ConstantsSound.{some_is, test, at, right, itself_not_wide}
+use Rattle.ac_expr.proofs.ConstantsSound.{test, at, right, itself_not_wide}
 
 -- words of a width
-
-word_at : (m n : ℕ) (z : ℤ) → m ≡ n → IsWord n (word m z)
-word_at m n z e = subst (λ k. IsWord k (word m z)) e (is_word m z)
-
-op_word : (n : ℕ) (op : WordOp) (a b : Word) → IsWord n a → IsWord n (word_op op a b)
-op_word n Wadd a b h = word_at a.width n (unsigned a +ℤ unsigned b) h.has_width
-op_word n Wsub a b h = word_at a.width n (unsigned a -ℤ unsigned b) h.has_width
-op_word n Wmul a b h = word_at a.width n (unsigned a *ℤ unsigned b) h.has_width
-op_word n Wand a b h = word_at a.width n (pos (bit_and a.bits b.bits)) h.has_width
-op_word n Wor a b h = word_at a.width n (pos (bit_or a.bits b.bits)) h.has_width
-op_word n Wxor a b h = word_at a.width n (pos (bit_xor a.bits b.bits)) h.has_width
-op_word n Wudiv a b h = word_at a.width n (quotient (unsigned a) (unsigned b)) h.has_width
-op_word n Wumod a b h = word_at a.width n (remainder (unsigned a) (unsigned b)) h.has_width
-op_word n Wsdiv a b h = word_at a.width n (quotient (signed a) (signed b)) h.has_width
-op_word n Wsmod a b h = word_at a.width n (remainder (signed a) (signed b)) h.has_width
-
-either_word : (n : ℕ) (b : Bool) (v w : Word) → IsWord n v → IsWord n w → IsWord n (cond b v w)
-either_word n true v w h k = h
-either_word n false v w h k = k
-
-shift_word : (n : ℕ) (op : ShiftOp) (a : Word) (z : ℤ) → IsWord n a → IsWord n (word_shift op a z)
-shift_word n Wshl a z h =
-    either_word n (is_shift a.width z) (word a.width (unsigned a *ℤ power_of_two z)) (word a.width (pos 0))
-    (word_at a.width n (unsigned a *ℤ power_of_two z) h.has_width) (word_at a.width n (pos 0) h.has_width)
-shift_word n Wushr a z h =
-    either_word n (is_shift a.width z) (word a.width (int_div_euclid (unsigned a) (power_of_two z))) (word a.width (pos 0))
-    (word_at a.width n (int_div_euclid (unsigned a) (power_of_two z)) h.has_width) (word_at a.width n (pos 0) h.has_width)
-shift_word n Wsshr a z h =
-    either_word n (is_shift a.width z) (word a.width (int_div_euclid (signed a) (power_of_two z)))
-    (word a.width (cond (int_lt (signed a) (pos 0)) (negsuc 0) (pos 0)))
-    (word_at a.width n (int_div_euclid (signed a) (power_of_two z)) h.has_width)
-    (word_at a.width n (cond (int_lt (signed a) (pos 0)) (negsuc 0) (pos 0)) h.has_width)
-
-unary_word : (n : ℕ) (op : UnaryOp) (a : Word) → IsWord n a → IsWord n (word_unary op a)
-unary_word n Wneg a h = word_at a.width n (neg_ℤ (unsigned a)) h.has_width
-unary_word n Wnot a h = word_at a.width n (pos (2 ^ a.width - 1) -ℤ unsigned a) h.has_width
-
-cast_word : (op : CastOp) (n : ℕ) (a : Word) → IsWord n (cast_op op n a)
-cast_word Zext n a = is_word n (unsigned a)
-cast_word Sext n a = is_word n (signed a)
-cast_word Trunc n a = is_word n (unsigned a)
 
 -- where something is computed
 
@@ -248,7 +209,7 @@ module _ (g : Scope) where
         let b = and_parts (is_width n) (is_number (sort_of g a)) j.0 in
         let x = as_number a (complete a (Of NumberSort) (number_inv (sort_of g a) b.1) k) in
         word_is (ToWord n a) n o (word n x.0) j.1
-        (ap (λ u. of_one u (by_number (λ z. of_width n (word n z)))) x.1 ∙ if_some (is_width n) (Some (Bits (word n x.0))) b.0) (is_word n x.0)
+        (ap (λ u. of_one u (by_number (λ z. of_width n (word n z)))) x.1 ∙ if_some (is_width n) (Some (Bits (word n x.0))) b.0) (word_fits n x.0)
     complete (Arith op a b) o q h =
         let k = two_alone (Arith op a b) a b refl h in
         let i = where_inv (not (is_unary op) && is_number (sort_of g a) && is_number (sort_of g b)) number_sort o q in

@@ -10,6 +10,7 @@ use Rattle.c_values.specs.Number.{number_op, is_between}
 use Rattle.c_values.specs.Value.{Value, Bits, Number, Truth, Parts, word_in, number_in, truth_in, same_value}
 use Rattle.c_values.specs.Layout.{Layout, Shape, space, size_of, shape_of, is_object}
 use Rattle.c_values.specs.Path.{Step, Field, Index, Spot, step_spot, spot, further, and_then_spot}
+use Rattle.c_values.proofs.Options.{some_is}
 use Rattle.c_memory.specs.Memory.{address_at}
 use Rattle.c_memory.specs.CodePlace.{place_from}
 use Rattle.c_memory.specs.Tags.{is_pointer_ok}
@@ -24,9 +25,6 @@ use Rattle.expression_lang.proofs.HasShape.{has_itself}
 use Rattle.ac_expr.specs.Step.{is_open, is_wide, no_state, constant_value}
 use Rattle.ac_expr.specs.CodeConstants.{of_one, of_two, by_word, by_number, by_truth, by_words, by_numbers, by_truths, narrow, test_words, join_words, of_width, by_address, pointer, moved_by, object_ok, at_address, at_place, number_of, at_index, computed, computed_at}
 
-pub some_is : {A : Type 0} {a b : A} → ◌≡◌ {A = Option A} (Some a) (Some b) → a ≡ b
-some_is h = cc
-
 -- from what is computed back to the parts
 
 pub one_inv : (o : Option Value) (f : Value → Option Value) (v : Value) → of_one o f ≡ Some v → (a : Value) × (o ≡ Some a) × (f a ≡ Some v)
@@ -40,7 +38,7 @@ two_inv None None f v h = absurd cc
 two_inv None (Some b) f v h = absurd cc
 two_inv (Some a) None f v h = absurd cc
 
-if_inv : {A : Type 0} (b : Bool) (o : Option A) (v : A) → cond b o None ≡ Some v → (b ≡ true) × (o ≡ Some v)
+pub if_inv : {A : Type 0} (b : Bool) (o : Option A) (v : A) → cond b o None ≡ Some v → (b ≡ true) × (o ≡ Some v)
 if_inv true o v h = (refl, h)
 if_inv false o v h = absurd cc
 

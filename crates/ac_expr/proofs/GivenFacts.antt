@@ -30,13 +30,13 @@ pub given_more : (f : Fact) (fs : List Fact) (e : Exp) → IsGiven fs e → IsGi
 given_more f fs e h = inr (some_map (λ x. Gives fs x e) (λ x. Gives (f ∷ fs) x e) (λ x k. gives_more f fs x e k) fs h)
 
 -- an expression gives itself
-gives_itself : (fs : List Fact) (e : Exp) → Gives fs e e
+pub gives_itself : (fs : List Fact) (e : Exp) → Gives fs e e
 gives_itself fs (And a b) = inl refl
 gives_itself fs (Imp c d) = inl refl
 gives_itself fs (Between low x high) = inl refl
 gives_itself fs e = refl
 
-at_once_itself : (e : Exp) → GivesAtOnce e e
+pub at_once_itself : (e : Exp) → GivesAtOnce e e
 at_once_itself (And a b) = inl refl
 at_once_itself (Between low x high) = inl refl
 at_once_itself e = refl

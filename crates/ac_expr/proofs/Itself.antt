@@ -3,17 +3,14 @@ use Rattle.std.proofs.Common.{◌≡◌, ℕ, ◌==◌, Bool, true, false, ◌&&
 use Rattle.std.specs.Ordering.{int_eq}
 use Rattle.std.proofs.lemmas.Bool.{and_from}
 use Rattle.std.proofs.lemmas.Bool.Decides.{Decides-int_eq}
-use Rattle.std.proofs.lemmas.Slice.Eq.{bytes_eq-Decides}
-use Rattle.c_values.specs.Name.{Name, same_name}
+use Rattle.c_values.specs.Name.{same_name}
 use Rattle.c_values.specs.Types.{same_type}
 use Rattle.c_values.specs.CodeSameType.{same_type-refl}
 use Rattle.c_values.specs.Word.{Word}
 use Rattle.c_values.specs.Value.{same_truth}
+use Rattle.c_values.proofs.Laid.{same_name-refl}
 use Rattle.expression_lang.specs.Expression.{Exp, Var, WordLit, NumberLit, TruthLit, WordBinary, WordShift, WordUnary, WordCompare, Cast, ToNat, ToInt, ToWord, Arith, Negate, Lt, Le, Between, Eq, And, Or, Imp, Not, If, Padd, At, Load, Read, Tagged, PtrOk, Global, Sel, Upd, Path, Here, IntoField, IntoElement}
 use Rattle.ac_expr.specs.SameExp.{number_of_word_op, number_of_shift_op, number_of_unary_op, number_of_word_test, number_of_cast_op, number_of_number_op, same_word_op, same_shift_op, same_unary_op, same_word_test, same_cast_op, same_number_op, same_word, same_exp, same_path}
-
-name_itself : (x : Name) → same_name x x ≡ true
-name_itself x = (bytes_eq-Decides x x).1 refl
 
 nat_itself : (n : ℕ) → (n == n) ≡ true
 nat_itself n = eq-eqb n n refl
@@ -30,7 +27,7 @@ word_itself w = and_from (w.width == w.width) (w.bits == w.bits) (nat_itself w.w
 
 mutual
   pub exp_itself : (e : Exp) → same_exp e e ≡ true
-  exp_itself (Var a) = name_itself a
+  exp_itself (Var a) = same_name-refl a
   exp_itself (WordLit a) = word_itself a
   exp_itself (NumberLit a) = int_itself a
   exp_itself (TruthLit a) = truth_itself a
@@ -81,7 +78,7 @@ mutual
       (and_from (same_type a a) (same_exp b b) (same_type-refl a) (exp_itself b)) (path_itself c)
   exp_itself (Tagged a b) = and_from (same_type a a) (same_exp b b) (same_type-refl a) (exp_itself b)
   exp_itself (PtrOk a b) = and_from (same_type a a) (same_exp b b) (same_type-refl a) (exp_itself b)
-  exp_itself (Global a b) = and_from (same_name a a) (same_path b b) (name_itself a) (path_itself b)
+  exp_itself (Global a b) = and_from (same_name a a) (same_path b b) (same_name-refl a) (path_itself b)
   exp_itself (Sel a b) = and_from (same_exp a a) (same_path b b) (exp_itself a) (path_itself b)
   exp_itself (Upd a b c) =
       and_from ((same_exp a a) && (same_path b b)) (same_exp c c)

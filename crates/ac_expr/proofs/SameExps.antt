@@ -1,15 +1,13 @@
 -- Expressions that are found the same are.
-use Rattle.std.proofs.Common.{◌≡◌, ℕ, ◌==◌, Bool, true, false, ◌&&◌, ℤ, refl, ap, ap₂, ◌∙◌}
+use Rattle.std.proofs.Common.{◌≡◌, ℕ, ◌==◌, true, ◌&&◌, refl, ap, ap₂, ◌∙◌}
 use Rattle.std.specs.Ordering.{int_eq}
 use Rattle.std.proofs.lemmas.Bool.{and_parts, eqb-true, false≢true}
-use Rattle.std.proofs.lemmas.Bool.Decides.{Decides-int_eq}
 use Rattle.c_values.specs.Name.{same_name}
 use Rattle.c_values.specs.Types.{same_type}
 use Rattle.c_values.specs.Word.{Word, WordOp, Wadd, Wsub, Wmul, Wand, Wor, Wxor, Wudiv, Wumod, Wsdiv, Wsmod, ShiftOp, Wshl, Wushr, Wsshr, UnaryOp, Wneg, Wnot, WordTest, Wult, Wule, Wslt, Wsle}
 use Rattle.c_values.specs.Number.{NumberOp, Add, Sub, Mul, Div, Mod, Neg}
-use Rattle.c_values.specs.Value.{same_truth}
 use Rattle.c_values.proofs.Laid.{name_is}
-use Rattle.expression_lang.proofs.Decided.{type_is}
+use Rattle.expression_lang.proofs.Decided.{type_is, truth_is, number_is}
 use Rattle.expression_lang.specs.Expression.{Exp, Var, WordLit, NumberLit, TruthLit, WordBinary, WordShift, WordUnary, WordCompare, Cast, ToNat, ToInt, ToWord, Arith, Negate, Lt, Le, Between, Eq, And, Or, Imp, Not, If, Padd, At, Load, Read, Tagged, PtrOk, Global, Sel, Upd, Path, Here, IntoField, IntoElement, CastOp, Zext, Sext, Trunc}
 use Rattle.ac_expr.specs.SameExp.{number_of_word_op, number_of_shift_op, number_of_unary_op, number_of_word_test, number_of_cast_op, number_of_number_op, same_word_op, same_shift_op, same_unary_op, same_word_test, same_cast_op, same_number_op, same_word, same_exp, same_path}
 
@@ -85,15 +83,6 @@ word_is a b h =
     word_with : ℕ → ℕ → Word
     word_with w n = record { width = w; bits = n }
 
-int_is : (a b : ℤ) → int_eq a b ≡ true → a ≡ b
-int_is a b h = (Decides-int_eq a b).0 h
-
-truth_is : (a b : Bool) → same_truth a b ≡ true → a ≡ b
-truth_is true true h = refl
-truth_is false false h = refl
-truth_is true false h = absurd cc
-truth_is false true h = absurd cc
-
 nat_is : (a b : ℕ) → (a == b) ≡ true → a ≡ b
 nat_is a b h = eqb-true a b h
 
@@ -101,7 +90,7 @@ mutual
   pub exp_is : (e f : Exp) → same_exp e f ≡ true → e ≡ f
   exp_is (Var a) (Var a') h = ap (λ x. Var x) (name_is a a' h)
   exp_is (WordLit a) (WordLit a') h = ap (λ x. WordLit x) (word_is a a' h)
-  exp_is (NumberLit a) (NumberLit a') h = ap (λ x. NumberLit x) (int_is a a' h)
+  exp_is (NumberLit a) (NumberLit a') h = ap (λ x. NumberLit x) (number_is a a' h)
   exp_is (TruthLit a) (TruthLit a') h = ap (λ x. TruthLit x) (truth_is a a' h)
   exp_is (WordBinary a b c) (WordBinary a' b' c') h =
       let k = and_parts (same_word_op a a' && same_exp b b') (same_exp c c') h in
@@ -133,7 +122,7 @@ mutual
   exp_is (Between a b c) (Between a' b' c') h =
       let k = and_parts (int_eq a a' && same_exp b b') (int_eq c c') h in
       let j = and_parts (int_eq a a') (same_exp b b') k.0 in
-      ap₂ (λ x y. Between x y c) (int_is a a' j.0) (exp_is b b' j.1) ∙ ap (λ z. Between a' b' z) (int_is c c' k.1)
+      ap₂ (λ x y. Between x y c) (number_is a a' j.0) (exp_is b b' j.1) ∙ ap (λ z. Between a' b' z) (number_is c c' k.1)
   exp_is (Eq a b) (Eq a' b') h = let k = and_parts (same_exp a a') (same_exp b b') h in ap₂ (λ x y. Eq x y) (exp_is a a' k.0) (exp_is b b' k.1)
   exp_is (And a b) (And a' b') h = let k = and_parts (same_exp a a') (same_exp b b') h in ap₂ (λ x y. And x y) (exp_is a a' k.0) (exp_is b b' k.1)
   exp_is (Or a b) (Or a' b') h = let k = and_parts (same_exp a a') (same_exp b b') h in ap₂ (λ x y. Or x y) (exp_is a a' k.0) (exp_is b b' k.1)

@@ -1,22 +1,18 @@
 -- A program that gives a function's result from words is well-sorted in the scope that the words' rules have.
-use Rattle.std.proofs.Common.{◌≡◌, true, List, [], ◌∷◌, map, Option, Some, None, refl, sym, ap, ◌∙◌}
+use Rattle.std.proofs.Common.{◌≡◌, true, List, [], ◌∷◌, Option, Some, None, refl, sym, ap, ◌∙◌}
 use Rattle.std.proofs.lemmas.Bool.{false≢true, and_from, and_parts}
 use Rattle.c_values.specs.Name.{Name}
 use Rattle.c_values.specs.Layout.{GlobalVar, global_type}
 use Rattle.expression_lang.specs.Sort.{Kind, Scalar, word_sort_of, is_kind, are_kinds}
 use Rattle.expression_lang.specs.Signature.{Binder, Signature, binder, names_of, kinds_of}
-use Rattle.expression_lang.specs.Sorted.{names_with, result_scalars}
+use Rattle.expression_lang.specs.Sorted.{result_scalars}
 use Rattle.simpl_lang.specs.Command.{SimplUnit}
 use Rattle.monad_lang.specs.Program.{Mon}
 use Rattle.monad_lang.specs.Sorted.{are_scalars, scalars_given, setting_signed}
-use Rattle.rule_word.specs.Scopes.{names_in, with_kinds, words}
+use Rattle.rule_word.specs.Scopes.{with_kinds, words}
 use Rattle.rule_word.specs.CodeNames.{are_binders}
+use Rattle.rule_word.proofs.ScopesAfter.{names_after}
 use Rattle.acceptance.specs.Accepted.{is_on_words, word_context}
-
-names_by : (f : Kind → Scalar) (xs : List Name) (ks : List Kind) (bs : List Binder) → names_with xs (map f ks) (names_in f bs) ≡ names_in f (with_kinds xs ks bs)
-names_by f [] ks bs = refl
-names_by f (x ∷ xs) [] bs = refl
-names_by f (x ∷ xs) (k ∷ ks) bs = names_by f xs ks (binder x k ∷ bs)
 
 pub given_by : (ss : List Scalar) (o : Option (List Scalar)) → are_scalars ss o ≡ true → (given : List Scalar) × (o ≡ Some given)
 given_by ss (Some given) h = (given, refl)
@@ -25,7 +21,7 @@ given_by ss None h = absurd (false≢true h)
 pub given : (u : SimplUnit) (s : Signature) (m : Mon) → is_on_words u s m ≡ true →
     (given : List Scalar) × (scalars_given (words (word_context u) (with_kinds (names_of s.params) (kinds_of s.params) [])) m ≡ Some given)
 given u s m h =
-    let names = names_by word_sort_of (names_of s.params) (kinds_of s.params) [] in
+    let names = names_after word_sort_of (names_of s.params) (kinds_of s.params) [] in
     let there = given_by (result_scalars word_sort_of s.result) (scalars_given (setting_signed word_sort_of u.layout u.globals u.signatures s) m) h in
     (there.0, ap (λ (ns : Name → Option Scalar). scalars_given (record { scope = record { layout = u.layout; names = ns; globals = global_type u.globals }; functions = u.signatures; sort_for = word_sort_of }) m) (sym names) ∙ there.1)
 

@@ -1,36 +1,17 @@
 -- A verdict on a unit's certificate decides whether it is accepted, and there is one.
 use Rattle.std.proofs.Common.{◌≡◌, ℕ, ◌+◌, Bool, true, false, cond, List, [], ◌∷◌, inl, inr, Result, Ok, Err, refl, sym, subst, ap, ◌∙◌}
-use Rattle.std.proofs.lemmas.Bool.{false≢true, and_parts, and_from, cond-true}
+use Rattle.std.proofs.lemmas.Bool.{and_parts, and_from, cond-true}
 use Rattle.c_values.specs.Name.{same_name}
 use Rattle.c_values.proofs.Laid.{name_is, same_name-refl}
-use Rattle.expression_lang.specs.Sort.{Level, Bytes, Words, Numbers}
 use Rattle.expression_lang.specs.Signature.{Signature}
 use Rattle.simpl_lang.specs.Command.{SimplFn, SimplUnit}
 use Rattle.simpl_lang.specs.Sorted.{same_level}
+use Rattle.simpl_lang.proofs.SameKinds.{level_is, same_level-refl}
 use Rattle.acceptance.specs.Certificate.{Steps}
 use Rattle.acceptance.specs.Accepted.{IsFunctionAccepted, AreFunctionsAccepted}
 use Rattle.acceptance.specs.Verdict.{Place, Answer}
 use Rattle.acceptance.specs.UnitVerdict.{of_list, of_function, UnitAnswer, is_listed, listed, AreFunctionsVerdict, AfterList, IsUnitVerdict, DecidesFunctions, DecidesUnit}
-use Rattle.acceptance.proofs.Verdicts.{verdicts_decide, verdicts_are_one, accepted_by_steps, accepted_steps}
-
-ok_err : {E P : Type 0} {e : E} → ◌≡◌ {A = Result (Unit {0}) E} (Ok tt) (Err e) → P
-ok_err h = cc
-
-level_is : (a b : Level) → same_level a b ≡ true → a ≡ b
-level_is Bytes Bytes h = refl
-level_is Words Words h = refl
-level_is Numbers Numbers h = refl
-level_is Bytes Words h = absurd (false≢true h)
-level_is Bytes Numbers h = absurd (false≢true h)
-level_is Words Bytes h = absurd (false≢true h)
-level_is Words Numbers h = absurd (false≢true h)
-level_is Numbers Bytes h = absurd (false≢true h)
-level_is Numbers Words h = absurd (false≢true h)
-
-level_same : (a : Level) → same_level a a ≡ true
-level_same Bytes = refl
-level_same Words = refl
-level_same Numbers = refl
+use Rattle.acceptance.proofs.Verdicts.{verdicts_decide, verdicts_are_one, accepted_by_steps, accepted_steps, ok_err}
 
 listed_is : (f : SimplFn) (c : Steps) → is_listed f c ≡ true → (c.name ≡ f.name) × (c.level ≡ f.level)
 listed_is f c h =
@@ -51,7 +32,7 @@ module _ (u : SimplUnit) where
   accepted_is_listed f s c h =
       and_from (same_name f.name c.name) (same_level f.level c.level)
       (subst (λ x. same_name f.name x ≡ true) (sym h.name) (same_name-refl f.name))
-      (subst (λ l. same_level f.level l ≡ true) (sym h.level) (level_same f.level))
+      (subst (λ l. same_level f.level l ≡ true) (sym h.level) (same_level-refl f.level))
 
   accepted_are_listed : (at : ℕ) (fs : List SimplFn) (ss : List Signature) (cs : List Steps) →
       AreFunctionsAccepted u fs ss cs → listed at fs cs ≡ Ok tt

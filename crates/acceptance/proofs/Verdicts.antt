@@ -41,7 +41,7 @@ record TellsAll (V : Result (Unit {0}) Place → Type 0) (P : Type 0) : Type 0 w
   pub yes : V (Ok tt) → P
   pub no : (p : Place) → V (Err p) → P → ⊥
 
-ok_err : {E P : Type 0} {e : E} → ◌≡◌ {A = Result (Unit {0}) E} (Ok tt) (Err e) → P
+pub ok_err : {E P : Type 0} {e : E} → ◌≡◌ {A = Result (Unit {0}) E} (Ok tt) (Err e) → P
 ok_err h = cc
 
 before_tells : (p : Phase) (V : Answer → Type 0) (P : Type 0) (Rest : Result (Unit {0}) Place → Type 0) (Q : Type 0) →

@@ -1,36 +1,18 @@
 -- What well-formed units have of what steps need.
-use Rattle.std.proofs.Common.{◌≡◌, true, false, ◌&&◌, List, [], ◌∷◌, Option, Some, None, refl, sym, subst, ap}
-use Rattle.std.proofs.lemmas.Bool.{false≢true, and_parts, and_from, or_left, eqb-true}
+use Rattle.std.proofs.Common.{◌≡◌, true, false, ◌&&◌, List, [], ◌∷◌, Option, Some, None, refl, sym, subst}
+use Rattle.std.proofs.lemmas.Bool.{false≢true, and_parts, and_from, or_left}
 use Rattle.c_values.specs.Name.{same_name, are_distinct}
 use Rattle.c_values.proofs.Laid.{same_name-refl}
-use Rattle.expression_lang.specs.Sort.{Kind, WordKind, NatKind, IntKind, BoolKind, is_kind, are_kinds}
+use Rattle.expression_lang.specs.Sort.{Kind, is_kind, are_kinds}
 use Rattle.expression_lang.specs.Signature.{Binder, Signature, names_of, kinds_of}
 use Rattle.simpl_lang.specs.Command.{SimplFn, SimplUnit, kind_of}
 use Rattle.simpl_lang.specs.Exec.{result_local}
 use Rattle.simpl_lang.specs.Sorted.{IsWellFormed, same_kind, same_level, come_first, is_kind_of, holds_result, are_signed, is_sorted, scope_of, are_fns_sorted}
+use Rattle.simpl_lang.proofs.SameKinds.{local_is_kind, same_kind_is}
 use Rattle.rule_local.proofs.UnitsLifted.{outputs_local}
-use Rattle.rule_local.proofs.UnitsSorted.{local_is_kind}
 use Rattle.rule_word.specs.CodeNames.{is_result, are_results}
 use Rattle.acceptance.specs.CodeOutputs.{has_result}
 use Rattle.acceptance.specs.CodeReady.{is_ready, are_ready}
-
-same_kind_is : (k j : Kind) → same_kind k j ≡ true → k ≡ j
-same_kind_is (WordKind m) (WordKind n) h = ap (λ i. WordKind i) (eqb-true m n h)
-same_kind_is (NatKind m) (NatKind n) h = ap (λ i. NatKind i) (eqb-true m n h)
-same_kind_is (IntKind m) (IntKind n) h = ap (λ i. IntKind i) (eqb-true m n h)
-same_kind_is BoolKind BoolKind h = refl
-same_kind_is (WordKind m) (NatKind n) h = absurd (false≢true h)
-same_kind_is (WordKind m) (IntKind n) h = absurd (false≢true h)
-same_kind_is (WordKind m) BoolKind h = absurd (false≢true h)
-same_kind_is (NatKind m) (WordKind n) h = absurd (false≢true h)
-same_kind_is (NatKind m) (IntKind n) h = absurd (false≢true h)
-same_kind_is (NatKind m) BoolKind h = absurd (false≢true h)
-same_kind_is (IntKind m) (WordKind n) h = absurd (false≢true h)
-same_kind_is (IntKind m) (NatKind n) h = absurd (false≢true h)
-same_kind_is (IntKind m) BoolKind h = absurd (false≢true h)
-same_kind_is BoolKind (WordKind n) h = absurd (false≢true h)
-same_kind_is BoolKind (NatKind n) h = absurd (false≢true h)
-same_kind_is BoolKind (IntKind n) h = absurd (false≢true h)
 
 -- the local that holds the result is there, and its kind is one
 result_there : (k : Option Kind) (bs : List Binder) → holds_result k bs ≡ true → has_result bs k ≡ true

@@ -14,7 +14,7 @@ use Rattle.rule_eq.specs.Tidy.{KeepsForms}
 use Rattle.acceptance.specs.Certificate.{Step, Steps}
 use Rattle.acceptance.specs.Accepted.{is_on_numbers, IsWordStep, IsEqualStep}
 use Rattle.c_values.specs.Layout.{IsLayout}
-use Rattle.monad_sorts.proofs.ValuesTold.{scalars_are}
+use Rattle.monad_lang.proofs.Given.{given_there}
 use Rattle.polish.proofs.Translated.{translation_is_tidy}
 use Rattle.acceptance_laws.specs.Made.{unchanged, begins_at, tidy_last}
 
@@ -43,7 +43,7 @@ module _ (u : SimplUnit) (s : Signature) (c : Steps) where
   tidy_step laid e h =
       let at = begins_at u s in
       let p = and_parts (is_on_numbers u s c.word.program) (is_form_of c.level c.word.program) h.formed in
-      let given = scalars_are (result_scalars sort_of_kind s.result) (scalars_given at.setting c.word.program) p.0 in
+      let given = given_there (result_scalars sort_of_kind s.result) (scalars_given at.setting c.word.program) p.0 in
       let t = translation_is_tidy at laid c.word.program (result_scalars sort_of_kind s.result) given in
       simpler_step
       (subst (λ (x : Step Mon R.Rule). Takes at x.tree c.word.program x.program) (sym e) t.takes)

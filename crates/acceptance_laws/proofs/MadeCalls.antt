@@ -4,6 +4,7 @@ use Rattle.std.proofs.lemmas.Bool.{false≢true, and_parts, and_from}
 use Rattle.c_values.specs.Name.{Name, same_name}
 use Rattle.c_values.specs.Layout.{Layout}
 use Rattle.c_values.proofs.Laid.{name_is}
+use Rattle.c_values.proofs.Options.{some_is, none_is}
 use Rattle.expression_lang.specs.Sort.{Level, is_lifted, Scalar, Scope, is_truth, word_sort_of}
 use Rattle.expression_lang.specs.Signature.{Signature, signature}
 use Rattle.expression_lang.specs.Sorted.{program_sort, scalars_of, call_scalars}
@@ -15,16 +16,10 @@ use Rattle.heap_ready.proofs.CallsKept.{CallsOnly}
 use Rattle.acceptance.specs.Accepted.{calls_only, is_lifted_there}
 use Rattle.acceptance_laws.proofs.Signed.{signed}
 
-some_is : {A : Type 0} {a b : A} → ◌≡◌ {A = Option A} (Some a) (Some b) → a ≡ b
-some_is h = cc
-
-none_is_none : {A P : Type 0} {a : A} → ◌≡◌ {A = Option A} None (Some a) → P
-none_is_none h = cc
-
 -- a generated signature is at the level of its name
 pub level_there : (l : Layout) (levels : Name → Level) (fs : List TypedFn) (x : Name) (s : Signature) →
     signature (signed l levels fs) x ≡ Some s → is_lifted s.level ≡ is_lifted (levels x)
-level_there l levels [] x s e = none_is_none e
+level_there l levels [] x s e = none_is e
 level_there l levels (f ∷ fs) x s e = by_test (same_name f.name x) refl e (level_there l levels fs x s)
   where
     by_test : (b : Bool) → same_name f.name x ≡ b →

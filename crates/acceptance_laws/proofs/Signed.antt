@@ -15,9 +15,9 @@ use Rattle.rule_local.specs.Table.{word_kind}
 use Rattle.rule_local.specs.Lifted.{in_words, result_in_words, function_lifted, functions_lifted, unit_lifted}
 use Rattle.rule_local.proofs.UnitsSorted.{unit_formed}
 use Rattle.rule_word.specs.Scopes.{result_as_list}
+use Rattle.rule_local.proofs.UnitsLifted.{words_named}
 use Rattle.c_lang.specs.Typed.{TypedFn, TypedUnit}
 use Rattle.generation.specs.Generate.{function_of, signature_of, generated}
-use Rattle.word_ready.proofs.KindsFor.{still_named}
 use Rattle.acceptance.specs.Accepted.{is_lifted_there}
 
 pub record IsSigned (s : Signature) : Type 0 where
@@ -59,7 +59,7 @@ signed_as_lifted v f s ps rs h =
     record {
       params = sym (words_there s.params) ∙ ap (λ bs. are_kinds (kinds_of bs)) (sym ps) ∙ t.0;
       results = sym (result_there s.result) ∙ ap are_kinds (sym rs) ∙ t.1;
-      distinct = ap are_distinct (sym (still_named s.params)) ∙ ap (λ bs. are_distinct (names_of bs)) (sym ps) ∙ r.1;
+      distinct = ap are_distinct (sym (words_named s.params)) ∙ ap (λ bs. are_distinct (names_of bs)) (sym ps) ∙ r.1;
     }
 
 -- what generation makes of functions over a layout, at levels

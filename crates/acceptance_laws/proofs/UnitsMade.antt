@@ -13,7 +13,9 @@ use Rattle.monad_lang.specs.Program.{Mon, FinalFn, FinalUnit}
 use Rattle.monad_lang.specs.Sorted.{has_few, are_scalars, scalars_given, signature_of, setting_of, is_fn_sorted, are_fns_sorted, IsWellFormed}
 use Rattle.rule_local.specs.Lifted.{in_words, result_in_words}
 use Rattle.rule_word.specs.Scopes.{result_as_list}
-use Rattle.word_ready.proofs.KindsFor.{still_named, words_of_kinds, word_of_result}
+use Rattle.rule_local.proofs.UnitsSorted.{few_results, sorts_in_words}
+use Rattle.rule_local.proofs.UnitsLifted.{words_named}
+use Rattle.word_ready.proofs.KindsFor.{word_of_result}
 use Rattle.word_ready.proofs.SignaturesAlike.{result_in_word, signature_in_words, in_words_all, given_in_words}
 use Rattle.acceptance.specs.Certificate.{Steps}
 use Rattle.acceptance.specs.Accepted.{is_on_words, is_on_numbers, IsFunctionAccepted, AreFunctionsAccepted}
@@ -86,10 +88,6 @@ pub results_there : (f : Kind → Scalar) (r : Option Kind) → map f (result_as
 results_there f None = refl
 results_there f (Some k) = refl
 
-few_in_words : (r : Option Kind) → has_few (result_in_words r) ≡ true
-few_in_words None = refl
-few_in_words (Some k) = refl
-
 few : (r : Option Kind) → has_few (result_as_list r) ≡ true
 few None = refl
 few (Some k) = refl
@@ -127,7 +125,7 @@ module _ (u : SimplUnit) (fs : List FinalFn) (s : Signature) (m : Mon) where
   gives_words e =
       ap₂ are_scalars (word_of_result s.result ∙ results_there word_sort_of s.result)
       (ap₂ (λ g gs. scalars_given (record { scope = g; functions = gs; sort_for = sort_of_kind }) m)
-      (ap₂ (λ xs ss. scope_with xs ss (base u)) (still_named s.params) (words_of_kinds s.params)) e
+      (ap₂ (λ xs ss. scope_with xs ss (base u)) (words_named s.params) (sorts_in_words s.params)) e
       ∙ sym (given_in_words u.signatures u.signatures refl m
       (scope_with (names_of s.params) (map word_sort_of (kinds_of s.params)) (base u))))
 
@@ -144,8 +142,8 @@ module _ (u : SimplUnit) (program : Steps → Mon) (cs : List Steps) where
       OnWords u program s c → is_fn_sorted (unit_with on_words program u cs) (on_words s (program c)) ≡ true
   word_function all s c signed sorted =
       and_from _ _ (and_from _ _ (and_from _ _ (and_from _ _ (words_there s.params ∙ signed.params)
-      (result_there s.result ∙ signed.results)) (ap are_distinct (still_named s.params) ∙ signed.distinct))
-      (few_in_words s.result))
+      (result_there s.result ∙ signed.results)) (ap are_distinct (words_named s.params) ∙ signed.distinct))
+      (few_results s.result))
       (gives_words u (functions_with on_words program u.signatures cs) s (program c)
       (signatures_made on_words program (OnWords u program) signature_in_words words_signed u.signatures cs all) ∙ sorted)
 

@@ -3,7 +3,7 @@ use Rattle.std.proofs.Common.{◌≡◌, Bool, true, false, cond, List, [], ◌�
 use Rattle.std.proofs.lemmas.Bool.{and_parts}
 use Rattle.c_values.specs.Name.{Name}
 use Rattle.c_values.specs.Layout.{Layout}
-use Rattle.expression_lang.specs.Sort.{Level, is_lifted, Kind, sort_of_kind}
+use Rattle.expression_lang.specs.Sort.{Level, is_lifted, sort_of_kind}
 use Rattle.expression_lang.specs.Signature.{Signature, signature}
 use Rattle.simpl_lang.specs.Command.{SimplFn, SimplUnit}
 use Rattle.monad_lang.specs.Program.{Mon, FinalFn}
@@ -19,12 +19,15 @@ use Rattle.rule_word.specs.Scopes.{result_as_list}
 use Rattle.rule_eq.specs.Table as Rules
 use Rattle.rule_eq.specs.Table.{point}
 use Rattle.rule_eq.specs.Units as Equality
+use Rattle.rule_local.proofs.UnitsSorted.{sorts_in_words}
+use Rattle.rule_local.proofs.UnitsLifted.{words_named}
 use Rattle.c_lang.specs.Typed.{TypedFn, TypedUnit}
 use Rattle.generation.specs.Generate.{function_of, signature_of, generated}
-use Rattle.exactness.specs.Exact.{results_of, ArePrograms}
-use Rattle.word_ready.proofs.KindsFor.{still_named, words_of_kinds, word_of_result}
+use Rattle.exactness.specs.Exact.{ArePrograms}
+use Rattle.word_ready.proofs.KindsFor.{word_of_result}
 use Rattle.acceptance.specs.Certificate.{Step, Steps, before_words}
 use Rattle.acceptance.specs.Accepted.{calls_only, is_lifted_there, IsHeapStep, IsFunctionAccepted, AreFunctionsAccepted}
+use Rattle.pipeline.proofs.TranslatedExact.{same_results}
 use Rattle.acceptance_laws.specs.Units.{flat_functions, on_words, on_numbers, functions_with}
 use Rattle.acceptance_laws.proofs.CallsTaken.{flat_calls, local_calls}
 use Rattle.acceptance_laws.proofs.Signed.{made, signed, lifted_level}
@@ -43,7 +46,7 @@ module _ (u : SimplUnit) (l : Layout) (levels : Name → Level) where
     record {
       signed = refl;
       name = refl;
-      parameters = still_named (signature_of l (levels f.name) f).params;
+      parameters = words_named (signature_of l (levels f.name) f).params;
       tree = c.local.tree;
       takes = h.0.local.takes;
     },
@@ -114,8 +117,8 @@ module _ (u : SimplUnit) (functions : List Signature) (same : functions ≡ u.si
     record {
       name = refl;
       level = refl;
-      parameters = still_named s.params;
-      words = words_of_kinds s.params;
+      parameters = words_named s.params;
+      words = sorts_in_words s.params;
       results = word_of_result s.result;
       tree = c.word.tree;
       takes = subst (λ gs. Words.Takes (record { layout = u.layout; globals = u.globals; functions = gs })
@@ -147,16 +150,12 @@ module _ (u : SimplUnit) (functions : List Signature) (same : functions ≡ u.si
 
 -- The last programs are the functions' at their levels.
 
-results_as_list : (r : Option Kind) → result_as_list r ≡ results_of r
-results_as_list None = refl
-results_as_list (Some k) = refl
-
 pub last_are_programs : (u : SimplUnit) (l : Layout) (levels : Name → Level) (fs : List TypedFn) (cs : List Steps) →
     AreAccepted u l levels fs cs →
     ArePrograms l.target levels fs (functions_with on_numbers (λ c. c.equal.program) (signed l levels fs) cs)
 last_are_programs u l levels [] [] h = tt
 last_are_programs u l levels (f ∷ fs) (c ∷ cs) h = (
-  record { name = refl; at_level = refl; params = refl; results = results_as_list (signature_of l (levels f.name) f).result },
+  record { name = refl; at_level = refl; params = refl; results = same_results (signature_of l (levels f.name) f).result },
   last_are_programs u l levels fs cs h.1,
 )
 last_are_programs u l levels [] (c ∷ cs) h = absurd h

@@ -1,5 +1,5 @@
 -- A set that has one name more.
-use Rattle.std.proofs.Common.{◌≡◌, Bool, true, false, cond, ◌||◌, List, refl, sym, ap, ◌∙◌, String, string_bytes}
+use Rattle.std.proofs.Common.{◌≡◌, Bool, true, false, cond, ◌||◌, List, refl, ap, ◌∙◌, String, string_bytes}
 use Rattle.std.proofs.lemmas.Map.Text.{hash_set_updates_text}
 use Rattle.std.specs.HashSet as bag
 use Rattle.std.specs.HashSet.{HashSet, contains_text}
@@ -9,14 +9,7 @@ use Rattle.std.specs.declared.alloc.Global.{Global as Heap}
 use Rattle.std.specs.declared.hash.FoldHasher.{FoldHasher}
 use Rattle.std.specs.declared.hash.BuildHasherDefault.{BuildHasherDefault}
 use Rattle.c_values.specs.Name.{Name, same_name, is_among}
-use Rattle.c_values.proofs.Laid.{same_name-refl, name_is, other_name}
-
-turned : (x y : Name) → same_name x y ≡ same_name y x
-turned x y = by_cases (same_name x y) refl
-  where
-    by_cases : (b : Bool) → same_name x y ≡ b → same_name x y ≡ same_name y x
-    by_cases true e = e ∙ sym (ap (λ z. same_name z x) (sym (name_is x y e)) ∙ same_name-refl x)
-    by_cases false e = e ∙ sym (other_name x y e)
+use Rattle.c_values.proofs.Names.{same_name_swapped}
 
 moved : (a r b : Bool) → (r || cond a true b) ≡ ((a || r) || b)
 moved true true b = refl
@@ -29,5 +22,5 @@ pub name_put : (q first : Name) (rest : List Name) (m n : HashSet (String Heap) 
 name_put q first rest m n k e u =
     ap (λ b. is_among q rest || b) (hash_set_updates_text (string_bytes k) m n true u q)
     ∙ ap (λ z. is_among q rest || cond (same_name z q) true (contains_text m q)) e
-    ∙ ap (λ b. is_among q rest || cond b true (contains_text m q)) (turned first q)
+    ∙ ap (λ b. is_among q rest || cond b true (contains_text m q)) (same_name_swapped first q)
     ∙ moved (same_name q first) (is_among q rest) (contains_text m q)

@@ -266,7 +266,7 @@ get_past : (p hs : List ℕ) (n : ℕ) → get_or (p ++ hs) (length p + n) 0 ≡
 get_past [] hs n = ap (λ k. get_or hs k 0) (omega arith)
 get_past (x ∷ p) hs n = let next : suc (length p) + n ≡ suc (length p + n) = omega arith in ap (λ k. get_or (x ∷ (p ++ hs)) k 0) next ∙ get_past p hs n
 
-take_within : (n m : ℕ) (xs : List ℕ) → n ≤ m → take n (take m xs) ≡ take n xs
+pub take_within : (n m : ℕ) (xs : List ℕ) → n ≤ m → take n (take m xs) ≡ take n xs
 take_within zero m xs h = refl
 take_within (suc n) zero xs h = absurd (omega arith)
 take_within (suc n) (suc m) [] h = refl

@@ -2,6 +2,7 @@
 use Rattle.std.proofs.Common.{ℕ, ◌≡◌, ◌∙◌, List, [], ◌∷◌, Option, Some, None, zero, suc, map, unwrap_or, refl, ap, arith}
 use Rattle.std.specs.Option.{option_map}
 use Rattle.std.proofs.lemmas.List.{append-nil}
+use Rattle.c_lex.proofs.TokenSpelling.{take_within}
 use Rattle.c_grammar.specs.declared.symbol.Production.{Production}
 use Rattle.c_limits.specs.declared.limits.Limit.TheVariants as limit
 use Rattle.c_limits.specs.declared.limits.role.Role.{Role}
@@ -9,7 +10,7 @@ use Rattle.c_limits.specs.declared.limits.role.Role.TheVariants as roles
 use Rattle.c_limits.specs.Limits.{Measure, Fault, beside, nothing, leftmost, node, statement, local, function, earlier}
 use Rattle.c_limits.specs.CodeRoles.{arity, role_of}
 use Rattle.c_limits.specs.CodeMeasure.{Part, cut, cut_part, joined, gathered, made, pushed, empty, reduced}
-use Rattle.c_limits.proofs.LimitsLists.{take_take, take_append, take_leftmost, get_take}
+use Rattle.c_limits.proofs.LimitsLists.{take_append, take_leftmost, get_take}
 use Rattle.c_limits.proofs.LimitsParts.{whole}
 
 cut_beside : (m n : Measure) → cut (beside (cut m) (cut n)) ≡ cut (beside m n)
@@ -46,11 +47,11 @@ cut_alone m =
 cut_node : (a : ℕ) (m : Measure) → cut (node a (cut m)) ≡ cut (node a m)
 cut_node a m =
     λ i. record {
-      functions = take_take 1025 1025 m.functions (omega arith) i;
-      statements = take_take 201 201 m.statements (omega arith) i;
-      blocks = take_take 33 33 m.blocks (omega arith) i;
-      nodes = a ∷ take_take 128 129 m.nodes (omega arith) i;
-      depth = a ∷ take_take 32 33 m.depth (omega arith) i;
+      functions = take_within 1025 1025 m.functions (omega arith) i;
+      statements = take_within 201 201 m.statements (omega arith) i;
+      blocks = take_within 33 33 m.blocks (omega arith) i;
+      nodes = a ∷ take_within 128 129 m.nodes (omega arith) i;
+      depth = a ∷ take_within 32 33 m.depth (omega arith) i;
       fault =
           earlier (option_map (λ b. (limit.Depth, b)) (get_take 31 33 m.depth (omega arith) i))
           (option_map (λ b. (limit.Nodes, b)) (get_take 127 129 m.nodes (omega arith) i));
@@ -59,9 +60,9 @@ cut_node a m =
 cut_statement : (a : ℕ) (m : Measure) → cut (statement a (cut m)) ≡ cut (statement a m)
 cut_statement a m =
     λ i. record {
-      functions = take_take 1025 1025 m.functions (omega arith) i;
-      statements = a ∷ take_take 200 201 m.statements (omega arith) i;
-      blocks = a ∷ take_take 32 33 m.blocks (omega arith) i;
+      functions = take_within 1025 1025 m.functions (omega arith) i;
+      statements = a ∷ take_within 200 201 m.statements (omega arith) i;
+      blocks = a ∷ take_within 32 33 m.blocks (omega arith) i;
       nodes = [];
       depth = [];
       fault = m.fault;
@@ -70,9 +71,9 @@ cut_statement a m =
 cut_local : (a : ℕ) (m : Measure) → cut (local a (cut m)) ≡ cut (local a m)
 cut_local a m =
     λ i. record {
-      functions = take_take 1025 1025 m.functions (omega arith) i;
-      statements = a ∷ take_take 200 201 m.statements (omega arith) i;
-      blocks = take_take 33 33 m.blocks (omega arith) i;
+      functions = take_within 1025 1025 m.functions (omega arith) i;
+      statements = a ∷ take_within 200 201 m.statements (omega arith) i;
+      blocks = take_within 33 33 m.blocks (omega arith) i;
       nodes = [];
       depth = [];
       fault = m.fault;
@@ -134,11 +135,11 @@ cut_reduced p ps =
 cut_twice : (m : Measure) → cut (cut m) ≡ cut m
 cut_twice m =
     λ i. record {
-      functions = take_take 1025 1025 m.functions (omega arith) i;
-      statements = take_take 201 201 m.statements (omega arith) i;
-      blocks = take_take 33 33 m.blocks (omega arith) i;
-      nodes = take_take 129 129 m.nodes (omega arith) i;
-      depth = take_take 33 33 m.depth (omega arith) i;
+      functions = take_within 1025 1025 m.functions (omega arith) i;
+      statements = take_within 201 201 m.statements (omega arith) i;
+      blocks = take_within 33 33 m.blocks (omega arith) i;
+      nodes = take_within 129 129 m.nodes (omega arith) i;
+      depth = take_within 33 33 m.depth (omega arith) i;
       fault = m.fault;
     }
 

@@ -10,14 +10,12 @@ use Rattle.c_values.proofs.Formed.{size_some}
 use Rattle.c_values.proofs.Leads.{Leads}
 use Rattle.c_values.proofs.Geometry.{IsWithin, leads_within}
 use Rattle.c_values.proofs.Laid.{IsGood, structs_of, shape_good}
+use Rattle.c_values.proofs.Options.{none_some}
 use Rattle.c_memory.specs.Memory.{Tag}
 use Rattle.c_memory.specs.Tags.{is_root_type, is_pointer_ok, IsTag, AreApart, ApartFrom, AreTags, IsPart, root_path, path_from, is_covered}
 use Rattle.c_memory.proofs.Objects.{object_complete}
 use Rattle.c_memory.proofs.Roots.{found_part, found_leads, part_reached}
 use Rattle.c_memory.proofs.OnePath.{leads_found}
-
-none_some : {A : Type 0} {a : A} → ◌≡◌ {A = Option A} None (Some a) → ⊥
-none_some h = cc
 
 -- a root within a tag's object, at the end of a path
 pub record IsRoot (l : Layout) (u : Tag) (t : CType) (a : ℕ) (path : List Step) : Type 0 where
@@ -122,7 +120,7 @@ contains_first y ys = (0, omega arith, refl)
 contains_later : {A : Type 0} (y : A) (ys : List A) (x : A) → Contains ys x → Contains (y ∷ ys) x
 contains_later y ys x (k, lt, e) = (suc k, omega arith, e)
 
-contains_nothing : {A : Type 0} (x : A) → Contains [] x → ⊥
+pub contains_nothing : {A : Type 0} (x : A) → Contains [] x → ⊥
 contains_nothing x h = omega (arith, h.1)
 
 pub tag_among : (l : Layout) (ts : List Tag) (u : Tag) → AreTags l ts → Contains ts u → IsTag l u
@@ -156,7 +154,7 @@ pub apart_from : (l : Layout) (t : Tag) (us : List Tag) (v : Tag) → ApartFrom 
 apart_from l t [] v h c = absurd (contains_nothing v c)
 apart_from l t (u ∷ us) v h c = elim (contains_cases u us v c) [ inl e ↦ subst (λ x. AreApart l t x) e h.0 | inr d ↦ apart_from l t us v h.1 d ]
 
-apart_at : (l : Layout) (u v : Tag) (a : ℕ) → AreApart l u v → (u.address ≤ a) × (a < u.address + size_of l u.type) → (v.address ≤ a) × (a < v.address + size_of l v.type) → ⊥
+pub apart_at : (l : Layout) (u v : Tag) (a : ℕ) → AreApart l u v → (u.address ≤ a) × (a < u.address + size_of l u.type) → (v.address ≤ a) × (a < v.address + size_of l v.type) → ⊥
 apart_at l u v a (inl h) p q = omega arith
 apart_at l u v a (inr h) p q = omega arith
 

@@ -4,17 +4,12 @@ use Rattle.std.proofs.lemmas.Bool.{cases_lt, cases_order}
 use Rattle.std.proofs.lemmas.Grind.{common_steps}
 use Rattle.std.specs.Ordering.{nat_cmp}
 use Rattle.std.specs.BTreeMap.{BTreeMap, get, is_at}
+use Rattle.c_values.proofs.Options.{some_is, none_some}
 use Rattle.c_memory.specs.Memory.{Tag}
 use Rattle.c_memory.specs.CodeNearest.{IsLastAt, IsFirstAfter}
 use Rattle.c_memory.specs.CodeTagIndex.{IsIndex, IsLastTag, IsNextTag}
 
-none_some : {A : Type 0} {a : A} → ◌≡◌ {A = Option A} None (Some a) → ⊥
-none_some h = cc
-
-some_same : {A : Type 0} {a b : A} → ◌≡◌ {A = Option A} (Some a) (Some b) → a ≡ b
-some_same h = cc
-
-is_some_of : {A : Type 0} (o : Option A) (a : A) → o ≡ Some a → IsSome o
+pub is_some_of : {A : Type 0} (o : Option A) (a : A) → o ≡ Some a → IsSome o
 is_some_of None a h = absurd (none_some h)
 is_some_of (Some b) a h = search rules
 
@@ -73,7 +68,7 @@ module _ (tags : List Tag) (places : BTreeMap ℕ ℕ) (index : IsIndex tags pla
   next_some a (Some k) h = next_tag a k h
 
 pushed_cases : {A : Type 0} (xs : List A) (x y : A) (k : ℕ) → slice_get (xs ++ x ∷ []) k ≡ Some y → (slice_get xs k ≡ Some y) ⊎ ((k ≡ length xs) × (x ≡ y))
-pushed_cases [] x y zero h = inr (refl, some_same h)
+pushed_cases [] x y zero h = inr (refl, some_is h)
 pushed_cases [] x y (suc k) h = absurd (none_some h)
 pushed_cases (z ∷ zs) x y zero h = inl h
 pushed_cases (z ∷ zs) x y (suc k) h = further (pushed_cases zs x y k h)
@@ -114,7 +109,7 @@ pushed tags old new t index apart here others = record { each = each; found = fo
 
         by_cases : (a ≡ t.address) ⊎ ((a < t.address) ⊎ (t.address < a)) → (u : Tag) × (slice_get (tags ++ t ∷ []) k ≡ Some u) × (u.address ≡ a)
         by_cases (inl c) =
-            let at : length tags ≡ k = some_same (sym here ∙ ap (λ b. get nat_cmp new b) (sym c) ∙ e) in
+            let at : length tags ≡ k = some_is (sym here ∙ ap (λ b. get nat_cmp new b) (sym c) ∙ e) in
             (t, ap (λ n. slice_get (tags ++ t ∷ []) n) (sym at) ∙ pushed_here tags t, sym c)
         by_cases (inr (inl c)) = old_one (λ same. omega arith)
         by_cases (inr (inr c)) = old_one (λ same. omega arith)

@@ -1,17 +1,17 @@
 -- Roots in objects, from one part to the part in it.
 use Rattle.std.proofs.Common.{◌≡◌, ℕ, zero, suc, ◌<◌, ◌≤◌, nat_eq, true, false, ◌&&◌, cond, max, List, [], Option, Some, None, is_some, refl, sym, ap, ◌∙◌, subst, arith}
-use Rattle.std.proofs.lemmas.Bool.{false≢true, cond-true, cond-false}
-use Rattle.c_values.specs.Types.{CType, Integer, Void, Ptr, Struct, Array, same_type}
-use Rattle.c_values.specs.Layout.{Layout, IsLayout, Shape, Incomplete, Scalar, Record, Row, Fields, no_fields, field, type_of, shape_of, size_of, is_object, is_scalar}
+use Rattle.std.proofs.lemmas.Bool.{cond-true, cond-false}
+use Rattle.c_values.specs.Types.{CType, same_type}
+use Rattle.c_values.specs.Layout.{Layout, IsLayout, Shape, Incomplete, Scalar, Record, Row, Fields, no_fields, field, type_of, shape_of, size_of, is_object}
 use Rattle.c_values.specs.Path.{Step, Field, Index, Spot, step_spot, member_spot}
 use Rattle.c_values.proofs.Formed.{size_some}
 use Rattle.c_values.proofs.Geometry.{leads_within}
 use Rattle.c_values.proofs.Laid.{IsLaid, IsGood, structs_of, shape_good, shape_type}
 use Rattle.c_values.proofs.Height.{height, highest}
-use Rattle.c_memory.specs.Tags.{is_root_type, root_path, prefixed}
+use Rattle.c_memory.specs.Tags.{root_path, prefixed}
 use Rattle.c_memory.specs.CodeInner.{inner_path, is_root_here, part_step, LiesIn, LiesInNone}
 use Rattle.c_memory.proofs.Objects.{object_complete}
-use Rattle.c_memory.proofs.Roots.{found_leads}
+use Rattle.c_memory.proofs.Roots.{found_leads, scalar_root}
 
 member_lower : (fs : Fields) (k : ℕ) (q : Spot) → member_spot fs k ≡ Some q → height q.shape ≤ highest fs
 member_lower no_fields k q e = absurd cc
@@ -36,13 +36,6 @@ step_lower Incomplete p q e = absurd cc
 step_lower (Scalar t width) p q e = absurd cc
 step_lower (Record x n align fs) (Index i) q e = absurd cc
 step_lower (Row e n) (Field k) q h = absurd cc
-
-scalar_root : (t : CType) → is_scalar t ≡ true → is_root_type t ≡ true
-scalar_root (Integer i) h = refl
-scalar_root (Ptr t) h = refl
-scalar_root Void h = absurd (false≢true h)
-scalar_root (Struct x) h = absurd (false≢true h)
-scalar_root (Array t n) h = absurd (false≢true h)
 
 -- the search for a root, from the outermost part on
 module _ (target : _) (structs : _) where

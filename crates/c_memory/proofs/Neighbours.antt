@@ -14,23 +14,18 @@ use Rattle.c_memory.specs.Tags.{IsTag, AreApart, ApartFrom, AreTags, root_path, 
 use Rattle.c_memory.specs.CodeTagIndex.{IsLastTag, AllEndBy, OneEndsAfter, AllBeginAfter, OneBeginsWithin}
 use Rattle.c_memory.specs.TagFault.{are_apart, is_apart}
 use Rattle.c_values.proofs.Formed.{size_some}
+use Rattle.c_values.proofs.Options.{some_is, none_some}
 use Rattle.c_memory.proofs.Covered.{root_of}
 use Rattle.c_memory.proofs.Rows.{object_some}
 
-none_some : {A : Type 0} {a : A} → ◌≡◌ {A = Option A} None (Some a) → ⊥
-none_some h = cc
-
-some_same : {A : Type 0} {a b : A} → ◌≡◌ {A = Option A} (Some a) (Some b) → a ≡ b
-some_same h = cc
-
 pub tag_at : (l : Layout) (ts : List Tag) (k : ℕ) (t : Tag) → AreTags l ts → slice_get ts k ≡ Some t → IsTag l t
 tag_at l [] k t h e = absurd (none_some e)
-tag_at l (u ∷ us) zero t h e = subst (λ v. IsTag l v) (some_same e) h.0
+tag_at l (u ∷ us) zero t h e = subst (λ v. IsTag l v) (some_is e) h.0
 tag_at l (u ∷ us) (suc k) t h e = tag_at l us k t h.2 e
 
-apart_here : (l : Layout) (t : Tag) (us : List Tag) (k : ℕ) (v : Tag) → ApartFrom l t us → slice_get us k ≡ Some v → AreApart l t v
+pub apart_here : (l : Layout) (t : Tag) (us : List Tag) (k : ℕ) (v : Tag) → ApartFrom l t us → slice_get us k ≡ Some v → AreApart l t v
 apart_here l t [] k v h e = absurd (none_some e)
-apart_here l t (u ∷ us) zero v h e = subst (λ w. AreApart l t w) (some_same e) h.0
+apart_here l t (u ∷ us) zero v h e = subst (λ w. AreApart l t w) (some_is e) h.0
 apart_here l t (u ∷ us) (suc k) v h e = apart_here l t us k v h.1 e
 
 swapped : (l : Layout) (t u : Tag) → AreApart l t u → AreApart l u t
@@ -40,9 +35,9 @@ swapped l t u (inr h) = inl h
 -- two tags of a list are one tag, or apart
 pub same_or_apart : (l : Layout) (ts : List Tag) (j k : ℕ) (t u : Tag) → AreTags l ts → slice_get ts j ≡ Some t → slice_get ts k ≡ Some u → (t ≡ u) ⊎ AreApart l t u
 same_or_apart l [] j k t u h e f = absurd (none_some e)
-same_or_apart l (v ∷ vs) zero zero t u h e f = inl (some_same (sym e ∙ f))
-same_or_apart l (v ∷ vs) zero (suc k) t u h e f = inr (subst (λ w. AreApart l w u) (some_same e) (apart_here l v vs k u h.1 f))
-same_or_apart l (v ∷ vs) (suc j) zero t u h e f = inr (swapped l u t (subst (λ w. AreApart l w t) (some_same f) (apart_here l v vs j t h.1 e)))
+same_or_apart l (v ∷ vs) zero zero t u h e f = inl (some_is (sym e ∙ f))
+same_or_apart l (v ∷ vs) zero (suc k) t u h e f = inr (subst (λ w. AreApart l w u) (some_is e) (apart_here l v vs k u h.1 f))
+same_or_apart l (v ∷ vs) (suc j) zero t u h e f = inr (swapped l u t (subst (λ w. AreApart l w t) (some_is f) (apart_here l v vs j t h.1 e)))
 same_or_apart l (v ∷ vs) (suc j) (suc k) t u h e f = same_or_apart l vs j k t u h.2 e f
 
 -- the tag that covers a root, by its position
@@ -63,7 +58,7 @@ covering l (u ∷ us) t a h = by_path (λ k. covering l us t a k) (path_from l u
 
 pub covered_at : (l : Layout) (ts : List Tag) (t : CType) (a k : ℕ) (u : Tag) → slice_get ts k ≡ Some u → is_some (path_from l u t a) ≡ true → is_covered l ts t a ≡ true
 covered_at l [] t a k u e h = absurd (none_some e)
-covered_at l (v ∷ vs) t a zero u e h = ap (λ b. b || is_covered l vs t a) (ap (λ w. is_some (path_from l w t a)) (some_same e) ∙ h)
+covered_at l (v ∷ vs) t a zero u e h = ap (λ b. b || is_covered l vs t a) (ap (λ w. is_some (path_from l w t a)) (some_is e) ∙ h)
 covered_at l (v ∷ vs) t a (suc k) u e h = ap (λ b. is_some (path_from l v t a) || b) (covered_at l vs t a k u e h) ∙ or_true (is_some (path_from l v t a))
   where
     or_true : (b : Bool) → (b || true) ≡ true
@@ -91,7 +86,7 @@ within_list f xs ys k y same e =
 pub item_at : {A B : Type 0} (f : A → B) (xs : List A) (ys : List B) (k : ℕ) (x : A) (y : B) → map f xs ≡ ys → slice_get ys k ≡ Some y → x ≡ get_or xs k x → f x ≡ y
 item_at f xs ys k x y same e is =
     let here : k < length xs = within_list f xs ys k y same e in
-    some_same (sym (slice_get-map f xs k ∙ ap (option_map f) (slice_get-get_or xs k x here ∙ ap Some (sym is))) ∙ ap (λ zs. slice_get zs k) same ∙ e)
+    some_is (sym (slice_get-map f xs k ∙ ap (option_map f) (slice_get-get_or xs k x here ∙ ap Some (sym is))) ∙ ap (λ zs. slice_get zs k) same ∙ e)
 
 module _ (l : Layout) (h : IsLayout l) (ts : List Tag) (tags : AreTags l ts) where
   some_size : (k : ℕ) (t : Tag) → slice_get ts k ≡ Some t → 0 < size_of l t.type
@@ -145,7 +140,7 @@ apart_all l t (u ∷ us) h = and_from (are_apart l t u) (is_apart l t us) (h 0 u
 
 not_apart_one : (l : Layout) (t : Tag) (ts : List Tag) (k : ℕ) (u : Tag) → slice_get ts k ≡ Some u → are_apart l t u ≡ false → is_apart l t ts ≡ false
 not_apart_one l t [] k u e h = absurd (none_some e)
-not_apart_one l t (v ∷ vs) zero u e h = ap (λ b. b && is_apart l t vs) (ap (λ w. are_apart l t w) (some_same e) ∙ h)
+not_apart_one l t (v ∷ vs) zero u e h = ap (λ b. b && is_apart l t vs) (ap (λ w. are_apart l t w) (some_is e) ∙ h)
 not_apart_one l t (v ∷ vs) (suc k) u e h = ap (λ b. are_apart l t v && b) (not_apart_one l t vs k u e h) ∙ and_false (are_apart l t v)
   where
     and_false : (b : Bool) → (b && false) ≡ false

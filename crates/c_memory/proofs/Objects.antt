@@ -21,7 +21,7 @@ pub some_space : (l : Layout) → 0 < space l
 some_space l = pow_pos (address_width l.target)
 
 -- the space has at most 2^64 addresses
-small_space : (t : Target) → 2 ^ address_width t ≤ 2 ^ 64
+pub small_space : (t : Target) → 2 ^ address_width t ≤ 2 ^ 64
 small_space Ilp32 = lit≤ tt
 small_space Lp64 = lit≤ tt
 

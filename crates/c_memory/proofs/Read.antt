@@ -7,20 +7,18 @@ use Rattle.c_values.specs.Path.{Spot}
 use Rattle.c_memory.specs.Memory.{Tag}
 use Rattle.c_memory.specs.CodePlace.{place_of, place_from}
 use Rattle.c_values.proofs.Laid.{shape_type}
+use Rattle.c_values.proofs.Options.{some_is}
 use Rattle.c_memory.specs.Tags.{is_covered}
 use Rattle.c_memory.specs.CodeTagIndex.{Covers}
 use Rattle.c_memory.proofs.Objects.{object_complete}
 use Rattle.c_memory.proofs.Neighbours.{covered_at}
-
-some_same : {A : Type 0} {a b : A} → ◌≡◌ {A = Option A} (Some a) (Some b) → a ≡ b
-some_same h = cc
 
 -- at a place of a scalar lies a scalar
 pub scalar_place : (l : Layout) (a : ℕ) (o : Option Spot) (b : ℕ) (u : CType) → IsLayout l → is_object l u ≡ true → Some (place_of l b u) ≡ place_from (space l) a o →
     IsSomeAnd o (λ q. is_scalar (type_of q.shape) ≡ true) → is_scalar u ≡ true
 scalar_place l a None b u h object e k = absurd cc
 scalar_place l a (Some q) b u h object e k =
-    let same : shape_of l u ≡ q.shape = ap (λ p. p.shape) (some_same e) in
+    let same : shape_of l u ≡ q.shape = ap (λ p. p.shape) (some_is e) in
     let own : type_of (shape_of l u) ≡ u = shape_type l h u (object_complete l u object) in
     ap is_scalar (sym own ∙ ap type_of same) ∙ k
 

@@ -9,13 +9,8 @@ use Rattle.c_values.proofs.Leads.{IsNth, first, next, Leads, ends, by_member, by
 use Rattle.c_values.proofs.Laid.{IsLaid, AreLaid, structs_of, shape_good}
 use Rattle.c_values.proofs.Parts.{leads_laid, laid_shape}
 use Rattle.c_values.specs.CodeSameType.{type_is}
+use Rattle.c_values.proofs.Options.{some_is, none_some}
 use Rattle.c_memory.specs.Tags.{is_root_type, IsMember, here, later, IsPart, scalar, struct, of_member, of_element, prefixed, root_path, member_path}
-
-none_some : {A : Type 0} {a : A} → ◌≡◌ {A = Option A} None (Some a) → ⊥
-none_some h = cc
-
-some_same : {A : Type 0} {a b : A} → ◌≡◌ {A = Option A} (Some a) (Some b) → a ≡ b
-some_same h = cc
 
 -- the path leads to a part of this type
 pub record Finds (s : Shape) (t : CType) (d : ℕ) (ps : List Step) : Type 0 where
@@ -41,7 +36,7 @@ nth_member (next m) = later (nth_member m)
 
 prefixed_parts : (p : Step) (o : Option (List Step)) (ps : List Step) → prefixed p o ≡ Some ps → (qs : List Step) × (o ≡ Some qs) × (ps ≡ p ∷ qs)
 prefixed_parts p None ps h = absurd (none_some h)
-prefixed_parts p (Some qs) ps h = (qs, refl, sym (some_same h))
+prefixed_parts p (Some qs) ps h = (qs, refl, sym (some_is h))
 
 here_parts : (s : Shape) (t : CType) (d : ℕ) (ps : List Step) (rest : Option (List Step)) → (b : Bool) → (same_type (type_of s) t && nat_eq d 0) ≡ b →
     IsPart s 0 (type_of s) → (rest ≡ Some ps → Finds s t d ps) → cond b (Some []) rest ≡ Some ps → Finds s t d ps
@@ -49,7 +44,7 @@ here_parts s t d ps rest true e own other h =
     let c = and_parts (same_type (type_of s) t) (nat_eq d 0) e in
     let same = type_is (type_of s) t c.0 in
     let none : 0 ≡ d = sym (eqb-true d 0 c.1) in
-    subst (λ qs. Finds s t d qs) (some_same h)
+    subst (λ qs. Finds s t d qs) (some_is h)
     (record { end = s; leads = subst (λ x. Leads s [] x s) none ends; type = same; part = subst₂ (λ x u. IsPart s x u) none same own })
 here_parts s t d ps rest false e own other h = other h
 
@@ -114,7 +109,7 @@ member_nth : {at : ℕ} {s : Shape} {fs : Fields} → IsMember fs at s → (k : 
 member_nth here = (0, first)
 member_nth (later m) = let r = member_nth m in (suc r.0, next r.1)
 
-scalar_root : (t : CType) → is_scalar t ≡ true → is_root_type t ≡ true
+pub scalar_root : (t : CType) → is_scalar t ≡ true → is_root_type t ≡ true
 scalar_root (Integer i) h = refl
 scalar_root (Ptr t) h = refl
 scalar_root _ h = absurd (false≢true h)

@@ -4,10 +4,11 @@ use Rattle.std.proofs.Math.Nat.{mul-div_cancel_left}
 use Rattle.std.proofs.lemmas.Bool.{and_parts, and_from, ltb-true, leb-true, le-leb}
 use Rattle.c_values.specs.Types.{CType, Array, Struct}
 use Rattle.c_values.specs.Name.{Name}
-use Rattle.c_values.specs.Layout.{Layout, IsLayout, Shape, Incomplete, Scalar, Record, Row, type_of, shape_of, size_of, is_complete, is_object, largest_size}
+use Rattle.c_values.specs.Layout.{Layout, IsLayout, Shape, shape_of, size_of, is_complete, is_object, largest_size}
 use Rattle.c_values.specs.Path.{Step, Field, Index, Spot, spot, step_spot, and_then_spot, further}
 use Rattle.c_values.proofs.Laid.{shape_type}
-use Rattle.c_values.proofs.Steps.{to_member}
+use Rattle.c_values.proofs.Steps.{to_member, no_element}
+use Rattle.c_values.proofs.Options.{some_is}
 use Rattle.c_memory.specs.Memory.{address_at}
 use Rattle.c_memory.specs.CodePlace.{Place, place_from}
 use Rattle.c_memory.proofs.Elements.{address_further}
@@ -38,18 +39,8 @@ some_element l u n object =
 pub element_size : (l : Layout) (u : CType) (n bytes : ℕ) → is_object l (Array u n) ≡ true → bytes ≡ size_of l (Array u n) → bytes / n ≡ size_of l u
 element_size l u n bytes object e = ap (λ m. m / n) e ∙ mul-div_cancel_left (size_of l u) (some_element l u n object)
 
--- a struct has no elements
-no_element : (s : Shape) (x : Name) (i : ℤ) → type_of s ≡ Struct x → step_spot s (Index i) ≡ None
-no_element Incomplete x i e = refl
-no_element (Scalar u width) x i e = refl
-no_element (Record y n align fs) x i e = refl
-no_element (Row e' n) x i e = absurd cc
-
 pub struct_elements : (l : Layout) (x : Name) (i : ℤ) → IsLayout l → is_object l (Struct x) ≡ true → step_spot (shape_of l (Struct x)) (Index i) ≡ None
 struct_elements l x i h object = no_element (shape_of l (Struct x)) x i (shape_type l h (Struct x) (object_complete l (Struct x) object))
-
-some_same : {A : Type 0} {a b : A} → ◌≡◌ {A = Option A} (Some a) (Some b) → a ≡ b
-some_same h = cc
 
 -- the place at the end of a path, from where its first step leads
 pub next_place : (space : ℕ) (s : Shape) (a : ℕ) (p : Step) (ps : List Step) (b : ℕ) (r : Shape) → 0 < space →
@@ -63,7 +54,7 @@ next_place space s a p ps b r some h = by_spot (step_spot s p) refl h
     by_spot : (o : Option Spot) → step_spot s p ≡ o → place_from space a o ≡ Some (record { address = b; shape = r }) → place_from space a (and_then_spot o (λ q. further q.offset (spot q.shape ps))) ≡ place_from space b (spot r ps)
     by_spot None e k = absurd cc
     by_spot (Some q) e k =
-        let same : ◌≡◌ {A = Place} (record { address = address_at space a q.offset; shape = q.shape }) (record { address = b; shape = r }) = some_same k in
+        let same : ◌≡◌ {A = Place} (record { address = address_at space a q.offset; shape = q.shape }) (record { address = b; shape = r }) = some_is k in
         let at : address_at space a q.offset ≡ b = ap (λ p. p.address) same in
         let is : q.shape ≡ r = ap (λ p. p.shape) same in
         by_rest q.offset (spot q.shape ps) ∙ ap₂ (λ n t. place_from space n (spot t ps)) at is

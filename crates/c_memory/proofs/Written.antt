@@ -14,11 +14,11 @@ use Rattle.c_memory.specs.Heap.{Heap, OnBytes, IsHeap, read_heap, write_heap}
 use Rattle.c_memory.proofs.Objects.{object_complete}
 use Rattle.c_memory.proofs.Loaded.{load_shaped, store_bytes}
 
-spot_bytes : (space a : ℕ) (o : Option Spot) (v : Value) (bytes : ℕ → ℕ) → AreBytes bytes → AreBytes (store_spot space a o v bytes)
+pub spot_bytes : (space a : ℕ) (o : Option Spot) (v : Value) (bytes : ℕ → ℕ) → AreBytes bytes → AreBytes (store_spot space a o v bytes)
 spot_bytes space a None v bytes known = known
 spot_bytes space a (Some q) v bytes known = store_bytes space q.shape (address_at space a q.offset) v bytes known
 
-written : (l : Layout) (m : Memory) (t : CType) (a : ℕ) (path : List Step) (v : Value) → IsHeap l (OnBytes m) → IsHeap l (write_heap l (OnBytes m) t a path v)
+pub written : (l : Layout) (m : Memory) (t : CType) (a : ℕ) (path : List Step) (v : Value) → IsHeap l (OnBytes m) → IsHeap l (write_heap l (OnBytes m) t a path v)
 written l m t a path v is = record { bytes = spot_bytes (space l) a (spot (shape_of l t) path) v m.bytes is.bytes; tags = is.tags }
 
 -- after a write that may be refused

@@ -3,8 +3,8 @@ use Rattle.std.proofs.Common.{◌≡◌, Bool, true, false, cond, ◌||◌, [], 
 use Rattle.std.specs.Prelude.{Option, Some, None}
 use Rattle.std.specs.List.{filter_map}
 use Rattle.c_values.specs.Name.{Name, same_name, is_among, with_name}
-use Rattle.typing_declarations.proofs.SwappedNames.{same_name_swapped}
 use Rattle.c_grammar.specs.Tree as tree
+use Rattle.c_values.proofs.Names.{same_name_swapped}
 use Rattle.typing_rules.specs.Unit.{body_name, declared_name}
 
 -- a name more

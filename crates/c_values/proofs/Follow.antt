@@ -9,13 +9,11 @@ use Rattle.c_values.specs.CodeValue.{value_of}
 use Rattle.c_values.proofs.Shaped.{elements_count, element_shaped, placed_field, upd_step}
 use Rattle.c_values.specs.CodeParts.{values_in}
 use Rattle.c_values.specs.CodeFollow.{CanFollow}
+use Rattle.c_values.proofs.Options.{some_is}
 
-some_same : {A : Type 0} {a b : A} → ◌≡◌ {A = Option A} (Some a) (Some b) → a ≡ b
-some_same h = cc
-
-further_parts : (z : ℤ) (o : Option Spot) (q : Spot) → further z o ≡ Some q → (r : Spot) × (o ≡ Some r) × (q.shape ≡ r.shape)
+pub further_parts : (z : ℤ) (o : Option Spot) (q : Spot) → further z o ≡ Some q → (r : Spot) × (o ≡ Some r) × (q.shape ≡ r.shape)
 further_parts z None q h = absurd cc
-further_parts z (Some r) q h = (r, refl, sym (ap (λ v. v.shape) (some_same h)))
+further_parts z (Some r) q h = (r, refl, sym (ap (λ v. v.shape) (some_is h)))
 
 pub count_in : (vs : List V.Value) → count (values_in vs) ≡ length vs
 count_in [] = refl
@@ -68,7 +66,7 @@ part_selected v vs p k w follows is at e =
     ∙ ap (λ i. part (values_in vs) i) (at ∙ ap (λ n. unwrap_or (place_of p n) 0) (sym (count_in vs)))
     ∙ ap (λ u. sel u (p ∷ [])) (sym is)
 
-sel_nothing : (ps : List Step) → sel nothing ps ≡ nothing
+pub sel_nothing : (ps : List Step) → sel nothing ps ≡ nothing
 sel_nothing [] = refl
 sel_nothing (p ∷ ps) = sel_nothing ps
 
@@ -107,7 +105,7 @@ member_here : (fs : Fields) (vs : Values) (k : ℕ) (q : Spot) → are_complete 
 member_here no_fields vs k q c h e = absurd cc
 member_here (field at s fs) no_values k q c h e = absurd h
 member_here (field at s fs) (more v vs) zero q c h e =
-    let same : s ≡ q.shape = ap (λ r. r.shape) (some_same e) in (
+    let same : s ≡ q.shape = ap (λ r. r.shape) (some_is e) in (
       omega arith,
       subst (λ r. is_complete r ≡ true) same (and_parts (is_complete s) (are_complete fs) c).0,
       subst (λ r. HasShape r v) same h.0,
@@ -151,7 +149,7 @@ module _ (ps : List Step) (rest : (s : Shape) (q : Spot) (v : Value) → is_comp
       step_ends (Index i) vs k q refl lt (rest_ends (i *ℤ pos (size s)) s q (part vs k) both.1 (element_shaped (λ w. HasShape s w) n k vs h (omega (arith, lt, many))) a)
 
 pub path_ends : (s : Shape) (ps : List Step) (q : Spot) (v : Value) → is_complete s ≡ true → HasShape s v → spot s ps ≡ Some q → Ends v ps q
-path_ends s [] q v c h e = (tt, subst (λ r. HasShape r.shape v) (some_same e) h)
+path_ends s [] q v c h e = (tt, subst (λ r. HasShape r.shape v) (some_is e) h)
 path_ends (Record x n align fs) (Field k ∷ ps) q (Parts vs) c h e = member_ends ps (λ s r v d i j. path_ends s ps r v d i j) fs vs k q (member_spot fs k) refl c h e
 path_ends (Row s n) (Index i ∷ ps) q (Parts vs) c h e = element_ends ps (λ s r v d i j. path_ends s ps r v d i j) s n vs i q c h e
 path_ends Incomplete (p ∷ ps) q v c h e = absurd cc

@@ -1,6 +1,6 @@
 -- One struct more behind those of a layout.
-use Rattle.std.proofs.Common.{◌≡◌, ℕ, zero, suc, ◌≤◌, Bool, true, false, not, cond, ◌&&◌, ◌||◌, leb, List, [], ◌∷◌, ◌++◌, length, map, refl, sym, ap, ◌∙◌, subst, arith}
-use Rattle.std.proofs.lemmas.Bool.{and_parts, cond-true, true≢false, false≢true, and_from, or_parts, not-true, and_right}
+use Rattle.std.proofs.Common.{◌≡◌, ℕ, zero, suc, true, false, not, cond, ◌&&◌, leb, List, [], ◌∷◌, ◌++◌, length, map, refl, sym, ap, ◌∙◌, subst, arith}
+use Rattle.std.proofs.lemmas.Bool.{and_parts, cond-true, and_from, or_parts, not-true, and_right}
 use Rattle.std.proofs.lemmas.List.{map-append}
 use Rattle.std.specs.Str.{bytes_eq}
 use Rattle.std.specs.HashMap.{get_by_text}
@@ -14,7 +14,7 @@ use Rattle.c_values.specs.declared.places.Places as P
 use Rattle.c_values.specs.CodeLayout.{struct_def_of}
 use Rattle.c_values.specs.CodeStructTable.{Table, Describes, DescribesShape, Finds, IsNamed, IsTabled, IsPlacement}
 use Rattle.c_values.proofs.Laid.{same_name-refl}
-use Rattle.c_values.proofs.Tabulating.{describes_more, finds_more, small_struct}
+use Rattle.c_values.proofs.Tabulating.{describes_more, finds_more, small_struct, fits as is_fitting}
 
 abbrev none : Name → Shape
 none x = Incomplete
@@ -105,9 +105,6 @@ last_shape : (l : Layout) (d : StructDef) → shape_of (with_struct l d) (Struct
 last_shape l d =
     ap (λ f. f d.name) (shapes_more l.target none l.structs d)
     ∙ cond-true (same_name d.name d.name) (struct_shape (shape_of l) d) (shapes_after l.target none l.structs d.name) (same_name-refl d.name)
-
-is_fitting : (m n k : ℕ) → m ≡ k → m ≤ n → leb k n ≡ true
-is_fitting m n k e h = grind arith
 
 pub last_is_object : (l : Layout) (d : StructDef) (e : P.Places) → DescribesShape (Some e) (struct_shape (shape_of l) d) → is_object (with_struct l d) (Struct d.name) ≡ true
 last_is_object l d e h =

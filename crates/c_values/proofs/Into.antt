@@ -1,5 +1,5 @@
 -- A step into an object.
-use Rattle.std.proofs.Common.{◌≡◌, ℕ, ◌*◌, ◌<◌, true, leb, ltb, ℤ, pos, refl, arith}
+use Rattle.std.proofs.Common.{◌≡◌, ℕ, ◌*◌, ◌<◌, true, leb, ℤ, pos, refl}
 use Rattle.std.proofs.lemmas.Bool.{and_parts, lt-ltb}
 use Rattle.std.specs.Prelude.{Some, None}
 use Rattle.c_values.specs.Name.{Name}

@@ -4,6 +4,7 @@ use Rattle.std.proofs.lemmas.Bool.{false≢true, and_parts, and_from, ltb-true, 
 use Rattle.c_values.specs.Name.{Name}
 use Rattle.c_values.specs.Layout.{Shape, Incomplete, Scalar, Record, Row, Fields, no_fields, field, size}
 use Rattle.c_values.specs.Path.{Step, Field, Index, Spot, spot, member_spot, and_then_spot, further, in_range, where_some, is_index}
+use Rattle.c_values.proofs.Options.{some_is, none_some}
 
 -- the member of this number stands at this offset
 pub data IsNth : Fields → ℕ → ℕ → Shape → Type 0 where
@@ -16,15 +17,9 @@ pub data Leads : Shape → List Step → ℕ → Shape → Type 0 where
   by_member : {x : _} {n align k at d : ℕ} {fs : Fields} {s s' : Shape} {ps : List Step} → IsNth fs k at s → Leads s ps d s' → Leads (Record x n align fs) (Field k ∷ ps) (at + d) s'
   by_element : {e s' : Shape} {n i d : ℕ} {ps : List Step} → i < n → Leads e ps d s' → Leads (Row e n) (Index (pos i) ∷ ps) (i * size e + d) s'
 
-none_some : {A : Type 0} {a : A} → ◌≡◌ {A = Option A} None (Some a) → ⊥
-none_some h = cc
-
 -- the parts of a path's spot
 abbrev pub IsSpot : Option Spot → ℕ → Shape → Type 0
 IsSpot o d s = o ≡ Some (record { offset = pos d; shape = s })
-
-some_same : {A : Type 0} {a b : A} → ◌≡◌ {A = Option A} (Some a) (Some b) → a ≡ b
-some_same h = cc
 
 -- the path leads to this spot
 abbrev LeadsTo : Shape → List Step → Spot → Type 0
@@ -33,7 +28,7 @@ LeadsTo s ps q = (d : ℕ) × (q.offset ≡ pos d) × Leads s ps d q.shape
 nth_of : (fs : Fields) (k : ℕ) (q : Spot) → member_spot fs k ≡ Some q → (at : ℕ) × (q.offset ≡ pos at) × IsNth fs k at q.shape
 nth_of no_fields k q h = absurd (none_some h)
 nth_of (field at s fs) zero q h =
-    let e : ◌≡◌ {A = Spot} (record { offset = pos at; shape = s }) q = some_same h in
+    let e : ◌≡◌ {A = Spot} (record { offset = pos at; shape = s }) q = some_is h in
     (at, ap (λ r. r.offset) (sym e), subst (λ r. IsNth (field at s fs) zero at r.shape) e first)
 nth_of (field at s fs) (suc k) q h =
     let r = nth_of fs k q h in
@@ -42,7 +37,7 @@ nth_of (field at s fs) (suc k) q h =
 further_parts : (z : ℤ) (o : Option Spot) (q : Spot) → further z o ≡ Some q → (r : Spot) × (o ≡ Some r) × (q.offset ≡ z +ℤ r.offset) × (q.shape ≡ r.shape)
 further_parts z None q h = absurd (none_some h)
 further_parts z (Some r) q h =
-    let e : ◌≡◌ {A = Spot} (record { offset = z +ℤ r.offset; shape = r.shape }) q = some_same h in
+    let e : ◌≡◌ {A = Spot} (record { offset = z +ℤ r.offset; shape = r.shape }) q = some_is h in
     (r, refl, sym (ap (λ v. v.offset) e), sym (ap (λ v. v.shape) e))
 
 module _ (ps : List Step) (rest : (s : Shape) (q : Spot) → in_range s ps ≡ true → spot s ps ≡ Some q → LeadsTo s ps q) where
@@ -69,7 +64,7 @@ module _ (ps : List Step) (rest : (s : Shape) (q : Spot) → in_range s ps ≡ t
 
 pub leads_of : (s : Shape) (ps : List Step) (q : Spot) → in_range s ps ≡ true → spot s ps ≡ Some q → LeadsTo s ps q
 leads_of s [] q h c =
-    let e : ◌≡◌ {A = Spot} (record { offset = pos 0; shape = s }) q = some_same c in
+    let e : ◌≡◌ {A = Spot} (record { offset = pos 0; shape = s }) q = some_is c in
     (0, ap (λ r. r.offset) (sym e), subst (λ r. Leads s [] 0 r.shape) e ends)
 leads_of Incomplete (p ∷ ps) q h c = absurd (none_some c)
 leads_of (Scalar t width) (p ∷ ps) q h c = absurd (none_some c)

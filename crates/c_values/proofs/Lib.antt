@@ -30,3 +30,6 @@ pub mod Into
 pub mod Lone
 pub mod Zeroed
 pub mod Following
+pub mod Options
+pub mod Names
+pub mod Widths

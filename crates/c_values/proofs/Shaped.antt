@@ -4,7 +4,7 @@ use Rattle.std.proofs.Common.{◌≡◌, ℕ, zero, suc, ◌<◌, nat_lt, List, 
 use Rattle.std.proofs.lemmas.Bool.{cond-true}
 use Rattle.c_values.specs.Value.{Value, Values, Bits, Number, Truth, Parts, no_values, more, count, part, with_part}
 use Rattle.c_values.specs.Layout.{Shape, Record, Row, Fields}
-use Rattle.c_values.specs.Path.{Step, Field, Index, place_of, with_changed, sel, upd, HasShape, AreMembers, AreElements}
+use Rattle.c_values.specs.Path.{Step, Field, Index, place_of, with_changed, sel, upd, HasShape, AreMembers, AreElements, copies}
 use Rattle.c_values.proofs.Leads.{IsNth, first, next, Leads, ends, by_member, by_element}
 
 pub members_count : {k at : ℕ} {s : Shape} {fs : Fields} (vs : Values) → AreMembers fs vs → IsNth fs k at s → k < count vs
@@ -37,7 +37,7 @@ element_shaped P (suc n) i no_values h lt = absurd h
 element_shaped P (suc n) zero (more v vs) h lt = h.0
 element_shaped P (suc n) (suc i) (more v vs) h lt = element_shaped P n i vs h.1 (omega arith)
 
-element_replaced : (P : Value → Type 0) (n i : ℕ) (vs : Values) (w : Value) → AreElements P n vs → P w → AreElements P n (with_part vs i w)
+pub element_replaced : (P : Value → Type 0) (n i : ℕ) (vs : Values) (w : Value) → AreElements P n vs → P w → AreElements P n (with_part vs i w)
 element_replaced P zero i no_values w h new = tt
 element_replaced P zero i (more v vs) w h new = absurd h
 element_replaced P (suc n) i no_values w h new = absurd h
@@ -82,3 +82,7 @@ upd_shaped (Parts vs) v h new (by_element {e} {n} {i} {ps} lt p) =
 upd_shaped (Bits w) v h new (by_element lt p) = absurd h
 upd_shaped (Number z) v h new (by_element lt p) = absurd h
 upd_shaped (Truth b) v h new (by_element lt p) = absurd h
+
+pub copies_shaped : (P : Value → Type 0) (n : ℕ) (z : Value) → P z → AreElements P n (copies n z)
+copies_shaped P zero z h = tt
+copies_shaped P (suc n) z h = (h, copies_shaped P n z h)

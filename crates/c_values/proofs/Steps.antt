@@ -37,7 +37,7 @@ one_in_range s p q r e = rw (r, e) refl
 small_part : (o m n k : ℕ) → o + m ≤ n → leb n k ≡ true → leb m k ≡ true
 small_part o m n k h e = grind arith
 
-same_number : (m n : ℕ) → pos m ≡ pos n → m ≡ n
+pub same_number : (m n : ℕ) → pos m ≡ pos n → m ≡ n
 same_number m n h = cc
 
 -- a step that leads to a part
@@ -68,7 +68,7 @@ pub to_member : (l : Layout) (x : Name) (k o : ℕ) (u : CType) → IsLayout l �
     step_spot (shape_of l (Struct x)) (Field k) ≡ Some (record { offset = pos o; shape = shape_of l u }) → IsPart l (Struct x) (Field k) o u
 to_member l x k o u h object e = to_part l (Struct x) (Field k) o u h object (field_in_range (shape_of l (Struct x)) k) e
 
-no_element : (s : Shape) (x : Name) (i : ℤ) → type_of s ≡ Struct x → step_spot s (Index i) ≡ None
+pub no_element : (s : Shape) (x : Name) (i : ℤ) → type_of s ≡ Struct x → step_spot s (Index i) ≡ None
 no_element Incomplete x i e = refl
 no_element (Scalar u w) x i e = refl
 no_element (Record y n align fs) x i e = refl

@@ -96,7 +96,7 @@ seen_here ds i d h e = ap struct_def_of e ∙ sym (get_or-map struct_def_of ds i
 pub seen_within : (ds : List D.StructDef) (i : ℕ) → i < length ds → i < length (map struct_def_of ds)
 seen_within ds i h = rw length-map h
 
-fits : (m n k : ℕ) → m ≡ k → m ≤ n → leb k n ≡ true
+pub fits : (m n k : ℕ) → m ≡ k → m ≤ n → leb k n ≡ true
 fits m n k e h = grind arith
 
 pub small_struct : (e : P.Places) (shape : CType → Shape) (d : StructDef) → DescribesShape (Some e) (struct_shape shape d) → leb (size (struct_shape shape d)) largest_size ≡ true

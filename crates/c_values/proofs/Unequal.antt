@@ -1,5 +1,5 @@
 -- Lists of values with different lengths are not the same.
-use Rattle.std.proofs.Common.{◌≡◌, suc, Bool, true, false, ◌&&◌, List, [], ◌∷◌, length, refl, ap, ◌∙◌}
+use Rattle.std.proofs.Common.{◌≡◌, suc, false, ◌&&◌, List, [], ◌∷◌, length, refl, ap, ◌∙◌}
 use Rattle.std.proofs.Math.Bool.{and-false}
 use Rattle.c_values.specs.declared.values.Value as V
 use Rattle.c_values.specs.Value.{same_value, same_values}

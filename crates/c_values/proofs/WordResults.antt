@@ -97,10 +97,10 @@ unsigned_remainder width a b h k =
 abbrev IsInRange : ℕ → ℤ → Type 0
 IsInRange width n = is_between (least true width) n (greatest true width) ≡ true
 
-positive_between : (half m : ℕ) → m < half → is_between (neg_ℤ (pos half)) (pos m) (pos (half - 1)) ≡ true
+pub positive_between : (half m : ℕ) → m < half → is_between (neg_ℤ (pos half)) (pos m) (pos (half - 1)) ≡ true
 positive_between half m h = grind (arith, ints)
 
-negative_between : (half m : ℕ) → m < half → is_between (neg_ℤ (pos half)) (negsuc m) (pos (half - 1)) ≡ true
+pub negative_between : (half m : ℕ) → m < half → is_between (neg_ℤ (pos half)) (negsuc m) (pos (half - 1)) ≡ true
 negative_between half m h = grind (arith, ints)
 
 -- what is not above 0 and not below a number of the range
@@ -108,7 +108,7 @@ negated_between : (half r c : ℕ) → r ≤ suc c → c < half → is_between (
 negated_between half zero c h k = positive_between half 0 (omega arith)
 negated_between half (suc r) c h k = negative_between half r (omega arith)
 
-high_below : (width bits c : ℕ) → 1 ≤ width → 2 ^ (width - 1) ≤ bits → bits + suc c ≡ 2 ^ width → c < 2 ^ (width - 1)
+pub high_below : (width bits c : ℕ) → 1 ≤ width → 2 ^ (width - 1) ≤ bits → bits + suc c ≡ 2 ^ width → c < 2 ^ (width - 1)
 high_below width bits c some h e = omega (arith, halves width some)
 
 signed_in_range : (width bits : ℕ) (m : ℤ) → 1 ≤ width → IsSigned width bits m → IsInRange width m

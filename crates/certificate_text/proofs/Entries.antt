@@ -9,6 +9,7 @@ use Rattle.expression_text.specs.Reading.{Read, ◌>>=◌, made}
 use Rattle.expression_text.specs.Lists.{list_at}
 use Rattle.c_values.specs.Name.{Name}
 use Rattle.acceptance.specs.Certificate.{Steps}
+use Rattle.rule_text.proofs.GivenLaws.{made_ok}
 use Rattle.certificate_text.specs.declared.index.FunEntry.{FunEntry}
 use Rattle.certificate_text.specs.CertificateText.{function_tree, Version, Certificate}
 use Rattle.certificate_text.specs.CertificateReading.{function_at}
@@ -16,12 +17,6 @@ use Rattle.certificate_text.specs.CertificateIndex.{Entry, entry_at, entries_fro
 use Rattle.certificate_text.specs.CodeIndex.{entry_of}
 use Rattle.certificate_text.specs.TextParts.{IsAt, AreAt}
 use Rattle.certificate_text.proofs.FunctionLaws.{function_spells}
-
-pub made_ok : {A B : Type 0} (f : A → B) (r : Read A) (b : B) (n : ℕ) → made f r ≡ Ok (b, n) → (a : A) × (r ≡ Ok (a, n)) × (f a ≡ b)
-made_ok {A} {B} f (Ok (a, m)) b n e =
-    let h : ◌≡◌ {A = B × ℕ} (f a, m) (b, n) = cc in
-    (a, ap (λ (k : ℕ). Ok (a, k)) (ap (λ (p : B × ℕ). p.1) h), ap (λ (p : B × ℕ). p.0) h)
-made_ok f (Err m) b n e = absurd cc
 
 pub made_err : {A B : Type 0} (f : A → B) (r : Read A) (n : ℕ) → made f r ≡ Err n → r ≡ Err n
 made_err f (Ok (a, m)) n e = absurd cc

@@ -9,13 +9,14 @@ use Rattle.expression_text.specs.declared.fault.TextFault.TheVariants as F
 use Rattle.expression_text.specs.CodeFault.{Fails, Gives}
 use Rattle.expression_text.specs.Reading.{Read, made}
 use Rattle.expression_text.specs.Answer.{IsRead}
+use Rattle.rule_text.proofs.GivenLaws.{made_ok}
 use Rattle.certificate_text.specs.CertificateText.{Certificate, certificate_tree}
 use Rattle.certificate_text.specs.CertificateReading.{certificate_at}
 use Rattle.certificate_text.specs.CertificateIndex.{Index, index_of}
 use Rattle.certificate_text.specs.Answer.{IsTextOf, IsCertificateText, IsFaultOf}
 use Rattle.certificate_text.specs.IndexAnswer.{IsIndexOf}
 use Rattle.certificate_text.proofs.ReadBack as back
-use Rattle.certificate_text.proofs.Entries.{made_ok, made_err, made_fails}
+use Rattle.certificate_text.proofs.Entries.{made_err, made_fails}
 
 -- what a `?` hands on
 pub told : {X A : Type 0} (view : X → A) (r : Result (X × ℕ) TextFault) (fault : TextFault) (read : Read A) → IsErrAnd r (λ e. e ≡ fault) → Fails fault read → Gives view r read

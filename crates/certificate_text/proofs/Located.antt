@@ -79,7 +79,7 @@ functions_at text c is = by (trees_for function_tree c.functions) c.version (fil
     by fs (Two Lp64) there = (parts_from 13 fs, there.1.1.1)
 
 -- a text is of one certificate
-one_certificate : (text : List ℕ) (c d : Certificate) → IsCertificateText text c → IsCertificateText text d → c ≡ d
+pub one_certificate : (text : List ℕ) (c d : Certificate) → IsCertificateText text c → IsCertificateText text d → c ≡ d
 one_certificate text c d is other =
     let same = one_file (certificate_tree c) (certificate_tree d) is.0.atoms other.0.atoms (sym is.0.spelled ∙ other.0.spelled) in
     back.only (certificate_tree c) c (behind 0 (certificate_tree c)) d (certificate_reads c is.1 0) (same, other.1)

@@ -6,7 +6,7 @@ use Rattle.c_values.specs.Types.{Target}
 use Rattle.expression_lang.specs.Sort.{Level, Bytes}
 use Rattle.ac_sx.specs.Tree.{Tree, Trees}
 use Rattle.ac_sx.specs.CodeSx.{word_in, headed_in, two_of, first_of}
-use Rattle.expression_text.specs.Reading.{Read, next, made}
+use Rattle.expression_text.specs.Reading.{Read, next, made, ◌>>=◌}
 use Rattle.expression_text.specs.Names.{name_at}
 use Rattle.expression_text.specs.Words.{looked_up}
 use Rattle.expression_text.specs.Lists.{list_at}

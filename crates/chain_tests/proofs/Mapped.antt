@@ -1,5 +1,5 @@
 -- What is there stays where it is mapped.
-use Rattle.std.proofs.Common.{◌≡◌, true, List, [], ◌∷◌, length, Option, Some, None, refl, subst}
+use Rattle.std.proofs.Common.{◌≡◌, true, Option, Some, None, refl, subst}
 use Rattle.std.specs.Option.{IsSome, is_some, option_map}
 use Rattle.std.proofs.lemmas.Bool.{false≢true}
 

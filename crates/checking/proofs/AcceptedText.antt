@@ -16,10 +16,10 @@ use Rattle.certificate_text.specs.CertificateText.{Certificate, certificate_tree
 use Rattle.certificate_text.specs.CertificateReading.{certificate_at}
 use Rattle.certificate_text.specs.Answer.{IsCertificateText, IsFaultOf}
 use Rattle.certificate_text.proofs.CertificateLaws.{certificate_reads}
+use Rattle.certificate_text.proofs.Located.{one_certificate}
 use Rattle.answers.specs.declared.status.Status.{Status}
 use Rattle.answers.specs.declared.status.Status.TheVariants.{Done, No, Words, Source, Text, ReadFault, WriteFault, Limit, Memory, NotYet}
 use Rattle.checking.specs.Checked.{level_in, apart, target_for, IsSaid, OfCertificate, IsVerdict, IsChecked, IsAcceptedText}
-use Rattle.checking.proofs.OneText.{one_certificate}
 
 no_fault : (text : List ℕ) (c : Certificate) (fault : TextFault) (lines : List ℕ) → IsCertificateText text c → IsFaultOf text fault → IsSaid fault lines → ⊥
 no_fault text c F.NotText lines h k said = k.1.0.no_file (certificate_tree c, h.0.atoms, h.0.spelled)

@@ -5,10 +5,11 @@ use Rattle.std.proofs.lemmas.Bool.{and_from, cond-true}
 use Rattle.std.proofs.lemmas.Simd.{map-map}
 use Rattle.c_values.specs.Name.{Name, same_name}
 use Rattle.c_values.proofs.Laid.{name_is, same_name-refl}
-use Rattle.expression_lang.specs.Sort.{Level, Bytes, Words, Numbers}
+use Rattle.expression_lang.specs.Sort.{Level}
 use Rattle.expression_lang.specs.Signature.{Signature}
 use Rattle.simpl_lang.specs.Command.{SimplFn, SimplUnit}
 use Rattle.simpl_lang.specs.Sorted.{same_level}
+use Rattle.simpl_lang.proofs.SameKinds.{same_level-refl}
 use Rattle.c_lang.specs.Typed.{TypedUnit, TypedFn}
 use Rattle.generation.specs.Generate.{function_of, generated}
 use Rattle.acceptance.specs.Certificate.{Steps}
@@ -66,11 +67,6 @@ levels_agree fs cs ks e k h =
 
 -- the list
 
-level_same : (a : Level) → same_level a a ≡ true
-level_same Bytes = refl
-level_same Words = refl
-level_same Numbers = refl
-
 -- functions under the same names and at the same levels
 pub alike_listed : (at : ℕ) (fs : List SimplFn) (cs : List Steps) → generated_names fs ≡ names_in cs →
     map (λ (f : SimplFn). f.level) fs ≡ levels_listed cs → listed at fs cs ≡ Ok tt
@@ -83,7 +79,7 @@ alike_listed at (f ∷ fs) (c ∷ cs) e k =
     cond-true (is_listed f c) (listed (at + 1) fs cs) (Err at)
     (and_from (same_name f.name c.name) (same_level f.level c.level)
     (subst (λ x. same_name f.name x ≡ true) (head_is f.name c.name (generated_names fs) (names_in cs) e) (same_name-refl f.name))
-    (subst (λ x. same_level f.level x ≡ true) l (level_same f.level)))
+    (subst (λ x. same_level f.level x ≡ true) l (same_level-refl f.level)))
     ∙ alike_listed (at + 1) fs cs (rest_is f.name c.name (generated_names fs) (names_in cs) e) ls
 
 -- what is generated at levels has the text's names, and these levels

@@ -1,24 +1,15 @@
 -- A text is that of one certificate, and longer than this has functions.
-use Rattle.std.proofs.Common.{◌≡◌, ℕ, ◌<◌, ◌≤◌, List, [], ◌∷◌, length, sym, ap, ◌∙◌, arith}
+use Rattle.std.proofs.Common.{◌≡◌, ℕ, ◌<◌, ◌≤◌, List, [], ◌∷◌, length, ap, ◌∙◌, arith}
 use Rattle.std.specs.Prelude.{codes}
 use Rattle.std.proofs.lemmas.List.{length-append}
 use Rattle.ac_sx.specs.Tree.{Tree, Trees, Atom, Node, no_trees, more, spelling, spellings, file, closing, space, line_end}
-use Rattle.ac_sx.proofs.Built.{one_file}
 use Rattle.expression_text.specs.Lists.{trees_for}
-use Rattle.expression_text.proofs.Behind.{behind, value_ok}
 use Rattle.acceptance.specs.Certificate.{Steps}
-use Rattle.certificate_text.specs.CertificateText.{target_word, function_tree, Version, One, Two, Certificate, version_trees, certificate_tree}
-use Rattle.certificate_text.specs.CertificateReading.{certificate_at}
+use Rattle.certificate_text.specs.CertificateText.{target_word, function_tree, Version, One, Two, Certificate, version_trees}
 use Rattle.certificate_text.specs.CertificateIndex.{Index, index_of}
 use Rattle.certificate_text.specs.Answer.{IsCertificateText}
 use Rattle.certificate_text.specs.IndexAnswer.{IsIndexOf}
-use Rattle.certificate_text.proofs.CertificateLaws.{certificate_reads}
-
-pub one_certificate : (text : List ℕ) (c d : Certificate) → IsCertificateText text c → IsCertificateText text d → c ≡ d
-one_certificate text c d h k =
-    let e : certificate_tree c ≡ certificate_tree d = one_file (certificate_tree c) (certificate_tree d) h.0.atoms k.0.atoms (sym h.0.spelled ∙ k.0.spelled) in
-    value_ok c (behind 0 (certificate_tree c)) d (behind 0 (certificate_tree d))
-    (sym (certificate_reads c h.1 0) ∙ ap (certificate_at 0) e ∙ certificate_reads d k.1 0)
+use Rattle.certificate_text.proofs.Located.{one_certificate}
 
 pub one_index : (text : List ℕ) (i : Index) (c : Certificate) → IsIndexOf text i → IsCertificateText text c → i ≡ index_of c
 one_index text i c h is = let (d, other, same) = h in same ∙ ap index_of (one_certificate text d c other is)

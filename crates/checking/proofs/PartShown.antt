@@ -12,13 +12,13 @@ use Rattle.acceptance.specs.UnitVerdict.{UnitAnswer, of_function, IsUnitVerdict}
 use Rattle.acceptance.proofs.UnitVerdicts.{unit_verdicts_are_one}
 use Rattle.certificate_text.specs.CertificateText.{Certificate}
 use Rattle.certificate_text.specs.Answer.{IsCertificateText}
+use Rattle.certificate_text.proofs.Located.{one_certificate}
 use Rattle.checking.specs.Checked.{level_in, apart, target_for}
 use Rattle.checking.specs.Refused.{Refused, IsAnswer}
 use Rattle.checking.specs.RefusedPart.{IsRefusedAt, IsShown}
 use Rattle.checking.specs.CodeParts.{IsShownAt, IsShownOf}
 use Rattle.checking.proofs.Answered.{judged_answer}
 use Rattle.checking.proofs.Decided.{at_levels, none_differ}
-use Rattle.checking.proofs.OneText.{one_certificate}
 use Rattle.checking.proofs.RefusedPlaces.{placed}
 
 never_both : {x : _} {A : Type 0} → ◌≡◌ {A = UnitAnswer} (Ok tt) (Err x) → A

@@ -5,6 +5,7 @@ use Rattle.std.specs.Option.{option_map}
 use Rattle.std.specs.Borrow.{Bor}
 use Rattle.correspondence.specs.Outcome.{Turns, Depth, Outcome, Done, Stopped, Ends, done, goes_on, stops, Then}
 use Rattle.correspondence.specs.Included.{Included}
+use Rattle.correspondence.proofs.Included.{then_within, done_within}
 use Rattle.c_values.specs.Name.{Name}
 use Rattle.c_values.specs.Value.{Value}
 use Rattle.c_values.specs.Choice.{Choice, Fill}
@@ -38,7 +39,7 @@ use Rattle.command_runs.proofs.Costs.{cost_of_one}
 use Rattle.command_runs.proofs.Formed.{same_signature, found_name}
 use Rattle.command_runs.proofs.Parts.{CallParts, call_parts}
 use Rattle.command_runs.proofs.Placed.{arguments_fit}
-use Rattle.command_runs.proofs.Resumed.{then_within, done_within, resumed_within}
+use Rattle.command_runs.proofs.Resumed.{resumed_within}
 
 module _ (f : R.Frame) (bs : Bindings) (s : C.CState) (x : Option Name) (g : Name) (es : List Exp) where
   abbrev u : SimplUnit

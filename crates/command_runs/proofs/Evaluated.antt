@@ -1,24 +1,21 @@
 -- Expressions in a frame: the locals and the state are such as evaluation asks, and values are of their sorts.
-use Rattle.std.proofs.Common.{◌≡◌, ◌<◌, ◌^◌, Bool, true, false, cond, List, [], ◌∷◌, map, Option, Some, None, refl, sym, ap, ap₂, ◌∙◌, subst}
+use Rattle.std.proofs.Common.{◌≡◌, List, [], ◌∷◌, Option, None, refl, sym, ap, ap₂, ◌∙◌, subst}
 use Rattle.std.specs.Prelude.{IsSome, string_bytes}
 use Rattle.c_values.specs.declared.values.Value as V
 use Rattle.c_values.specs.declared.values.GlobalVar as G
-use Rattle.c_values.specs.Name.{Name, same_name, with_name}
-use Rattle.c_values.specs.Types.{CType}
-use Rattle.c_values.specs.Value.{Value, Bits, Number, Truth, Parts}
-use Rattle.c_values.specs.Layout.{Layout, shape_of, global_type, Shape}
-use Rattle.c_values.specs.Path.{HasShape}
-use Rattle.c_values.specs.CodeTypes.{type_of}
-use Rattle.c_values.specs.CodeValue.{value_of, global_of}
+use Rattle.c_values.specs.Name.{Name, with_name}
+use Rattle.c_values.specs.Layout.{Layout, global_type, Shape}
+use Rattle.c_values.specs.CodeValue.{value_of}
 use Rattle.expression_lang.specs.Expression.{Exp, Path}
 use Rattle.expression_lang.specs.Sort as S
-use Rattle.expression_lang.specs.Sort.{Sort, WordSort, NumberSort, TruthSort, sort_of, word_sort_of}
+use Rattle.expression_lang.specs.Sort.{Sort, sort_of, word_sort_of}
 use Rattle.expression_lang.specs.Evaluation.{Env, value}
 use Rattle.expression_lang.specs.States.{IsOfSort, IsEnvironment, IsState}
 use Rattle.expression_lang.specs.Signature.{Binder, no_env}
 use Rattle.expression_lang.specs.Wide.{wide}
-use Rattle.expression_lang.specs.CodeState.{Bindings, env_with, env_of, scalar_of_value, scalars_with, scope_in, IsScalar, AreScalars, globals_of, AreOfTypes}
+use Rattle.expression_lang.specs.CodeState.{Bindings, env_with, env_of, scalar_of_value, scalars_with, scope_in, AreScalars}
 use Rattle.expression_lang.proofs.Fine.{HasSort, AreFine, fine, fine_path}
+use Rattle.expression_lang.proofs.Scalars.{globals_have, scalar_is, scalar_here}
 use Rattle.command_runs.specs.declared.outcome.CState as C
 use Rattle.command_runs.specs.declared.frame.Frame as R
 use Rattle.command_runs.specs.Locals.{env_from, AreLocals}
@@ -30,34 +27,6 @@ table_env [] env = refl
 table_env (b ∷ bs) env = table_env bs (with_name (string_bytes b.0) (value_of b.1) env)
 
 -- what is in scope
-
-scalar_here : (c : S.Scalar) (v : Value) → IsOfSort c v → IsScalar v
-scalar_here (WordSort n) (Bits w) h = record { has_width = refl; fits = subst (λ k. w.bits < 2 ^ k) (sym h.has_width) h.fits }
-scalar_here (WordSort n) (Number z) h = absurd h
-scalar_here (WordSort n) (Truth b) h = absurd h
-scalar_here (WordSort n) (Parts vs) h = absurd h
-scalar_here NumberSort (Number z) h = tt
-scalar_here NumberSort (Bits w) h = absurd h
-scalar_here NumberSort (Truth b) h = absurd h
-scalar_here NumberSort (Parts vs) h = absurd h
-scalar_here TruthSort (Truth b) h = tt
-scalar_here TruthSort (Bits w) h = absurd h
-scalar_here TruthSort (Number z) h = absurd h
-scalar_here TruthSort (Parts vs) h = absurd h
-
-scalar_is : (c : S.Scalar) (v : Value) → IsOfSort c v → scalar_of_value v ≡ Some c
-scalar_is (WordSort n) (Bits w) h = ap (λ k. Some (WordSort k)) h.has_width
-scalar_is (WordSort n) (Number z) h = absurd h
-scalar_is (WordSort n) (Truth b) h = absurd h
-scalar_is (WordSort n) (Parts vs) h = absurd h
-scalar_is NumberSort (Number z) h = refl
-scalar_is NumberSort (Bits w) h = absurd h
-scalar_is NumberSort (Truth b) h = absurd h
-scalar_is NumberSort (Parts vs) h = absurd h
-scalar_is TruthSort (Truth b) h = refl
-scalar_is TruthSort (Bits w) h = absurd h
-scalar_is TruthSort (Number z) h = absurd h
-scalar_is TruthSort (Parts vs) h = absurd h
 
 pub are_scalars : (ls : List Binder) (bs : Bindings) → AreLocals ls (table_of bs) → AreScalars bs
 are_scalars [] [] h = tt
@@ -74,18 +43,6 @@ names_same (l ∷ ls) (b ∷ bs) names h =
     ∙ ap₂ (λ n c. scalars_among ls (with_name n c names)) h.0 (scalar_is (word_sort_of l.kind) (value_of b.1) h.1)
 
 -- the state
-
-either_type : (l : Layout) (b : Bool) (t : CType) (o : Option CType) (v w : Value) (u : CType) → HasShape (shape_of l t) v → (o ≡ Some u → HasShape (shape_of l u) w) →
-    cond b (Some t) o ≡ Some u → HasShape (shape_of l u) (cond b v w)
-either_type l true t o v w u h k e = let same : t ≡ u = cc in subst (λ r. HasShape (shape_of l r) v) same h
-either_type l false t o v w u h k e = k e
-
-globals_have : (l : Layout) (vars : List G.GlobalVar) (vs : List V.Value) → AreOfTypes l vars vs → (x : Name) (t : CType) →
-    global_type (map global_of vars) x ≡ Some t → HasShape (shape_of l t) (globals_of vars vs x)
-globals_have l [] vs h x t e = absurd cc
-globals_have l (g ∷ gs) [] h x t e = absurd h
-globals_have l (g ∷ gs) (v ∷ vs) h x t e =
-    either_type l (same_name (string_bytes g.name) x) (type_of g.ty) (global_type (map global_of gs) x) (value_of v) (globals_of gs vs x) t h.0 (globals_have l gs vs h.1 x t) e
 
 module _ (f : R.Frame) (frame : IsFrame f) (bs : Bindings) (s : C.CState) (fits : Fits f bs s) where
   abbrev l : Layout

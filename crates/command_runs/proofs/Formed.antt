@@ -8,8 +8,8 @@ use Rattle.expression_lang.specs.Signature.{Signature, names_of, kinds_of, signa
 use Rattle.simpl_lang.specs.Command.{SimplFn, SimplUnit, simpl_fn}
 use Rattle.simpl_lang.specs.Sorted.{is_sorted, scope_of, are_fns_sorted, same_level, come_first, is_kind_of, holds_result, are_signed}
 use Rattle.narrow.specs.Narrow.{IsCommandNarrow, AreFnsNarrow}
-use Rattle.command_runs.proofs.LocalsLaws.{same_kind_is}
 use Rattle.global_changes.proofs.Changed.{by_test}
+use Rattle.simpl_lang.proofs.SameKinds.{same_kind_is}
 
 same_fn : {f g : SimplFn} → ◌≡◌ {A = Option SimplFn} (Some f) (Some g) → f ≡ g
 same_fn h = cc

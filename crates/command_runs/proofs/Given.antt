@@ -1,16 +1,15 @@
 -- A local takes a value.
-use Rattle.std.proofs.Common.{◌≡◌, ℕ, true, List, [], ◌∷◌, Option, Some, None, refl, sym, ap, ◌∙◌, subst, pos}
-use Rattle.std.proofs.lemmas.Bool.{and_parts, cond-true, cond-false}
+use Rattle.std.proofs.Common.{◌≡◌, ℕ, true, Option, Some, None, refl, sym, ap, ◌∙◌, subst, pos}
 use Rattle.correspondence.specs.Outcome.{Done, Then, goes_on, done}
-use Rattle.c_values.specs.Name.{Name, same_name, with_name, is_among, are_distinct}
+use Rattle.c_values.specs.Name.{Name, with_name, is_among, are_distinct}
 use Rattle.c_values.specs.Value.{Value}
 use Rattle.c_values.specs.Choice.{Fill}
-use Rattle.expression_lang.specs.Sort.{Scalar, Kind, WordKind, NatKind, IntKind, BoolKind, word_sort_of, is_kind, are_kinds}
+use Rattle.expression_lang.specs.Sort.{Scalar, Kind, WordKind, NatKind, IntKind, BoolKind, word_sort_of}
 use Rattle.expression_lang.specs.States.{IsOfSort}
 use Rattle.expression_lang.specs.Machine.{Machine, with_local}
-use Rattle.expression_lang.specs.Signature.{Binder, names_of, kinds_of, no_env}
+use Rattle.expression_lang.specs.Signature.{names_of, no_env}
 use Rattle.expression_lang.specs.CodeState.{Bindings, env_of}
-use Rattle.expression_lang.proofs.Good.{is_word}
+use Rattle.expression_lang.proofs.Filled.{word_fits}
 use Rattle.simpl_lang.specs.Command.{kind_of}
 use Rattle.simpl_lang.specs.Exec.{Normal, picked_local}
 use Rattle.command_runs.specs.declared.frame.Frame as R
@@ -18,7 +17,6 @@ use Rattle.command_runs.specs.declared.outcome.CState as C
 use Rattle.command_runs.specs.Locals.{names_in, env_from, put_in, AreLocals}
 use Rattle.command_runs.specs.CodeRun.{table_of, locals_of, scope_for, picked_value, IsFrame, Fits}
 use Rattle.command_runs.proofs.LocalsLaws.{put_env, put_locals, locals_names, scalar_kind}
-use Rattle.global_changes.proofs.Changed.{by_test}
 use Rattle.command_runs.proofs.Evaluated.{table_env}
 
 pub record IsPut (f : R.Frame) (bs bs' : Bindings) (s : C.CState) (x : Name) (v : Value) : Type 0 where
@@ -46,21 +44,10 @@ local_put f bs bs' s frame fits x v c known sorted put =
 pub known_kind : (f : R.Frame) → IsFrame f → (x : Name) (c : Scalar) → (scope_for f).names x ≡ Some c → (k : Kind) × (kind_of (locals_of f) x ≡ Some k) × (word_sort_of k ≡ c)
 known_kind f frame x c known = let k = scalar_kind (locals_of f) (λ y. None) x c frame.distinct refl known in (k.0, k.1, k.2)
 
-pub kind_is : (bs : List Binder) (x : Name) (k : Kind) → are_kinds (kinds_of bs) ≡ true → kind_of bs x ≡ Some k → is_kind k ≡ true
-kind_is [] x k h e = absurd cc
-kind_is (b ∷ bs) x k h e =
-    let p = and_parts (is_kind b.kind) (are_kinds (kinds_of bs)) h in
-    by_test (same_name b.name x)
-    (λ t. let same : b.kind ≡ k = some_same (sym (cond-true (same_name b.name x) (Some b.kind) (kind_of bs x) t) ∙ e) in subst (λ j. is_kind j ≡ true) same p.0)
-    (λ t. kind_is bs x k p.1 (sym (cond-false (same_name b.name x) (Some b.kind) (kind_of bs x) t) ∙ e))
-  where
-    some_same : {i j : Kind} → ◌≡◌ {A = Option Kind} (Some i) (Some j) → i ≡ j
-    some_same q = cc
-
 pub picked_sorted : (n : ℕ) (k : Kind) → IsOfSort (word_sort_of k) (picked_value n k)
-picked_sorted n (WordKind w) = is_word w (pos n)
-picked_sorted n (NatKind w) = is_word w (pos n)
-picked_sorted n (IntKind w) = is_word w (pos n)
+picked_sorted n (WordKind w) = word_fits w (pos n)
+picked_sorted n (NatKind w) = word_fits w (pos n)
+picked_sorted n (IntKind w) = word_fits w (pos n)
 picked_sorted n BoolKind = tt
 
 pick_ends : (n : ℕ) (k : Kind) (x : Name) (m : Machine) → Then (picked_local (Fill n) (Some k)) (λ v. done (Normal (with_local x v m))) (Done (Normal (with_local x (picked_value n k) m)))

@@ -1,7 +1,7 @@
 -- The function and the signature at one position are of one name, and are found by it.
 use Rattle.std.proofs.Common.{◌≡◌, ℕ, zero, suc, ◌<◌, Bool, true, false, not, ◌&&◌, ◌||◌, List, [], ◌∷◌, length, get_or, map, Option, Some, refl, sym, ap, ◌∙◌, subst, arith}
-use Rattle.std.proofs.lemmas.Bool.{and_parts, or_parts, false≢true, not-true, cond-true, cond-false}
-use Rattle.std.specs.Prelude.{string_bytes, slice_get, Result, Ok, Err, IfOk}
+use Rattle.std.proofs.lemmas.Bool.{and_parts, false≢true, not-true, cond-true, cond-false}
+use Rattle.std.specs.Prelude.{string_bytes, Result, Ok, Err, IfOk}
 use Rattle.std.specs.Option.{IsSomeAnd}
 use Rattle.correspondence.specs.Outcome.{Ends}
 use Rattle.c_values.specs.declared.values.Value as V
@@ -10,7 +10,7 @@ use Rattle.expression_lang.specs.Machine.{Returned}
 use Rattle.simpl_lang.specs.declared.units.SimplUnit as U
 use Rattle.command_runs.specs.declared.ends.Stop as P
 use Rattle.command_runs.specs.declared.outcome.CState as C
-use Rattle.c_values.specs.Name.{Name, same_name, is_among, are_distinct}
+use Rattle.c_values.specs.Name.{same_name, is_among, are_distinct}
 use Rattle.c_values.proofs.Laid.{name_is, same_name-refl}
 use Rattle.expression_lang.specs.declared.signatures.Signature as G
 use Rattle.expression_lang.specs.Signature.{Signature, signature}
@@ -20,7 +20,7 @@ use Rattle.simpl_lang.specs.Command.{SimplFn, simpl_fn}
 use Rattle.simpl_lang.specs.Sorted.{same_level, come_first, holds_result, are_signed}
 use Rattle.simpl_lang.specs.CodeCommand.{simpl_fn_of}
 use Rattle.command_runs.specs.CodeRun.{HasReturned, IsStateOf, outcome_of, IsEnd, OnLasting}
-use Rattle.global_changes.proofs.Changed.{by_test}
+use Rattle.global_changes.proofs.Indexed.{apart}
 
 -- a name that stands at a place is among the names
 
@@ -38,18 +38,6 @@ among_at (g ∷ fs) (suc k) f lt e = later (same_name (string_bytes f.name) (str
     later : (a b : Bool) → b ≡ true → (a || b) ≡ true
     later true b h = refl
     later false b h = h
-
-or_left : (a b : Bool) → a ≡ false → (a || b) ≡ true → b ≡ true
-or_left true b h k = absurd (false≢true (sym h))
-or_left false b h k = k
-
-apart : (x y : Name) (ys : List Name) → is_among x ys ≡ false → is_among y ys ≡ true → same_name x y ≡ false
-apart x y [] h k = absurd (false≢true k)
-apart x y (z ∷ ys) h k =
-    let p = or_parts (same_name x z) (is_among x ys) h in
-    by_test (same_name y z)
-    (λ b. subst (λ n. same_name x n ≡ false) (sym (name_is y z b)) p.0)
-    (λ b. apart x y ys p.1 (or_left (same_name y z) (is_among y ys) b k))
 
 pub function_at : (fs : List F.SimplFn) (k : ℕ) (f : F.SimplFn) → are_distinct (map (λ h. h.name) (map simpl_fn_of fs)) ≡ true → k < length fs → f ≡ get_or fs k f →
     simpl_fn (map simpl_fn_of fs) (string_bytes f.name) ≡ Some (simpl_fn_of f)
@@ -98,16 +86,6 @@ same_count (f ∷ fs) (s ∷ ss) h =
     ap suc (same_count fs ss (and_parts (((same_name f.name s.name && same_level f.level s.level) && come_first s.params f.locals) && holds_result s.result f.locals) (are_signed fs ss) h).1)
 
 -- what lies at a place of a list
-
-pub some_below : {X : Type 0} (P : X → Type 0) (xs : List X) (k : ℕ) → IsSomeAnd (slice_get xs k) P → k < length xs
-some_below P [] k h = absurd h
-some_below P (x ∷ xs) zero h = omega arith
-some_below P (x ∷ xs) (suc k) h = let less = some_below P xs k h in omega (arith, less)
-
-pub get_some : {X : Type 0} (xs : List X) (k : ℕ) (x : X) → k < length xs → x ≡ get_or xs k x → slice_get xs k ≡ Some x
-get_some [] k x lt e = absurd (omega arith)
-get_some (y ∷ xs) zero x lt e = ap Some (sym e)
-get_some (y ∷ xs) (suc k) x lt e = get_some xs k x (omega arith) e
 
 pub some_and : {X : Type 0} (P : X → Type 0) (o : Option X) (x : X) → o ≡ Some x → P x → IsSomeAnd o P
 some_and P o x e h = subst (λ q. IsSomeAnd q P) (sym e) h

@@ -10,8 +10,8 @@ use Rattle.c_values.specs.declared.values.Value as V
 use Rattle.c_values.specs.Name.{Name, same_name, with_name}
 use Rattle.c_values.specs.Value.{Value}
 use Rattle.c_values.specs.CodeValue.{value_of}
-use Rattle.expression_lang.specs.Evaluation.{Env}
-use Rattle.expression_lang.specs.CodeState.{Bindings, env_with, env_of}
+use Rattle.expression_lang.specs.CodeState.{Bindings, env_of}
+use Rattle.expression_lang.proofs.Scalars.{env_behind}
 use Rattle.command_runs.specs.Locals.{Table, put_in}
 use Rattle.command_runs.specs.CodeRun.{table_of}
 
@@ -23,12 +23,8 @@ entry b = (string_bytes b.0, value_of b.1)
 
 -- the last of a name
 
-after : (bs cs : Bindings) (env : Env) → env_with (bs ++ cs) env ≡ env_with cs (env_with bs env)
-after [] cs env = refl
-after (b ∷ bs) cs env = after bs cs (with_name (string_bytes b.0) (value_of b.1) env)
-
 last_value : (bs cs all : Bindings) (b : Binding) (x : Name) → env_of bs x ≡ env_of all x → bs ≡ cs ++ (b ∷ []) → with_name (string_bytes b.0) (value_of b.1) (env_of cs) x ≡ env_of all x
-last_value bs cs all b x h e = sym (ap (λ env. env x) (ap env_of e ∙ after cs (b ∷ []) (λ y. _))) ∙ h
+last_value bs cs all b x h e = sym (ap (λ env. env x) (ap env_of e ∙ env_behind cs (b ∷ []) (λ y. _))) ∙ h
 
 pub last_found : (bs cs all : Bindings) (b : Binding) (x : Name) → env_of bs x ≡ env_of all x → bs ≡ cs ++ (b ∷ []) → same_name (string_bytes b.0) x ≡ true → value_of b.1 ≡ env_of all x
 last_found bs cs all b x h e k = sym (cond-true (same_name (string_bytes b.0) x) (value_of b.1) (env_of cs x) k) ∙ last_value bs cs all b x h e

@@ -2,7 +2,7 @@
 use Rattle.std.proofs.Common.{◌≡◌, suc, Bool, true, false, not, cond, ◌&&◌, ◌||◌, List, [], ◌∷◌, length, map, Option, Some, None, refl, sym, ap, ap₂, ◌∙◌, subst}
 use Rattle.std.proofs.lemmas.Nat.{pow_pos}
 use Rattle.std.proofs.Math.Path.{fun_ext}
-use Rattle.std.proofs.lemmas.Bool.{and_parts, or_parts, false≢true, not-true, eqb-true, cond-true, cond-false}
+use Rattle.std.proofs.lemmas.Bool.{and_parts, or_parts, false≢true, not-true, cond-true, cond-false}
 use Rattle.c_values.specs.Name.{Name, same_name, with_name, is_among, are_distinct}
 use Rattle.c_values.specs.Value.{Value}
 use Rattle.c_values.proofs.Laid.{name_is, other_name, same_name-refl}
@@ -16,6 +16,7 @@ use Rattle.simpl_lang.specs.Command.{kind_of}
 use Rattle.simpl_lang.specs.Exec.{zero_locals}
 use Rattle.simpl_lang.specs.Sorted.{same_kind, come_first}
 use Rattle.global_changes.proofs.Changed.{by_test}
+use Rattle.simpl_lang.proofs.SameKinds.{same_kind_is}
 use Rattle.command_runs.specs.Locals.{Table, names_in, env_from, put_in, started, AreOfSorts, AreLocals}
 
 cond_swap : (a b : Bool) (v w : Value) (r : Value) → ((a ≡ true) → b ≡ false) → cond a v (cond b w r) ≡ cond b w (cond a v r)
@@ -213,24 +214,6 @@ zero_sorted (WordKind n) = record { has_width = refl; fits = pow_pos n }
 zero_sorted (NatKind n) = record { has_width = refl; fits = pow_pos n }
 zero_sorted (IntKind n) = record { has_width = refl; fits = pow_pos n }
 zero_sorted BoolKind = tt
-
-pub same_kind_is : (k j : Kind) → same_kind k j ≡ true → k ≡ j
-same_kind_is (WordKind m) (WordKind n) h = ap (λ i. WordKind i) (eqb-true m n h)
-same_kind_is (NatKind m) (NatKind n) h = ap (λ i. NatKind i) (eqb-true m n h)
-same_kind_is (IntKind m) (IntKind n) h = ap (λ i. IntKind i) (eqb-true m n h)
-same_kind_is BoolKind BoolKind h = refl
-same_kind_is (WordKind m) (NatKind n) h = absurd (false≢true h)
-same_kind_is (WordKind m) (IntKind n) h = absurd (false≢true h)
-same_kind_is (WordKind m) BoolKind h = absurd (false≢true h)
-same_kind_is (NatKind m) (WordKind n) h = absurd (false≢true h)
-same_kind_is (NatKind m) (IntKind n) h = absurd (false≢true h)
-same_kind_is (NatKind m) BoolKind h = absurd (false≢true h)
-same_kind_is (IntKind m) (WordKind n) h = absurd (false≢true h)
-same_kind_is (IntKind m) (NatKind n) h = absurd (false≢true h)
-same_kind_is (IntKind m) BoolKind h = absurd (false≢true h)
-same_kind_is BoolKind (WordKind n) h = absurd (false≢true h)
-same_kind_is BoolKind (NatKind n) h = absurd (false≢true h)
-same_kind_is BoolKind (IntKind n) h = absurd (false≢true h)
 
 pub started_locals : (ps bs : List Binder) (vs : List Value) → come_first ps bs ≡ true → AreOfSorts (map word_sort_of (kinds_of ps)) vs → AreLocals bs (started bs vs)
 started_locals [] [] [] c h = tt

@@ -1,41 +1,21 @@
 -- What a well-sorted and narrow command asks of its parts.
-use Rattle.std.proofs.Common.{◌≡◌, Bool, true, false, cond, ◌&&◌, List, [], ◌∷◌, map, Option, Some, None, refl, sym, ap, ap₂, subst}
-use Rattle.std.proofs.lemmas.Bool.{and_parts, false≢true, eqb-true}
+use Rattle.std.proofs.Common.{◌≡◌, Bool, true, false, cond, ◌&&◌, List, ◌∷◌, map, Option, Some, None, refl, sym, subst}
+use Rattle.std.proofs.lemmas.Bool.{and_parts, false≢true}
 use Rattle.c_values.specs.Name.{Name}
 use Rattle.c_values.specs.Layout.{Shape, Incomplete, Scalar as WordShape, Record, Row}
 use Rattle.c_values.specs.Path.{Spot, member_spot}
 use Rattle.expression_lang.specs.Expression.{Exp, Path, IntoField, IntoElement}
-use Rattle.expression_lang.specs.Form.{has, is_part_of_value}
-use Rattle.expression_lang.specs.Sort.{Scalar, Sort, Of, PartsSort, WordSort, NumberSort, TruthSort, Scope, sort_of, shape_along, shape_in, same_scalar, is_number, is_truth, truth_sort, word_sort_of}
+use Rattle.expression_lang.specs.Sort.{Scalar, Of, NumberSort, TruthSort, Scope, sort_of, shape_along, shape_in, is_number, is_truth, truth_sort, word_sort_of}
 use Rattle.expression_lang.specs.Signature.{Signature, signature, kinds_of}
-use Rattle.expression_lang.specs.Sorted.{program_sort, scalar_in, with_scalar, scalars_of, same_scalars, result_scalars, call_scalars}
+use Rattle.expression_lang.specs.Sorted.{program_sort, scalar_in, scalars_of, same_scalars, result_scalars, call_scalars}
 use Rattle.expression_lang.proofs.Inversion.{number_inv, truth_inv}
+use Rattle.expression_lang.proofs.SameScalars.{same_scalars_are}
+use Rattle.expression_lang.proofs.SortParts.{scalar_in_inv, with_scalar_inv, program_sort_inv}
 use Rattle.simpl_lang.specs.Command.{Condition, Simpl, Seq, Cond, Guard, Catch, While, Call}
 use Rattle.simpl_lang.specs.Sorted.{are_conditions, is_sorted, fits_target}
 use Rattle.simpl_lang.specs.CodeForms.{signatures_in}
 use Rattle.command_runs.specs.declared.frame.Frame as R
 use Rattle.command_runs.specs.CodeRun.{scope_for, HasSortIn, LeadsIn, HaveSortsIn, HaveTruthsIn, CanRunIn}
-
-without_parts : (b : Bool) (p : Option Sort) (o : Sort) → cond b None p ≡ Some o → p ≡ Some o
-without_parts true p o h = absurd cc
-without_parts false p o h = h
-
-pub program_sort_inv : (g : Scope) (e : Exp) (o : Sort) → program_sort g e ≡ Some o → sort_of g e ≡ Some o
-program_sort_inv g e o h = without_parts (has is_part_of_value e) (sort_of g e) o h
-
-pub with_scalar_inv : (o : Option Scalar) (p : Option (List Scalar)) (cs : List Scalar) → with_scalar o p ≡ Some cs → (d : Scalar) × (ds : List Scalar) × (o ≡ Some d) × (p ≡ Some ds) × (d ∷ ds ≡ cs)
-with_scalar_inv (Some d) (Some ds) cs h = (d, ds, refl, refl, some_is h)
-  where
-    some_is : {as' bs : List Scalar} → ◌≡◌ {A = Option (List Scalar)} (Some as') (Some bs) → as' ≡ bs
-    some_is e = cc
-with_scalar_inv (Some d) None cs h = absurd cc
-with_scalar_inv None (Some ds) cs h = absurd cc
-with_scalar_inv None None cs h = absurd cc
-
-pub scalar_in_inv : (o : Option Sort) (c : Scalar) → scalar_in o ≡ Some c → o ≡ Some (Of c)
-scalar_in_inv (Some (Of d)) c h = let same : d ≡ c = cc in ap (λ e. Some (Of e)) same
-scalar_in_inv (Some (PartsSort t)) c h = absurd cc
-scalar_in_inv None c h = absurd cc
 
 member_some : (o : Option Spot) (f : Shape → Option Shape) (q : Shape) → shape_in o f ≡ Some q → (r : Shape) × (f r ≡ Some q)
 member_some None f q h = absurd cc
@@ -44,23 +24,6 @@ member_some (Some s) f q h = (s.shape, h)
 element_some : (b : Bool) (o : Option Shape) (q : Shape) → cond b o None ≡ Some q → (b ≡ true) × (o ≡ Some q)
 element_some true o q h = (refl, h)
 element_some false o q h = absurd cc
-
-same_scalar_is : (a b : Scalar) → same_scalar a b ≡ true → a ≡ b
-same_scalar_is (WordSort m) (WordSort n) h = ap (λ k. WordSort k) (eqb-true m n h)
-same_scalar_is NumberSort NumberSort h = refl
-same_scalar_is TruthSort TruthSort h = refl
-same_scalar_is (WordSort m) NumberSort h = absurd cc
-same_scalar_is (WordSort m) TruthSort h = absurd cc
-same_scalar_is NumberSort (WordSort n) h = absurd cc
-same_scalar_is NumberSort TruthSort h = absurd cc
-same_scalar_is TruthSort (WordSort n) h = absurd cc
-same_scalar_is TruthSort NumberSort h = absurd cc
-
-same_scalars_are : (as' bs : List Scalar) → same_scalars as' bs ≡ true → as' ≡ bs
-same_scalars_are [] [] h = refl
-same_scalars_are (a ∷ as') (b ∷ bs) h = let p = and_parts (same_scalar a b) (same_scalars as' bs) h in ap₂ (λ c cs. c ∷ cs) (same_scalar_is a b p.0) (same_scalars_are as' bs p.1)
-same_scalars_are [] (b ∷ bs) h = absurd (false≢true h)
-same_scalars_are (a ∷ as') [] h = absurd (false≢true h)
 
 module _ (f : R.Frame) where
   abbrev g : Scope

@@ -1,10 +1,10 @@
 -- Where a part of an object takes a value: the spot is there, and the value is of its shape.
-use Rattle.std.proofs.Common.{◌≡◌, ℕ, ◌<◌, ◌^◌, List, [], ◌∷◌, Option, Some, Result, Ok, Err, sym, subst}
+use Rattle.std.proofs.Common.{◌≡◌, List, [], ◌∷◌, Option, Some, Result, Ok, Err, sym, subst}
 use Rattle.std.specs.Prelude.{OnOk}
 use Rattle.c_values.specs.Types.{CType}
 use Rattle.c_values.specs.Layout.{Layout, shape_of}
-use Rattle.c_values.specs.Path.{Spot, spot, upd, HasShape, IsBits}
-use Rattle.c_values.specs.Value.{Value, Bits, Number, Truth, Parts, word_in}
+use Rattle.c_values.specs.Path.{Spot, spot, upd, HasShape}
+use Rattle.c_values.specs.Value.{Value}
 use Rattle.expression_lang.specs.Expression.{Exp, Path}
 use Rattle.expression_lang.specs.Sort.{Scalar, Of}
 use Rattle.expression_lang.specs.Evaluation.{value, steps}
@@ -12,19 +12,13 @@ use Rattle.expression_lang.specs.Signature.{values_of}
 use Rattle.expression_lang.specs.Sorted.{program_sort, scalar_in, scalars_of}
 use Rattle.expression_lang.specs.CodeState.{Bindings, env_of}
 use Rattle.expression_lang.proofs.Good.{Good, good_object, good_spot, upd_put}
+use Rattle.expression_lang.proofs.SortParts.{scalar_in_inv, value_shaped, with_scalar_inv, program_sort_inv}
 use Rattle.command_runs.specs.declared.frame.Frame as R
 use Rattle.command_runs.specs.declared.outcome.CState as C
 use Rattle.command_runs.specs.Locals.{AreOfSorts}
 use Rattle.command_runs.specs.CodeRun.{state_in, scope_for, IsFrame, Fits, HasSortIn, HaveSortsIn}
 use Rattle.command_runs.proofs.Evaluated.{value_fits, path_fits}
-use Rattle.command_runs.proofs.Parts.{with_scalar_inv, scalar_in_inv, program_sort_inv}
-use Rattle.command_runs.proofs.Places.{IsPlace, value_shaped}
-
-pub bits_below : (n : ℕ) (v : Value) → IsBits n v → (word_in v).bits < 2 ^ n
-bits_below n (Bits w) h = h.fits
-bits_below n (Number z) h = absurd h
-bits_below n (Truth b) h = absurd h
-bits_below n (Parts vs) h = absurd h
+use Rattle.command_runs.proofs.Places.{IsPlace}
 
 pub on_ok : {T E : Type 0} {P Q : Type 0} (r : Result T E) → OnOk r P → (P → Q) → OnOk r Q
 on_ok (Ok x) h f = f h

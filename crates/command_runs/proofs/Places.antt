@@ -1,37 +1,21 @@
 -- What commands that give values ask of their parts: locals, globals and places in memory.
-use Rattle.std.proofs.Common.{◌≡◌, Bool, true, false, cond, ◌&&◌, Option, Some, None, refl, sym, ap, subst}
-use Rattle.std.proofs.lemmas.Bool.{and_parts, false≢true, eqb-true}
+use Rattle.std.proofs.Common.{◌≡◌, true, cond, ◌&&◌, Option, Some, None, refl, sym, ap}
+use Rattle.std.proofs.lemmas.Bool.{and_parts, false≢true}
 use Rattle.c_values.specs.Name.{Name}
 use Rattle.c_values.specs.Types.{CType, address_width}
-use Rattle.c_values.specs.Layout.{Layout, Shape, Incomplete, Scalar as WordShape, Record, Row, type_of, is_object, shape_of}
-use Rattle.c_values.specs.Path.{HasShape}
-use Rattle.c_values.specs.Value.{Value}
-use Rattle.c_values.proofs.Laid.{structs_of}
-use Rattle.c_values.proofs.Parts.{laid_shape}
+use Rattle.c_values.specs.Layout.{Shape, is_object, shape_of}
 use Rattle.expression_lang.specs.Expression.{Exp, Path}
 use Rattle.expression_lang.specs.Form.{path_has, is_part_of_value}
-use Rattle.expression_lang.specs.Sort.{Scalar, Sort, Of, PartsSort, WordSort, NumberSort, TruthSort, Scope, shape_along, sort_at, same_scalar, is_word_of}
-use Rattle.expression_lang.specs.Sorted.{program_sort, sort_in, part_place, typed_place, global_place, fits_place}
-use Rattle.expression_lang.proofs.Inversion.{word_of_inv, same_inv}
-use Rattle.expression_lang.proofs.Good.{Good}
-use Rattle.expression_lang.proofs.Fine.{HasSort}
+use Rattle.expression_lang.specs.Sort.{Scalar, Sort, Of, PartsSort, WordSort, Scope, shape_along, sort_at, is_word_of}
+use Rattle.expression_lang.specs.Sorted.{program_sort, sort_in, part_place, typed_place, global_place}
+use Rattle.expression_lang.proofs.Inversion.{word_of_inv}
+use Rattle.expression_lang.proofs.SameScalars.{same_scalar_is}
+use Rattle.expression_lang.proofs.SortParts.{fits_inv, sort_in_inv, only_where, without_parts, program_sort_inv}
 use Rattle.program_sorts.specs.Sorts.{is_scalar_of}
 use Rattle.simpl_lang.specs.Command.{Set, SetGlobal, Store, Pick}
 use Rattle.simpl_lang.specs.Sorted.{is_local}
 use Rattle.command_runs.specs.declared.frame.Frame as R
 use Rattle.command_runs.specs.CodeRun.{scope_for, HasSortIn, LeadsIn, CanRunIn}
-use Rattle.command_runs.proofs.Parts.{program_sort_inv}
-
-same_scalar_is : (a b : Scalar) → same_scalar a b ≡ true → a ≡ b
-same_scalar_is (WordSort m) (WordSort n) h = ap (λ k. WordSort k) (eqb-true m n h)
-same_scalar_is NumberSort NumberSort h = refl
-same_scalar_is TruthSort TruthSort h = refl
-same_scalar_is (WordSort m) NumberSort h = absurd cc
-same_scalar_is (WordSort m) TruthSort h = absurd cc
-same_scalar_is NumberSort (WordSort n) h = absurd cc
-same_scalar_is NumberSort TruthSort h = absurd cc
-same_scalar_is TruthSort (WordSort n) h = absurd cc
-same_scalar_is TruthSort NumberSort h = absurd cc
 
 pub scalar_of_inv : (o : Option Scalar) (p : Option Sort) → is_scalar_of o p ≡ true → (c : Scalar) × (o ≡ Some c) × (p ≡ Some (Of c))
 scalar_of_inv (Some c) (Some (Of d)) h = (c, refl, ap (λ e. Some (Of e)) (sym (same_scalar_is c d h)))
@@ -42,35 +26,6 @@ scalar_of_inv None p h = absurd (false≢true h)
 local_inv : (o : Option Scalar) → is_local o ≡ true → (c : Scalar) × (o ≡ Some c)
 local_inv (Some c) h = (c, refl)
 local_inv None h = absurd (false≢true h)
-
-fits_inv : (a b : Option Sort) → fits_place a b ≡ true → (o : Sort) × (a ≡ Some o) × (b ≡ Some o)
-fits_inv (Some a) (Some b) h = same_inv (Some a) (Some b) h
-fits_inv (Some a) None h = absurd (false≢true h)
-fits_inv None (Some b) h = absurd (false≢true h)
-fits_inv None None h = absurd (false≢true h)
-
-sort_in_inv : (o : Option Shape) (r : Sort) → sort_in o ≡ Some r → (q : Shape) × (o ≡ Some q) × (sort_at q ≡ Some r)
-sort_in_inv (Some q) r h = (q, refl, h)
-sort_in_inv None r h = absurd cc
-
-only_where : (b : Bool) (p : Option Sort) (o : Sort) → cond b p None ≡ Some o → (b ≡ true) × (p ≡ Some o)
-only_where true p o h = (refl, h)
-only_where false p o h = absurd cc
-
-without_parts : (b : Bool) (p : Option Sort) (o : Sort) → cond b None p ≡ Some o → p ≡ Some o
-without_parts true p o h = absurd cc
-without_parts false p o h = h
-
--- a value of the sort of a good shape is of the shape
-pub value_shaped : (l : Layout) (q : Shape) (o : Sort) (v : Value) → Good l q → sort_at q ≡ Some o → HasSort l o v → HasShape q v
-value_shaped l Incomplete o v k e x = absurd cc
-value_shaped l (WordShape t n) o v k e x = let same : Of (WordSort n) ≡ o = cc in subst (λ p. HasSort l p v) (sym same) x
-value_shaped l (Record y n align fs) o v k e x =
-    let same : PartsSort (type_of (Record y n align fs)) ≡ o = cc in
-    subst (λ r. HasShape r v) (laid_shape l.target (structs_of l) (Record y n align fs) k.laid) (subst (λ p. HasSort l p v) (sym same) x)
-value_shaped l (Row r n) o v k e x =
-    let same : PartsSort (type_of (Row r n)) ≡ o = cc in
-    subst (λ s. HasShape s v) (laid_shape l.target (structs_of l) (Row r n) k.laid) (subst (λ p. HasSort l p v) (sym same) x)
 
 -- a part of an object that takes a value
 pub record IsPlace (f : R.Frame) (t : CType) (path : Path) (e : Exp) : Type 0 where

@@ -1,7 +1,8 @@
 -- What is pending goes on from each end of the part that runs.
-use Rattle.std.proofs.Common.{List, [], ◌∷◌, sym, subst}
-use Rattle.correspondence.specs.Outcome.{Limit, Turns, Depth, Outcome, Done, Failed, Stopped, Ends, done, goes_on, fails, stops, Then}
+use Rattle.std.proofs.Common.{List, [], ◌∷◌}
+use Rattle.correspondence.specs.Outcome.{Limit, Turns, Depth, Failed, Stopped, Ends, fails, stops}
 use Rattle.correspondence.specs.Included.{Included}
+use Rattle.correspondence.proofs.Included.{then_within}
 use Rattle.expression_lang.specs.GuardKind.{GuardKind}
 use Rattle.simpl_lang.specs.Exec as E
 use Rattle.simpl_lang.specs.CodeCommand.{guard_kind_of}
@@ -10,25 +11,6 @@ use Rattle.command_runs.specs.declared.frame.Frame as R
 use Rattle.command_runs.specs.declared.machine.Pending as W
 use Rattle.command_runs.specs.CodeRun.{HasStopped}
 use Rattle.command_runs.specs.CodeMachine.{resumed, caller_frame}
-
-pub same_ends : {A F : Type 0} (p : Ends A F) → Included p p
-same_ends p = record { each = λ o h. h }
-
-pub then_within : {A B F : Type 0} (p q : Ends A F) (r : A → Ends B F) → Included p q → Included (Then p r) (Then q r)
-then_within {A} {B} {F} p q r h = record { each = at }
-  where
-    at : (o : Outcome B F) → Then p r o → Then q r o
-    at o (goes_on x y) = goes_on (h.each _ x) y
-    at (Failed f) (fails x) = fails (h.each _ x)
-    at (Stopped w) (stops x) = stops (h.each _ x)
-
-pub done_within : {A F : Type 0} (a : A) (p : Ends A F) → p (Done a) → Included (done a) p
-done_within {A} {F} a p h = record { each = at }
-  where
-    at : (o : Outcome A F) → done a o → p o
-    at (Done b) e = subst (λ c. p (Done c)) (sym e) h
-    at (Failed f) e = absurd e
-    at (Stopped w) e = absurd e
 
 pub resumed_within : (f : R.Frame) (fs : List W.Pending) (p q : Ends E.Flow GuardKind) → Included p q → Included (resumed f fs p) (resumed f fs q)
 resumed_within f [] p q h = h

@@ -3,6 +3,7 @@ use Rattle.std.proofs.Common.{◌≡◌, ℕ, suc, ◌+◌, true, false, List, [
 use Rattle.std.proofs.lemmas.List.{reverse-append}
 use Rattle.std.specs.Borrow.{Bor}
 use Rattle.correspondence.specs.Outcome.{Turns, Depth, Done, Failed, Stopped, goes_on, Then}
+use Rattle.correspondence.proofs.Included.{included_itself, done_within}
 use Rattle.c_values.specs.Choice.{Choice, Fill}
 use Rattle.expression_lang.specs.Expression.{Exp}
 use Rattle.expression_lang.specs.Machine.{Machine}
@@ -23,7 +24,7 @@ use Rattle.command_runs.specs.CodeMachine.{Now, Running, Ended, Point, point, fu
 use Rattle.command_runs.proofs.Commands as K
 use Rattle.command_runs.proofs.Costs.{cost_some}
 use Rattle.command_runs.proofs.Parts.{seq_first, seq_last, catch_first, catch_last, cond_first, cond_last, guard_last, while_body}
-use Rattle.command_runs.proofs.Resumed.{same_ends, done_within, resumed_within}
+use Rattle.command_runs.proofs.Resumed.{resumed_within}
 
 pub pushed : (items news : List W.Pending) (p : W.Pending) → news ≡ items ++ (p ∷ []) → reverse news ≡ p ∷ reverse items
 pushed items news p h = ap reverse h ∙ reverse-append items (p ∷ [])
@@ -103,7 +104,7 @@ module _ (f : R.Frame) (fs : List W.Pending) (bs : Bindings) (s : C.CState) wher
   module _ (a : Simpl) (b : Bor S.Simpl) (n : ℕ) where
     pub seq_step : CanGoOn (at fs (Running f (Seq a (simpl_of b.now)) n)) → Steps (at fs (Running f (Seq a (simpl_of b.now)) n)) (at (W.TheVariants.Rest b n ∷ fs) (Running f a n))
     seq_step h = record {
-      within = same_ends _;
+      within = included_itself _;
       less = omega arith;
       sorted = record { frame = h.frame; fits = h.fits; now = seq_first f a (simpl_of b.now) h.now; rest = (seq_last f a (simpl_of b.now) h.now, h.rest) };
       unit = refl;
@@ -111,7 +112,7 @@ module _ (f : R.Frame) (fs : List W.Pending) (bs : Bindings) (s : C.CState) wher
 
     pub catch_step : CanGoOn (at fs (Running f (Catch a (simpl_of b.now)) n)) → Steps (at fs (Running f (Catch a (simpl_of b.now)) n)) (at (W.TheVariants.Handler b n ∷ fs) (Running f a n))
     catch_step h = record {
-      within = same_ends _;
+      within = included_itself _;
       less = omega arith;
       sorted = record { frame = h.frame; fits = h.fits; now = catch_first f a (simpl_of b.now) h.now; rest = (catch_last f a (simpl_of b.now) h.now, h.rest) };
       unit = refl;

@@ -1,6 +1,5 @@
 -- A path's steps and the values of arguments, one more at a time.
-use Rattle.std.proofs.Common.{◌≡◌, List, [], ◌∷◌, ◌++◌, map, sym, ap, ◌∙◌, append_assoc}
-use Rattle.std.proofs.lemmas.List.{map-append}
+use Rattle.std.proofs.Common.{◌≡◌, List, [], ◌∷◌, ◌++◌, map, sym, ap, ◌∙◌}
 use Rattle.c_values.specs.declared.values.Value as V
 use Rattle.c_values.specs.Value.{Value, number_in}
 use Rattle.c_values.specs.Layout.{Layout}
@@ -11,11 +10,7 @@ use Rattle.c_memory.specs.CodeStep.{step_of}
 use Rattle.expression_lang.specs.Expression.{Exp, Path, IntoElement}
 use Rattle.expression_lang.specs.Evaluation.{Env, State, value, steps}
 use Rattle.expression_lang.specs.Signature.{values_of}
-
-one_more : {A B : Type 0} (f : A → B) (xs ys : List A) (x : A) (b : B) (rest all : List B) → ys ≡ xs ++ (x ∷ []) → f x ≡ b → map f xs ++ (b ∷ rest) ≡ all → map f ys ++ rest ≡ all
-one_more f xs ys x b rest all grown same h =
-    ap (λ zs. map f zs ++ rest) grown ∙ ap (λ zs. zs ++ rest) (map-append f xs (x ∷ [])) ∙ append_assoc (map f xs) (f x ∷ []) rest
-    ∙ ap (λ c. map f xs ++ (c ∷ rest)) same ∙ h
+use Rattle.global_changes.proofs.Indexed.{one_more}
 
 module _ (l : Layout) (env : Env) (s : State) where
   pub steps_grow : (ps qs : List P.Step) (p : P.Step) (v : V.Value) (path rest : Path) (e : Exp) (all : List Step) → qs ≡ ps ++ (p ∷ []) → step_of p ≡ Index (number_in (value_of v)) →

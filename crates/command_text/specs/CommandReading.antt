@@ -4,7 +4,7 @@ use Rattle.c_values.specs.Name.{Name, same_name}
 use Rattle.expression_lang.specs.GuardKind.{GuardKind}
 use Rattle.ac_sx.specs.Tree.{Tree, Trees, Atom, Node, no_trees, more}
 use Rattle.ac_sx.specs.CodeSx.{one_of, two_of, three_of, first_of}
-use Rattle.expression_text.specs.Reading.{Read, next}
+use Rattle.expression_text.specs.Reading.{Read, next, ◌>>=◌}
 use Rattle.expression_text.specs.Names.{is_name, name_at}
 use Rattle.expression_text.specs.Words.{looked_up}
 use Rattle.expression_text.specs.TypeReading.{type_at}

@@ -2,7 +2,7 @@
 use Rattle.std.specs.Prelude.{option_and_then}
 use Rattle.std.specs.Option.{option_map}
 use Rattle.std.proofs.Common.{◌≡◌, ℕ, zero, suc, ◌+◌, ◌*◌, ◌^◌, ◌<◌, ◌≤◌, nat_le, Bool, true, false, not, ◌&&◌, cond, List, ◌∷◌, Option, Some, None, Ok, Err, ℤ, pos, negsuc, neg_ℤ, ◌+ℤ◌, ◌*ℤ◌, refl, sym, ap, ap₂, ◌∙◌, subst, arith, lit≤, lit<, le_trans, leb-true}
-use Rattle.std.proofs.lemmas.Bool.{false≢true, and_parts, and_from, cond-true, le-leb, ltb-true, lt-ltb}
+use Rattle.std.proofs.lemmas.Bool.{false≢true, and_from, cond-true, le-leb, ltb-true, lt-ltb}
 use Rattle.std.proofs.lemmas.Int.{ints}
 use Rattle.std.proofs.Math.IntN.{+ℤ_assoc}
 use Rattle.std.specs.Cmp.{first_so, second_so}
@@ -17,19 +17,22 @@ use Rattle.c_values.proofs.Formed.{IsFormed, AreFormed, members_end, size_some}
 use Rattle.c_values.proofs.Laid.{shape_good}
 use Rattle.c_values.proofs.Parts.{formed_complete}
 use Rattle.c_values.proofs.WordValues.{word-unsigned}
+use Rattle.c_values.proofs.Options.{none_some, some_is}
+use Rattle.c_values.proofs.Widths.{some_width}
 use Rattle.expression_lang.specs.Evaluation as E
 use Rattle.expression_lang.specs.Evaluation.{Env, State, moved_to}
 use Rattle.expression_lang.specs.GuardKind as K
 use Rattle.expression_lang.proofs.Sorting.{object_whole}
 use Rattle.expression_lang.proofs.Filled.{word_fits}
+use Rattle.expression_lang.proofs.Fine.{bits_word}
 use Rattle.c_lang.specs.Typed as C
 use Rattle.c_lang.specs.WellTyped.{Scope, is_typed, is_typed_place, are_typed_indices, has_type, member_shape, shape_along}
+use Rattle.c_lang.proofs.Paths.{none_along}
 use Rattle.c_meaning.specs.CValue.{Context, Defined, ◌>>=◌, unless, number_of_type, int_of, is_true, value, located, indexed, are_in_bounds, InMemory, address_of}
 use Rattle.c_meaning.specs.CValue as M
 use Rattle.generation.specs.Guards.{is_signed_type}
-use Rattle.generation.proofs.ExactNumbers.{number_by, number_of_type_is, some_width, some_scalar, word_of_bits, bits_are, word-number}
-use Rattle.generation.proofs.ExactTests.{none_is_none, same_some}
-use Rattle.generation.proofs.ExactPath.{nowhere, end_of, into_row}
+use Rattle.generation.proofs.ExactNumbers.{number_by, number_of_type_is, some_scalar, bits_are, word-number}
+use Rattle.generation.proofs.ExactPath.{end_of, into_row}
 use Rattle.typing_rules.specs.Constant as F
 use Rattle.typing_rules.specs.Constant.{is_constant, is_constant_place, is_constant_path, folded, address, reached, constant_value}
 use Rattle.constant_laws.specs.SameValue.{IsSameValue, plain, HasItsValue}
@@ -42,10 +45,10 @@ abbrev IsPart : Shape → Type 0
 IsPart s = IsFormed s × (size s ≤ largest_size)
 
 member_part : (fs : Fields) (align n at k : ℕ) (s : Shape) → AreFormed align n at fs → member_shape fs k ≡ Some s → IsFormed s × (size s ≤ n)
-member_part no_fields align n at k s h e = absurd (none_is_none e)
+member_part no_fields align n at k s h e = absurd (none_some e)
 member_part (field offset r fs) align n at zero s h e =
     let ends : offset + size r ≤ n = members_end align n (offset + size r) fs h.others in
-    subst (λ q. IsFormed q × (size q ≤ n)) (same_some e) (h.first, omega arith)
+    subst (λ q. IsFormed q × (size q ≤ n)) (some_is e) (h.first, omega arith)
 member_part (field offset r fs) align n at (suc k) s h e = member_part fs align n (offset + size r) k s h.others e
 
 element_size : (n e m : ℕ) → 0 < n → n * e ≤ m → e ≤ m
@@ -55,8 +58,8 @@ elements_few : (n e m : ℕ) → 0 < e → n * e ≤ m → n ≤ m
 elements_few n e m h k = let j : n ≤ n * e = grind arith in omega arith
 
 member_spotted : (fs : Fields) (k : ℕ) (s : Shape) → member_shape fs k ≡ Some s → (at : ℕ) × (member_spot fs k ≡ Some (record { offset = pos at; shape = s }))
-member_spotted no_fields k s e = absurd (none_is_none e)
-member_spotted (field at r fs) zero s e = (at, ap (λ q. Some (record { offset = pos at; shape = q })) (same_some e))
+member_spotted no_fields k s e = absurd (none_some e)
+member_spotted (field at r fs) zero s e = (at, ap (λ q. Some (record { offset = pos at; shape = q })) (some_is e))
 member_spotted (field at r fs) (suc k) s e = member_spotted fs k s e
 
 part_object : (s : Shape) → IsPart s → F.object_in s ≡ s
@@ -109,7 +112,7 @@ module _ (g : Scope) (layout : IsLayout g.layout) (locals : Env) (st : State) wh
   as_type t e h k = subst (λ u. At u e) (type_is (C.type_of e) t h) k
 
   word_at : (t : CType) (v : V.Value) → IsBits (scalar_width g.layout.target t) v → IsWord (scalar_width g.layout.target t) (V.word_in v)
-  word_at t v h = word_of_bits (scalar_width l.target t) v h
+  word_at t v h = bits_word (scalar_width l.target t) v h
 
   converted_same : (t from : CType) (v : V.Value) → is_scalar t ≡ true → HasNumber (is_signed_type t) (scalar_width g.layout.target t) (F.number_at g.layout t (number_by (is_signed_type from) (V.word_in v))) (M.converted g.layout t from v)
   converted_same (Integer i) from v h =
@@ -254,7 +257,7 @@ module _ (g : Scope) (layout : IsLayout g.layout) (locals : Env) (st : State) wh
   place_same t path (Some m) (Err k) h rest = absurd h
   place_same t path (Some m) (Ok v) h rest =
       let p = V.word_in v in
-      let is = word_of_bits A v h.bits in
+      let is = bits_word A v h.bits in
       subst (λ n. Matches false A (reached l path (shape_of l t) n) ((indexed c path >>= λ ps. unless (are_in_bounds path ps) K.Bounds (Ok (InMemory t p ps))) >>= λ s. Ok (address_of c s))) (ap unsigned (word-unsigned A p is) ∙ h.number)
       (by_steps p (reached l path (shape_of l t) (unsigned (word A (unsigned p)))) (indexed c path) (rest (unsigned p)))
     where
@@ -374,7 +377,7 @@ module _ (g : Scope) (layout : IsLayout g.layout) (locals : Env) (st : State) wh
         by_member : (o : Option Shape) → member_shape fs m ≡ o → shape_along o path ≡ Some q →
             ((r q : Shape) → IsPart r → shape_along (Some r) path ≡ Some q → (x : ℤ) → PathSame x r path (indexed c path) (reached g.layout path r (unsigned (word A x)))) →
             PathSame x (Record y n align fs) (C.Member m path) (indexed c path >>= λ ps. Ok (Field m ∷ ps)) (reached g.layout (C.Member m path) (Record y n align fs) (unsigned (word A x)))
-        by_member None d f rest = absurd (none_is_none (sym (nowhere path) ∙ f))
+        by_member None d f rest = absurd (none_some (sym (none_along path) ∙ f))
         by_member (Some r) d f rest =
             let s = member_spotted fs m r d in
             let inner = member_part fs align n 0 m r part.0.members d in
@@ -384,19 +387,19 @@ module _ (g : Scope) (layout : IsLayout g.layout) (locals : Env) (st : State) wh
         let d = into_row n m r path q e in
         subst (λ z. PathSame x (Row r m) (C.Element z i path) (indexed c (C.Element z i path)) (reached l (C.Element z i path) (Row r m) (unsigned (word A x)))) (sym d.0)
         (index_step x r m path i part (λ y. path_same path (second_so _ _ h) (second_so _ _ k) r q (row_part r m part) d.1 y) (folded l i) (value c i) (same i (second_so _ _ (first_so _ _ h)) (first_so _ _ k)))
-    path_same (C.Member m path) h k Incomplete q part e x = absurd (none_is_none e)
-    path_same (C.Member m path) h k (Scalar u w) q part e x = absurd (none_is_none e)
-    path_same (C.Member m path) h k (Row r n) q part e x = absurd (none_is_none e)
-    path_same (C.Element n i path) h k Incomplete q part e x = absurd (none_is_none e)
-    path_same (C.Element n i path) h k (Scalar u w) q part e x = absurd (none_is_none e)
-    path_same (C.Element n i path) h k (Record y m align fs) q part e x = absurd (none_is_none e)
+    path_same (C.Member m path) h k Incomplete q part e x = absurd (none_some e)
+    path_same (C.Member m path) h k (Scalar u w) q part e x = absurd (none_some e)
+    path_same (C.Member m path) h k (Row r n) q part e x = absurd (none_some e)
+    path_same (C.Element n i path) h k Incomplete q part e x = absurd (none_some e)
+    path_same (C.Element n i path) h k (Scalar u w) q part e x = absurd (none_some e)
+    path_same (C.Element n i path) h k (Record y m align fs) q part e x = absurd (none_some e)
 
   -- in the words of the law
   as_word : (t : CType) (o : Option ℤ) (d : Defined V.Value) → Matches (is_signed_type t) (scalar_width g.layout.target t) o d → IsSameValue g.layout t o d
   as_word t None (Err k) h = tt
   as_word t (Some n) (Ok v) h =
       let w = scalar_width l.target t in
-      (bits_are w v h.bits ∙ ap V.Bits (sym (word-number (is_signed_type t) w (V.word_in v) (word_of_bits w v h.bits)) ∙ ap (word w) h.number), number_of_type_is t v ∙ h.number)
+      (bits_are w v h.bits ∙ ap V.Bits (sym (word-number (is_signed_type t) w (V.word_in v) (bits_word w v h.bits)) ∙ ap (word w) h.number), number_of_type_is t v ∙ h.number)
   as_word t None (Ok v) h = absurd h
   as_word t (Some n) (Err k) h = absurd h
 

@@ -2,7 +2,7 @@
 use Rattle.std.specs.Prelude.{option_and_then}
 use Rattle.std.specs.Option.{option_map}
 use Rattle.std.specs.Int.{int_div_euclid}
-use Rattle.std.proofs.Common.{◌≡◌, ℕ, ◌-◌, ◌^◌, ◌<◌, ◌≤◌, Bool, true, false, not, ◌&&◌, ◌||◌, cond, Option, Some, None, Ok, Err, ℤ, pos, negsuc, neg_ℤ, ◌+ℤ◌, ◌-ℤ◌, ◌*ℤ◌, int_eq, int_lt, int_le, refl, sym, ap, ap₂, ◌∙◌, subst, arith}
+use Rattle.std.proofs.Common.{◌≡◌, ℕ, ◌-◌, ◌^◌, ◌≤◌, Bool, true, false, not, ◌&&◌, ◌||◌, cond, Option, Some, None, Ok, Err, ℤ, pos, negsuc, neg_ℤ, ◌+ℤ◌, ◌-ℤ◌, ◌*ℤ◌, int_eq, int_lt, int_le, refl, sym, ap, ap₂, ◌∙◌, subst, arith}
 use Rattle.std.proofs.lemmas.Bool.{false≢true, cond-true}
 use Rattle.std.proofs.lemmas.Int.{ints}
 use Rattle.c_values.specs.Number.{is_between, least, greatest, quotient, remainder}
@@ -10,12 +10,13 @@ use Rattle.c_values.specs.Word.{Word, IsWord, unsigned, signed, word, WordOp, wo
 use Rattle.c_values.specs.Value as V
 use Rattle.c_values.specs.Path.{IsBits}
 use Rattle.c_values.proofs.WordValues.{IsSigned, low, high, halves, signed_of}
-use Rattle.c_values.proofs.WordResults.{unsigned_quotient, unsigned_remainder, signed_remainder}
+use Rattle.c_values.proofs.WordResults.{unsigned_quotient, unsigned_remainder, signed_remainder, positive_between, negative_between}
 use Rattle.expression_lang.specs.GuardKind as K
 use Rattle.expression_lang.proofs.Filled.{word_fits}
+use Rattle.expression_lang.proofs.Fine.{op_word, unary_word}
 use Rattle.c_meaning.specs.CValue.{Defined, ◌>>=◌, unless, is_true}
 use Rattle.generation.proofs.ExactNumbers.{number_by, word-number, number-word, same_as_number, zero_between}
-use Rattle.generation.proofs.ExactArithmetic.{word_op_fits, word_unary_fits, sum_of_words, difference_of_words, product_of_words, quotient_of_words, remainder_of_words, negation_of_word}
+use Rattle.generation.proofs.ExactArithmetic.{sum_of_words, difference_of_words, product_of_words, quotient_of_words, remainder_of_words, negation_of_word}
 use Rattle.generation.proofs.ExactFits.{unsigned_in_range}
 
 -- a word with a number, by the sign
@@ -58,12 +59,6 @@ abbrev exactly : Bool → ℕ → ℤ → Option ℤ
 exactly b w n = cond (is_between (least b w) n (greatest b w)) (Some n) None
 
 -- ---- the range of a signed value
-
-positive_between : (half m : ℕ) → m < half → is_between (neg_ℤ (pos half)) (pos m) (pos (half - 1)) ≡ true
-positive_between half m h = grind (arith, ints)
-
-negative_between : (half m : ℕ) → m < half → is_between (neg_ℤ (pos half)) (negsuc m) (pos (half - 1)) ≡ true
-negative_between half m h = grind (arith, ints)
 
 range_of : (w bits : ℕ) (n : ℤ) → 1 ≤ w → IsSigned w bits n → is_between (least true w) n (greatest true w) ≡ true
 range_of w bits n some (low p) = positive_between (2 ^ (w - 1)) bits p
@@ -132,7 +127,7 @@ module _ (b : Bool) (w : ℕ) (some : 1 ≤ w) where
     negation_same = fitted_same (neg_ℤ (number_by b x)) (word_unary Wneg (word w (number_by b x))) (λ e. ap (word_unary Wneg) back ∙ negation_of_word w some x h b (λ t. clash b t e))
 
     pub complement_same : HasNumber b w (number_by b (word_unary Wnot (word w (number_by b x)))) (V.Bits (word_unary Wnot x))
-    complement_same = of_same (word_unary Wnot (word w (number_by b x))) (word_unary Wnot x) (word_unary_fits w Wnot x h) (ap (word_unary Wnot) back)
+    complement_same = of_same (word_unary Wnot (word w (number_by b x))) (word_unary Wnot x) (unary_word w Wnot x h) (ap (word_unary Wnot) back)
 
     module _ (y : Word) (k : IsWord w y) where
       back_too : word w (number_by b y) ≡ y
@@ -153,7 +148,7 @@ module _ (b : Bool) (w : ℕ) (some : 1 ≤ w) where
       unsigned_fits : b ≡ false → is_between (least b w) (quotient (number_by b x) (number_by b y)) (greatest b w) ≡ true
       unsigned_fits e =
           subst (λ s. is_between (least s w) (quotient (number_by s x) (number_by s y)) (greatest s w) ≡ true) (sym e)
-          (subst (λ n. is_between (least false w) n (greatest false w) ≡ true) (unsigned_quotient w x y h k) (unsigned_in_range w (word_op Wudiv x y) (word_op_fits w Wudiv x y h)))
+          (subst (λ n. is_between (least false w) n (greatest false w) ≡ true) (unsigned_quotient w x y h k) (unsigned_in_range w (word_op Wudiv x y) (op_word w Wudiv x y h)))
 
       pub quotient_same : Matches b w
           (cond b (cond (not (int_eq (number_by b y) (pos 0))) (exactly b w (quotient (number_by b x) (number_by b y))) None)
@@ -164,8 +159,8 @@ module _ (b : Bool) (w : ℕ) (some : 1 ≤ w) where
           (λ e. (unsigned_fits e, ap₂ (word_op Wudiv) back back_too ∙ subst (λ s. word_op Wudiv x y ≡ word w (quotient (number_by s x) (number_by s y))) (sym e) (quotient_of_words w some x y h k false)))
 
       remainder_in_range : (s : Bool) → is_between (least s w) (remainder (number_by s x) (number_by s y)) (greatest s w) ≡ true
-      remainder_in_range true = subst (λ n. is_between (least true w) n (greatest true w) ≡ true) (signed_remainder w some x y h) (signed_in_range w (word_op Wsmod x y) some (word_op_fits w Wsmod x y h))
-      remainder_in_range false = subst (λ n. is_between (least false w) n (greatest false w) ≡ true) (unsigned_remainder w x y h k) (unsigned_in_range w (word_op Wumod x y) (word_op_fits w Wumod x y h))
+      remainder_in_range true = subst (λ n. is_between (least true w) n (greatest true w) ≡ true) (signed_remainder w some x y h) (signed_in_range w (word_op Wsmod x y) some (op_word w Wsmod x y h))
+      remainder_in_range false = subst (λ n. is_between (least false w) n (greatest false w) ≡ true) (unsigned_remainder w x y h k) (unsigned_in_range w (word_op Wumod x y) (op_word w Wumod x y h))
 
       pub remainder_same : Matches b w
           (cond b (cond (not (int_eq (number_by b y) (pos 0))) (option_and_then (λ q. exactly b w (remainder (number_by b x) (number_by b y))) (exactly b w (quotient (number_by b x) (number_by b y)))) None)
@@ -177,7 +172,7 @@ module _ (b : Bool) (w : ℕ) (some : 1 ≤ w) where
           (λ e. (unsigned_fits e, ap₂ (word_op Wumod) back back_too ∙ subst (λ s. word_op Wumod x y ≡ word w (remainder (number_by s x) (number_by s y))) (sym e) (remainder_of_words w some x y h k false)))
 
       pub combined_same : (op : WordOp) → HasNumber b w (number_by b (word_op op (word w (number_by b x)) (word w (number_by b y)))) (V.Bits (word_op op x y))
-      combined_same op = of_same _ (word_op op x y) (word_op_fits w op x y h) (ap₂ (word_op op) back back_too)
+      combined_same op = of_same _ (word_op op x y) (op_word w op x y h) (ap₂ (word_op op) back back_too)
 
     -- ---- shifts by a count
 

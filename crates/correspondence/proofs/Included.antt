@@ -1,5 +1,5 @@
 -- Runs with fewer choices, put together.
-use Rattle.std.proofs.Common.{ℕ, zero, suc, Option, Some, None, Bool, true, false, List, [], ◌∷◌, ◌⊎◌, inl, inr}
+use Rattle.std.proofs.Common.{ℕ, zero, suc, Option, Some, None, Bool, true, false, List, [], ◌∷◌, ◌⊎◌, inl, inr, sym, subst}
 use Rattle.correspondence.specs.Outcome.{Outcome, Done, Failed, Stopped, Ends, done, Then, goes_on, fails, stops, choose, continued, loop}
 use Rattle.correspondence.specs.Bound.{Functions, called, below}
 use Rattle.correspondence.specs.Included.{Included, AllIncluded}
@@ -48,3 +48,19 @@ module _ {Call A F : Type 0} (bodies bodies' : List (Functions Call A F) → Fun
   pub below_included : (n : ℕ) → AllIncluded (below bodies n) (below bodies' n)
   below_included zero = tt
   below_included (suc n) = let k : AllIncluded (below bodies n) (below bodies' n) = below_included n in (over _ _ k, k)
+
+pub then_within : {A B F : Type 0} (p q : Ends A F) (r : A → Ends B F) → Included p q → Included (Then p r) (Then q r)
+then_within {A} {B} {F} p q r h = record { each = at }
+  where
+    at : (o : Outcome B F) → Then p r o → Then q r o
+    at o (goes_on x y) = goes_on (h.each _ x) y
+    at (Failed f) (fails x) = fails (h.each _ x)
+    at (Stopped w) (stops x) = stops (h.each _ x)
+
+pub done_within : {A F : Type 0} (a : A) (p : Ends A F) → p (Done a) → Included (done a) p
+done_within {A} {F} a p h = record { each = at }
+  where
+    at : (o : Outcome A F) → done a o → p o
+    at (Done b) e = subst (λ c. p (Done c)) (sym e) h
+    at (Failed f) e = absurd e
+    at (Stopped w) e = absurd e

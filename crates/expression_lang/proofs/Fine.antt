@@ -1,5 +1,5 @@
 -- A well-sorted expression can be evaluated, and its value is of its sort.
-use Rattle.std.proofs.Common.{◌≡◌, ℕ, ◌^◌, ◌==◌, ◌⊎◌, nat_lt, Bool, true, false, not, cond, ◌&&◌, ◌||◌, List, Option, Some, None, ℤ, pos, negsuc, ◌*ℤ◌, ◌-◌, inl, inr, refl, sym, ap, ◌∙◌, subst}
+use Rattle.std.proofs.Common.{◌≡◌, ℕ, ◌^◌, ◌==◌, nat_lt, Bool, true, false, not, cond, ◌&&◌, ◌||◌, List, Option, Some, None, ℤ, pos, negsuc, ◌*ℤ◌, ◌-◌, inl, inr, refl, sym, ap, ◌∙◌, subst}
 use Rattle.std.proofs.lemmas.Bool.{and_parts, ltb-true, eqb-true, or_cases}
 use Rattle.std.specs.Prelude.{IsSome, bit_and, bit_or, bit_xor, int_lt, neg_ℤ, ◌-ℤ◌, ◌+ℤ◌}
 use Rattle.std.specs.Int.{int_div_euclid}
@@ -22,8 +22,9 @@ use Rattle.expression_lang.specs.Evaluation.{Env, State, value, steps, cast_op, 
 use Rattle.expression_lang.specs.States.{IsOfSort}
 use Rattle.expression_lang.specs.CodeReady.{IsReady, AreReady, IsRoot}
 use Rattle.c_values.proofs.Follow.{path_ends}
-use Rattle.expression_lang.proofs.Good.{is_word, address_below, upd_put, heap_read, Good, good_whole, good_object, good_spot}
+use Rattle.expression_lang.proofs.Good.{address_below, upd_put, heap_read, Good, good_whole, good_object, good_spot}
 use Rattle.expression_lang.proofs.Inversion.{where_inv, words_inv, word_inv, width_inv, number_inv, truth_inv, word_of_inv, same_inv, shape_inv, type_inv, parts_inv, scalar_inv, some_is}
+use Rattle.expression_lang.proofs.Filled.{word_fits}
 
 abbrev pub HasSort : Layout → Sort → Value → Type 0
 HasSort l (Of c) v = IsOfSort c v
@@ -34,7 +35,7 @@ abbrev pub IsGoodSort : Layout → Sort → Type 0
 IsGoodSort l (Of c) = Unit {0}
 IsGoodSort l (PartsSort t) = Good l (shape_of l t)
 
-bits_word : (n : ℕ) (v : Value) → IsBits n v → IsWord n (word_in v)
+pub bits_word : (n : ℕ) (v : Value) → IsBits n v → IsWord n (word_in v)
 bits_word n (Bits w) h = h
 bits_word n (Number w) h = absurd h
 bits_word n (Truth w) h = absurd h
@@ -49,10 +50,10 @@ no_parts NumberSort (Parts vs) h = absurd h
 no_parts TruthSort (Parts vs) h = absurd h
 
 -- words
-word_at : (m n : ℕ) (z : ℤ) → m ≡ n → IsWord n (word m z)
-word_at m n z e = subst (λ k. IsWord k (word m z)) e (is_word m z)
+pub word_at : (m n : ℕ) (z : ℤ) → m ≡ n → IsWord n (word m z)
+word_at m n z e = subst (λ k. IsWord k (word m z)) e (word_fits m z)
 
-op_word : (n : ℕ) (op : WordOp) (a b : Word) → IsWord n a → IsWord n (word_op op a b)
+pub op_word : (n : ℕ) (op : WordOp) (a b : Word) → IsWord n a → IsWord n (word_op op a b)
 op_word n Wadd a b h = word_at a.width n (unsigned a +ℤ unsigned b) h.has_width
 op_word n Wsub a b h = word_at a.width n (unsigned a -ℤ unsigned b) h.has_width
 op_word n Wmul a b h = word_at a.width n (unsigned a *ℤ unsigned b) h.has_width
@@ -64,23 +65,23 @@ op_word n Wumod a b h = word_at a.width n (remainder (unsigned a) (unsigned b)) 
 op_word n Wsdiv a b h = word_at a.width n (quotient (signed a) (signed b)) h.has_width
 op_word n Wsmod a b h = word_at a.width n (remainder (signed a) (signed b)) h.has_width
 
-either_word : (n : ℕ) (b : Bool) (v w : Word) → IsWord n v → IsWord n w → IsWord n (cond b v w)
+pub either_word : (n : ℕ) (b : Bool) (v w : Word) → IsWord n v → IsWord n w → IsWord n (cond b v w)
 either_word n true v w h k = h
 either_word n false v w h k = k
 
-shift_word : (n : ℕ) (op : ShiftOp) (a : Word) (z : ℤ) → IsWord n a → IsWord n (word_shift op a z)
+pub shift_word : (n : ℕ) (op : ShiftOp) (a : Word) (z : ℤ) → IsWord n a → IsWord n (word_shift op a z)
 shift_word n Wshl a z h = either_word n (is_shift a.width z) (word a.width (unsigned a *ℤ power_of_two z)) (word a.width (pos 0)) (word_at a.width n (unsigned a *ℤ power_of_two z) h.has_width) (word_at a.width n (pos 0) h.has_width)
 shift_word n Wushr a z h = either_word n (is_shift a.width z) (word a.width (int_div_euclid (unsigned a) (power_of_two z))) (word a.width (pos 0)) (word_at a.width n (int_div_euclid (unsigned a) (power_of_two z)) h.has_width) (word_at a.width n (pos 0) h.has_width)
 shift_word n Wsshr a z h = either_word n (is_shift a.width z) (word a.width (int_div_euclid (signed a) (power_of_two z))) (word a.width (cond (int_lt (signed a) (pos 0)) (negsuc 0) (pos 0))) (word_at a.width n (int_div_euclid (signed a) (power_of_two z)) h.has_width) (word_at a.width n (cond (int_lt (signed a) (pos 0)) (negsuc 0) (pos 0)) h.has_width)
 
-unary_word : (n : ℕ) (op : UnaryOp) (a : Word) → IsWord n a → IsWord n (word_unary op a)
+pub unary_word : (n : ℕ) (op : UnaryOp) (a : Word) → IsWord n a → IsWord n (word_unary op a)
 unary_word n Wneg a h = word_at a.width n (neg_ℤ (unsigned a)) h.has_width
 unary_word n Wnot a h = word_at a.width n (pos (2 ^ a.width - 1) -ℤ unsigned a) h.has_width
 
-cast_word : (op : X.CastOp) (n : ℕ) (a : Word) → IsWord n (cast_op op n a)
-cast_word X.Zext n a = is_word n (unsigned a)
-cast_word X.Sext n a = is_word n (signed a)
-cast_word X.Trunc n a = is_word n (unsigned a)
+pub cast_word : (op : X.CastOp) (n : ℕ) (a : Word) → IsWord n (cast_op op n a)
+cast_word X.Zext n a = word_fits n (unsigned a)
+cast_word X.Sext n a = word_fits n (signed a)
+cast_word X.Trunc n a = word_fits n (unsigned a)
 
 pub width_of_test : (n : ℕ) → is_width n ≡ true → IsWidth n
 width_of_test n h =
@@ -255,7 +256,7 @@ module _ (g : Scope) (h : IsLayout g.layout) (env : Env) (s : State)
         let p = where_inv (is_width n && is_number (sort_of g a)) (word_sort n) o q in
         let b = and_parts (is_width n) (is_number (sort_of g a)) p.0 in
         let x = fine a (Of NumberSort) (number_inv (sort_of g a) b.1) in
-        word_fine (X.ToWord n a) n o p.1 (x.ready, width_of_test n b.0) (is_word n (number_in (at a)))
+        word_fine (X.ToWord n a) n o p.1 (x.ready, width_of_test n b.0) (word_fits n (number_in (at a)))
     fine (X.Arith op a b) o q =
         let p = where_inv ((not (is_unary op) && is_number (sort_of g a)) && is_number (sort_of g b)) number_sort o q in
         let c = and_parts (not (is_unary op) && is_number (sort_of g a)) (is_number (sort_of g b)) p.0 in

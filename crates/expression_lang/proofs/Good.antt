@@ -1,14 +1,13 @@
 -- Parts of a good shape, wherever the indices are: what is read there, and what zeros are.
-use Rattle.std.proofs.Common.{◌≡◌, ℕ, zero, suc, ◌+◌, ◌^◌, ◌<◌, nat_lt, Bool, true, false, List, [], ◌∷◌, Option, Some, None, ℤ, pos, negsuc, ◌*ℤ◌, cond, ◌-◌, ◌+ℤ◌, refl, sym, ap, subst, arith}
+use Rattle.std.proofs.Common.{◌≡◌, ℕ, zero, suc, ◌+◌, ◌<◌, nat_lt, Bool, true, false, List, [], ◌∷◌, Option, Some, None, ℤ, pos, negsuc, ◌*ℤ◌, cond, ◌-◌, ◌+ℤ◌, refl, sym, ap, subst, arith}
 use Rattle.std.proofs.lemmas.Nat.{mod_below, pow_pos}
 use Rattle.std.specs.Prelude.{nat_le}
 use Rattle.std.specs.Int.{int_rem_euclid}
 use Rattle.c_values.specs.Types.{CType, address_width}
 use Rattle.c_values.specs.Number.{natural}
-use Rattle.c_values.specs.Word.{IsWord, word}
 use Rattle.c_values.specs.Value.{Value, Values, Bits, Number, Truth, Parts, no_values, more, count, part, with_part}
 use Rattle.c_values.specs.Layout.{Layout, IsLayout, Shape, Incomplete, Scalar, Record, Row, Fields, no_fields, field, size, shape_of, is_complete, is_object, space}
-use Rattle.c_values.specs.Path.{Step, Field, Index, Spot, spot, member_spot, step_spot, and_then_spot, further, place_of, with_changed, sel, upd, zeros, member_zeros, copies, HasShape, AreMembers, AreElements}
+use Rattle.c_values.specs.Path.{Step, Field, Index, Spot, spot, member_spot, step_spot, and_then_spot, further, place_of, with_changed, sel, upd, zeros, member_zeros, HasShape, AreMembers, AreElements}
 use Rattle.c_values.proofs.Formed.{IsFormed, AreFormed}
 use Rattle.c_values.proofs.Laid.{AreLaid, IsGood, structs_of, shape_good}
 use Rattle.c_values.proofs.Leads.{leads_spot}
@@ -19,43 +18,30 @@ use Rattle.c_memory.specs.TypedHeap.{TypedHeap, zeros_spot, cell_part, read_cell
 use Rattle.c_memory.specs.Heap.{Heap, OnBytes, OnTypes, read_heap, IsHeap, CellsFit}
 use Rattle.c_memory.proofs.Loaded.{load_shaped}
 use Rattle.c_memory.proofs.Roots.{found_leads}
-use Rattle.c_values.proofs.Follow.{path_ends, sel_append}
+use Rattle.c_values.proofs.Follow.{path_ends, sel_append, further_parts}
+use Rattle.c_values.proofs.Options.{some_is}
+use Rattle.c_values.proofs.Shaped.{copies_shaped}
 use Rattle.expression_lang.proofs.Sorting.{object_whole}
-
-some_same : {A : Type 0} {a b : A} → ◌≡◌ {A = Option A} (Some a) (Some b) → a ≡ b
-some_same h = cc
+use Rattle.expression_lang.proofs.Filled.{word_fits}
 
 -- remainders
 pub rem_below : (z : ℤ) (m : ℕ) → 0 < m → natural (int_rem_euclid z (pos m)) < m
 rem_below (pos a) m h = mod_below a m h
 rem_below (negsuc a) m h = omega (arith, mod_below a m h)
 
-pub is_word : (n : ℕ) (z : ℤ) → IsWord n (word n z)
-is_word n z = record { has_width = refl; fits = rem_below z (2 ^ n) (pow_pos n) }
-
 pub address_below : (l : Layout) (a : ℕ) (z : ℤ) → address_at (space l) a z < space l
 address_below l a z = rem_below (pos a +ℤ z) (space l) (pow_pos (address_width l.target))
-
--- zeros are of their shape
-copies_shaped : (P : Value → Type 0) (n : ℕ) (v : Value) → P v → AreElements P n (copies n v)
-copies_shaped P zero v h = tt
-copies_shaped P (suc n) v h = (h, copies_shaped P n v h)
 
 mutual
   pub zeros_shaped : (s : Shape) → IsFormed s → HasShape s (zeros s)
   zeros_shaped Incomplete f = absurd f
-  zeros_shaped (Scalar t width) f = is_word width (pos 0)
+  zeros_shaped (Scalar t width) f = word_fits width (pos 0)
   zeros_shaped (Record x n align fs) f = member_zeros_shaped fs align n 0 f.members
   zeros_shaped (Row e n) f = copies_shaped (λ v. HasShape e v) n (zeros e) (zeros_shaped e f.element)
 
   member_zeros_shaped : (fs : Fields) (align n at : ℕ) → AreFormed align n at fs → AreMembers fs (member_zeros fs)
   member_zeros_shaped no_fields align n at f = tt
   member_zeros_shaped (field offset s fs) align n at f = (zeros_shaped s f.first, member_zeros_shaped fs align n (offset + size s) f.others)
-
--- parts of good shapes are good
-further_parts : (z : ℤ) (o : Option Spot) (q : Spot) → further z o ≡ Some q → (r : Spot) × (o ≡ Some r) × (q.shape ≡ r.shape)
-further_parts z None q h = absurd cc
-further_parts z (Some r) q h = (r, refl, sym (ap (λ v. v.shape) (some_same h)))
 
 module _ (l : Layout) where
   abbrev pub Good : Shape → Type 0
@@ -70,7 +56,7 @@ module _ (l : Layout) where
   pub good_member : (fs : Fields) (align n at k : ℕ) (q : Spot) → AreFormed align n at fs → AreLaid l.target (structs_of l) fs → member_spot fs k ≡ Some q → Good q.shape
   good_member no_fields align n at k q f h e = absurd cc
   good_member (field offset s fs) align n at zero q f h e =
-      let same : s ≡ q.shape = ap (λ r. r.shape) (some_same e) in
+      let same : s ≡ q.shape = ap (λ r. r.shape) (some_is e) in
       subst (λ r. Good r) same (record { formed = f.first; laid = h.first })
   good_member (field offset s fs) align n at (suc k) q f h e = good_member fs align n (offset + size s) k q f.others h.others e
 
@@ -81,11 +67,11 @@ module _ (l : Layout) where
   good_step (Record x n align fs) (Index i) q g e = absurd cc
   good_step (Row r n) (Field k) q g e = absurd cc
   good_step (Row r n) (Index i) q g e =
-      let same : r ≡ q.shape = ap (λ v. v.shape) (some_same e) in
+      let same : r ≡ q.shape = ap (λ v. v.shape) (some_is e) in
       subst (λ s. Good s) same (record { formed = g.formed.element; laid = g.laid })
 
   pub good_spot : (s : Shape) (ps : List Step) (q : Spot) → Good s → spot s ps ≡ Some q → Good q.shape
-  good_spot s [] q g e = subst (λ r. Good r) (ap (λ (v : Spot). v.shape) (some_same e)) g
+  good_spot s [] q g e = subst (λ r. Good r) (ap (λ (v : Spot). v.shape) (some_is e)) g
   good_spot s (p ∷ ps) q g e = by_step (step_spot s p) refl e (λ r. good_spot r ps)
     where
       by_step : (o : Option Spot) → step_spot s p ≡ o → and_then_spot o (λ r. further r.offset (spot r.shape ps)) ≡ Some q →
@@ -101,7 +87,7 @@ member_put : (fs : Fields) (vs : Values) (k : ℕ) (q : Spot) (f : Value → Val
 member_put no_fields vs k q f h e g = absurd cc
 member_put (field at s fs) no_values k q f h e g = absurd h
 member_put (field at s fs) (more v vs) zero q f h e g =
-    let same : s ≡ q.shape = ap (λ r. r.shape) (some_same e) in
+    let same : s ≡ q.shape = ap (λ r. r.shape) (some_is e) in
     (subst (λ r. HasShape r (f v)) (sym same) (g v (subst (λ r. HasShape r v) same h.0)), h.1)
 member_put (field at s fs) (more v vs) (suc k) q f h e g = (h.0, member_put fs vs k q f h.1 e g)
 
@@ -137,7 +123,7 @@ module _ (ps : List Step) (w : Value) (rest : (s : Shape) (u : Value) (q : Spot)
   row_put s n vs i q h e x = elements_put (λ v. HasShape s v) n vs (place_of (Index i) (count vs)) (λ v. upd v ps w) h (λ v. rest_put (i *ℤ pos (size s)) s q e x v)
 
 pub upd_put : (ps : List Step) (w : Value) (s : Shape) (u : Value) (q : Spot) → HasShape s u → spot s ps ≡ Some q → HasShape q.shape w → HasShape s (upd u ps w)
-upd_put [] w s u q h e k = subst (λ r. HasShape r w) (sym (ap (λ (v : Spot). v.shape) (some_same e))) k
+upd_put [] w s u q h e k = subst (λ r. HasShape r w) (sym (ap (λ (v : Spot). v.shape) (some_is e))) k
 upd_put (Field k ∷ ps) w (Record x n align fs) (Parts vs) q h e y = record_put ps w (λ s u r. upd_put ps w s u r) fs vs k q (member_spot fs k) refl h e y
 upd_put (Index i ∷ ps) w (Row s n) (Parts vs) q h e y = row_put ps w (λ s' u r. upd_put ps w s' u r) s n vs i q h e y
 upd_put (p ∷ ps) w Incomplete u q h e y = absurd h
@@ -152,7 +138,7 @@ upd_put (Index i ∷ ps) w (Row s n) (Number v) q h e y = absurd h
 upd_put (Index i ∷ ps) w (Row s n) (Truth v) q h e y = absurd h
 
 -- what is read is of its shape
-path_when : (b : Bool) (o : Option (List Step)) (root : List Step) → cond b o None ≡ Some root → o ≡ Some root
+pub path_when : (b : Bool) (o : Option (List Step)) (root : List Step) → cond b o None ≡ Some root → o ≡ Some root
 path_when true o root e = e
 path_when false o root e = absurd cc
 

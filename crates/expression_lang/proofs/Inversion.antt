@@ -4,7 +4,8 @@ use Rattle.std.proofs.lemmas.Bool.{eqb-true}
 use Rattle.c_values.specs.Types.{CType}
 use Rattle.c_values.specs.Layout.{Layout, Shape, shape_of}
 use Rattle.c_values.specs.CodeSameType.{type_is}
-use Rattle.expression_lang.specs.Sort.{Scalar, WordSort, NumberSort, TruthSort, Sort, Of, PartsSort, same_scalar, same_sort, word_width, is_word_of, is_number, is_truth, number_sort, truth_sort, where_holds, of_words, of_word, are_same, of_shape, of_type, parts_shape, scalar_sort}
+use Rattle.expression_lang.specs.Sort.{Scalar, WordSort, NumberSort, TruthSort, Sort, Of, PartsSort, same_sort, word_width, is_word_of, is_number, is_truth, number_sort, truth_sort, where_holds, of_words, of_word, are_same, of_shape, of_type, parts_shape, scalar_sort}
+use Rattle.expression_lang.proofs.SameScalars.{same_scalar_is}
 
 pub where_inv : (b : Bool) (o : Option Sort) (r : Sort) → where_holds b o ≡ Some r → (b ≡ true) × (o ≡ Some r)
 where_inv true o r h = (refl, h)
@@ -49,17 +50,6 @@ word_of_inv n (Some (Of (WordSort m))) h = ap (λ k. Some (Of (WordSort k))) (eq
 word_of_inv n (Some (Of NumberSort)) h = absurd cc
 word_of_inv n (Some (Of TruthSort)) h = absurd cc
 word_of_inv n (Some (PartsSort t)) h = absurd cc
-
-same_scalar_is : (a b : Scalar) → same_scalar a b ≡ true → a ≡ b
-same_scalar_is (WordSort m) (WordSort n) h = ap (λ k. WordSort k) (eqb-true m n h)
-same_scalar_is (WordSort m) NumberSort h = absurd cc
-same_scalar_is (WordSort m) TruthSort h = absurd cc
-same_scalar_is NumberSort (WordSort n) h = absurd cc
-same_scalar_is NumberSort NumberSort h = refl
-same_scalar_is NumberSort TruthSort h = absurd cc
-same_scalar_is TruthSort (WordSort n) h = absurd cc
-same_scalar_is TruthSort NumberSort h = absurd cc
-same_scalar_is TruthSort TruthSort h = refl
 
 same_sort_is : (a b : Sort) → same_sort a b ≡ true → a ≡ b
 same_sort_is (Of a) (Of b) h = ap (λ s. Of s) (same_scalar_is a b h)

@@ -20,3 +20,7 @@ pub mod PartFaults
 pub mod ReadyParts
 pub mod OperandSorts
 pub mod BinderNames
+pub mod SameScalars
+pub mod SortParts
+pub mod Scalars
+pub mod Bound

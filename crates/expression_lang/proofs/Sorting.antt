@@ -89,7 +89,7 @@ some_complete g path s (Some q) e c = along_complete g path s q (sym e) c
 pub object_whole : (l : Layout) (t : CType) → is_object l t ≡ true → is_complete (shape_of l t) ≡ true
 object_whole l t h = (and_parts (is_complete (shape_of l t)) _ h).0
 
-width_is : (n : ℕ) → IsWidth n → is_width n ≡ true
+pub width_is : (n : ℕ) → IsWidth n → is_width n ≡ true
 width_is n (inl h) = subst (λ m. is_width m ≡ true) (sym h) refl
 width_is n (inr (inl h)) = subst (λ m. is_width m ≡ true) (sym h) refl
 width_is n (inr (inr (inl h))) = subst (λ m. is_width m ≡ true) (sym h) refl
@@ -98,7 +98,7 @@ width_is n (inr (inr (inr h))) = subst (λ m. is_width m ≡ true) (sym h) refl
 pub literal_is : (n bits : ℕ) → IsWidth n → bits < 2 ^ n → (is_width n && nat_lt bits (2 ^ n)) ≡ true
 literal_is n bits w h = and_from (is_width n) (nat_lt bits (2 ^ n)) (width_is n w) (lt-ltb bits (2 ^ n) h)
 
-where_true : (b : Bool) (o : Option Sort) → b ≡ true → where_holds b o ≡ o
+pub where_true : (b : Bool) (o : Option Sort) → b ≡ true → where_holds b o ≡ o
 where_true b o h = subst (λ c. where_holds c o ≡ o) (sym h) refl
 
 pub literal_sorted : (n bits width b : ℕ) → width ≡ n → IsWidth width → b ≡ bits → b < 2 ^ n → word_sort width ≡ where_holds (is_width n && nat_lt bits (2 ^ n)) (word_sort n)

@@ -11,3 +11,4 @@ pub mod ReadBack
 pub mod Writing
 pub mod ListsRead
 pub mod ListLaws
+pub mod Atoms

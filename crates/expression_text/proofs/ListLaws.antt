@@ -1,16 +1,16 @@
 -- Lists of parts are read as the parts that their trees are of.
 use Rattle.std.proofs.Common.{◌≡◌, ℕ, Bool, true, false, cond, not, ◌&&◌, ◌||◌, List, [], ◌∷◌, ◌++◌, map, Ok, Err, refl, ap, ap₂, sym, ◌∙◌, if◌then◌else◌}
-use Rattle.std.proofs.lemmas.Bool.{and_parts, and_from, cond-false, false≢true, not-true, not_from_false}
+use Rattle.std.proofs.lemmas.Bool.{and_parts, and_from, cond-false, not-true, not_from_false}
 use Rattle.std.proofs.lemmas.List.Folds.{list_any-append}
 use Rattle.c_values.specs.Name.{Name, same_name, is_among, are_distinct}
 use Rattle.ac_sx.specs.Tree.{Tree, Trees, Atom, Node, no_trees, more}
+use Rattle.c_values.proofs.Names.{same_name_swapped}
 use Rattle.expression_lang.specs.Expression.{Exp}
 use Rattle.expression_text.specs.Reading.{Read, next, ◌>>=◌}
 use Rattle.expression_text.specs.Names.{is_name, name_at}
 use Rattle.expression_text.specs.ExpText.{exp_tree, is_exp}
 use Rattle.expression_text.specs.ExpReading.{exp_at}
 use Rattle.expression_text.specs.Lists.{each, trees_for, list_at, exp_trees, exps_at, new_name_at, named_at, names_tree, names_at}
-use Rattle.expression_text.proofs.LookedUp.{name_is, name_same}
 use Rattle.expression_text.proofs.Behind.{behind, IsReadAs, AreReadAs, bind_ok, value_ok}
 use Rattle.expression_text.proofs.TypesText.{name_reads, name_spells}
 use Rattle.expression_text.proofs.ExpsText.{exp_reads, exp_spells}
@@ -50,15 +50,6 @@ abbrev none_among : List Name → List Name → Bool
 none_among before [] = true
 none_among before (x ∷ xs) = not (is_among x before) && none_among before xs
 
-same_sym : (x y : Name) → same_name x y ≡ same_name y x
-same_sym x y = by (same_name x y) (same_name y x) refl refl
-  where
-    by : (s t : Bool) → same_name x y ≡ s → same_name y x ≡ t → s ≡ t
-    by true true e f = refl
-    by false false e f = refl
-    by true false e f = absurd (false≢true (sym f ∙ name_same y x (sym (name_is x y e))))
-    by false true e f = absurd (false≢true (sym e ∙ name_same x y (sym (name_is y x f))))
-
 none_of_none : (xs : List Name) → none_among [] xs ≡ true
 none_of_none [] = refl
 none_of_none (x ∷ xs) = none_of_none xs
@@ -74,7 +65,7 @@ none_more : (before : List Name) (x : Name) (ys : List Name) → none_among (bef
 none_more before x [] = refl
 none_more before x (y ∷ ys) =
     ap₂ (λ a b. not a && b) (list_any-append (same_name y) before (x ∷ [])) (none_more before x ys)
-    ∙ ap (λ s. not (is_among y before || (s || false)) && (none_among before ys && not (is_among x ys))) (same_sym y x)
+    ∙ ap (λ s. not (is_among y before || (s || false)) && (none_among before ys && not (is_among x ys))) (same_name_swapped y x)
     ∙ split (is_among y before) (same_name x y) (none_among before ys) (is_among x ys)
 
 regroup : (a b c d : Bool) → (a && ((b && c) && d)) ≡ ((a && b) && (c && d))

@@ -14,7 +14,7 @@ use Rattle.expression_text.specs.Lists.{list_at, named_at}
 parted : (xs : List S.Sx) (k : ℕ) (x : S.Sx) → k < length xs → x ≡ get_or xs k x → trees_in (drop k xs) ≡ more (tree_of x) (trees_in (drop (k + 1) xs))
 parted xs k x lt is = at_drop_more trees_in xs k x lt ∙ ap (λ y. more (tree_of y) (trees_in (drop (k + 1) xs))) (sym is)
 
-made_more : {A : Type 0} (before : List A) (x : A) (r : Read (List A)) → made (λ ys. (before ++ x ∷ []) ++ ys) r ≡ made (λ ys. before ++ ys) (r >>= λ y. Ok (x ∷ y.0, y.1))
+pub made_more : {A : Type 0} (before : List A) (x : A) (r : Read (List A)) → made (λ ys. (before ++ x ∷ []) ++ ys) r ≡ made (λ ys. before ++ ys) (r >>= λ y. Ok (x ∷ y.0, y.1))
 made_more before x (Ok (ys, n)) = ap (λ zs. Ok (zs, n)) (append_assoc before (x ∷ []) ys)
 made_more before x (Err n) = refl
 

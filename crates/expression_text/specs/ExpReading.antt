@@ -5,7 +5,7 @@ use Rattle.expression_lang.specs.Expression.{Exp, Var, WordLit, NumberLit, Truth
 use Rattle.expression_lang.specs.CodeShape.{whole_one, whole_two, whole_root, whole_place}
 use Rattle.ac_sx.specs.Tree.{Tree, Trees, Atom, Node, no_trees, more}
 use Rattle.expression_text.specs.declared.heads.Head.{Head}
-use Rattle.expression_text.specs.Reading.{Read, next}
+use Rattle.expression_text.specs.Reading.{Read, next, ◌>>=◌}
 use Rattle.expression_text.specs.Names.{is_name, name_at}
 use Rattle.expression_text.specs.Numbers.{natural_in, natural_at, number_in, number_at}
 use Rattle.expression_text.specs.Words.{looked_up}

@@ -5,7 +5,7 @@ use Rattle.expression_lang.specs.Expression.{Exp, WordLit, Between, If, Padd, Gl
 use Rattle.expression_lang.specs.CodeShape.{One, Two, RootTest, PlaceHead, whole_one, whole_two, whole_root, whole_place}
 use Rattle.ac_sx.specs.Tree.{Tree, Trees, no_trees, more}
 use Rattle.ac_sx.specs.CodeSx.{one_of, two_of, three_of, first_of}
-use Rattle.expression_text.specs.Reading.{Read, next}
+use Rattle.expression_text.specs.Reading.{Read, next, ◌>>=◌}
 use Rattle.expression_text.specs.Names.{name_at}
 use Rattle.expression_text.specs.Numbers.{natural_at, number_at}
 use Rattle.expression_text.specs.Words.{looked_up}

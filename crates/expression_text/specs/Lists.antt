@@ -3,7 +3,7 @@ use Rattle.std.specs.Prelude.{ℕ, Bool, true, ◌&&◌, List, [], ◌∷◌, �
 use Rattle.c_values.specs.Name.{Name, is_among}
 use Rattle.expression_lang.specs.Expression.{Exp}
 use Rattle.ac_sx.specs.Tree.{Tree, Trees, Atom, Node, no_trees, more}
-use Rattle.expression_text.specs.Reading.{Read, next}
+use Rattle.expression_text.specs.Reading.{Read, next, ◌>>=◌}
 use Rattle.expression_text.specs.Names.{name_at}
 use Rattle.expression_text.specs.ExpText.{exp_tree}
 use Rattle.expression_text.specs.ExpReading.{exp_at}

@@ -4,7 +4,7 @@ use Rattle.c_values.specs.Name.{Name, same_name}
 use Rattle.c_values.specs.Types.{IntType, CType, Integer, Void, Ptr, Struct, Array}
 use Rattle.ac_sx.specs.Tree.{Tree, Trees, Atom, Node, no_trees, more}
 use Rattle.ac_sx.specs.CodeSx.{one_of, two_of}
-use Rattle.expression_text.specs.Reading.{Read, next}
+use Rattle.expression_text.specs.Reading.{Read, next, ◌>>=◌}
 use Rattle.expression_text.specs.Names.{name_at}
 use Rattle.expression_text.specs.Numbers.{natural_at}
 use Rattle.expression_text.specs.Words.{looked_up, int_type_word, int_types, TypeHead, PtrHead, StructHead, ArrayHead, type_head_word, type_heads}

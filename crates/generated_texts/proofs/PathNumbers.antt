@@ -7,20 +7,17 @@ use Rattle.c_values.specs.Types.{CType}
 use Rattle.c_values.specs.Layout.{Layout, IsLayout, GlobalVar, Shape, Incomplete, Scalar, Record, Row, Fields, no_fields, field, size, shape_of, is_object, is_complete, global_type, largest_size}
 use Rattle.c_values.proofs.Formed.{IsFormed, AreFormed, size_some, members_end}
 use Rattle.c_values.proofs.Laid.{shape_good}
+use Rattle.c_values.proofs.Options.{none_some, some_is}
 use Rattle.c_lang.specs.Typed as C
 use Rattle.c_lang.specs.WellTyped.{are_globals, member_shape, shape_along, leads_to, shape_in}
-use Rattle.generation.proofs.ExactTests.{by_cases, where_true, where_false, same_some, none_is_none}
+use Rattle.c_lang.proofs.Paths.{no_way}
+use Rattle.generation.proofs.ExactTests.{by_cases, where_true, where_false}
 
 -- numbers that have 32 bits
 abbrev pub PathFits : C.Path → Type 0
 PathFits C.Here = Unit {0}
 PathFits (C.Member k path) = (k < 2 ^ 32) × PathFits path
 PathFits (C.Element n e path) = (n < 2 ^ 32) × PathFits path
-
-no_way : (path : C.Path) (u : CType) → leads_to (shape_along None path) u ≡ true → ⊥
-no_way C.Here u h = false≢true h
-no_way (C.Member k path) u h = false≢true h
-no_way (C.Element n e path) u h = false≢true h
 
 as_many : (m k : ℕ) → 0 < k → m * k ≤ 65536 → m < 2 ^ 32
 as_many m k h l =
@@ -77,11 +74,11 @@ module _ (l : Layout) (w : IsLayout l) where
   through_fits t u path h e = object_fits l w t u h path e
 
   global_is_object : (vs : List GlobalVar) → are_globals l vs ≡ true → (x : Name) (t : CType) → global_type vs x ≡ Some t → is_object l t ≡ true
-  global_is_object [] h x t e = absurd (none_is_none e)
+  global_is_object [] h x t e = absurd (none_some e)
   global_is_object (v ∷ vs) h x t e =
       let p = all_of_two (is_object l v.type) (are_globals l vs) h in
       by_cases _ (same_name v.name x)
-      (λ b. subst (λ u. is_object l u ≡ true) (same_some (sym (where_true (same_name v.name x) (Some v.type) (global_type vs x) b) ∙ e)) p.0)
+      (λ b. subst (λ u. is_object l u ≡ true) (some_is (sym (where_true (same_name v.name x) (Some v.type) (global_type vs x) b) ∙ e)) p.0)
       (λ b. global_is_object vs p.1 x t (sym (where_false (same_name v.name x) (Some v.type) (global_type vs x) b) ∙ e))
 
   -- and the global is there

@@ -2,10 +2,11 @@
 use Rattle.std.proofs.Common.{◌≡◌, ℕ, true, List, [], ◌∷◌, ◌++◌, map, Option, Some, None, refl, sym, ap, ◌∙◌, subst}
 use Rattle.std.proofs.lemmas.Bool.{false≢true, and_from, and_parts}
 use Rattle.c_values.specs.Name.{Name, same_name}
-use Rattle.c_values.specs.Types.{Target, CType, Integer, Void, Ptr, Struct, Array, is_signed, width_of}
-use Rattle.c_values.specs.Layout.{GlobalVar, scalar_width, global_type}
+use Rattle.c_values.specs.Types.{Target, CType, Integer}
+use Rattle.c_values.specs.Layout.{GlobalVar, global_type}
 use Rattle.c_values.proofs.Laid.{name_is}
-use Rattle.expression_lang.specs.Sort.{Level, Bytes, Words, Numbers, NatKind, IntKind, BoolKind, is_kind}
+use Rattle.c_values.proofs.Options.{none_some}
+use Rattle.expression_lang.specs.Sort.{Level, BoolKind}
 use Rattle.expression_lang.specs.Signature.{Binder, binder, kind_at, result_kind}
 use Rattle.expression_text.specs.Names.{is_name}
 use Rattle.expression_text.specs.Lists.{each}
@@ -14,12 +15,12 @@ use Rattle.c_lang.specs.Typed as C
 use Rattle.c_lang.specs.WellTyped.{IsWellTyped, scope_in, variable_type, is_type, are_variables, is_result, is_function, are_functions, are_statements, nowhere}
 use Rattle.c_meaning.specs.Kinds.{variables}
 use Rattle.generation.specs.Generate.{call_local, switch_local, first_local, result_binder, use_binder, Added, none_added, both_added, added, added_in, added_of, locals, function_of, signature_of, generated}
-use Rattle.generation.proofs.ExactTests.{all_of_four, none_is_none, by_test, by_cases, where_false}
-use Rattle.generation.proofs.SortedExpressions.{scalar_wide}
+use Rattle.generation.proofs.ExactTests.{all_of_four, by_cases, where_false}
+use Rattle.generation.proofs.WellFormedUnits.{type_kind}
 use Rattle.unit_names.specs.HasNames.{HasNames, has_name, function_has_names, global_has_name, statements_have_types}
 use Rattle.generated_texts.specs.HasTexts.{HasTexts, is_binder, function_has_text, signature_has_text}
 use Rattle.generated_texts.specs.HasTexts as T
-use Rattle.generated_texts.proofs.NumberTexts.{width_is, call_named, switch_named, first_named}
+use Rattle.generated_texts.proofs.NumberTexts.{call_named, switch_named, first_named}
 use Rattle.generated_texts.proofs.ExpressionTexts.{IsNamed}
 use Rattle.generated_texts.proofs.CommandTexts.{commands_text, whole_text}
 
@@ -34,7 +35,7 @@ variable_named (v ∷ vs) h x t e =
     (λ b. variable_named vs p.1 x t (sym (ap (λ o. is_type o t) (where_false (same_name v.name x) (Some v.type) (variable_type vs x) b)) ∙ e))
 
 global_named : (vs : List GlobalVar) → each global_has_name vs ≡ true → (x : Name) (t : CType) → global_type vs x ≡ Some t → is_name x ≡ true
-global_named [] h x t e = absurd (none_is_none e)
+global_named [] h x t e = absurd (none_some e)
 global_named (v ∷ vs) h x t e =
     let p = and_parts (is_name v.name) (each global_has_name vs) h in
     by_cases _ (same_name v.name x)
@@ -42,7 +43,7 @@ global_named (v ∷ vs) h x t e =
     (λ b. global_named vs p.1 x t (sym (where_false (same_name v.name x) (Some v.type) (global_type vs x) b) ∙ e))
 
 called_named : (fs : List C.TypedFn) → each function_has_names fs ≡ true → (x : Name) (k : C.TypedFn) → C.typed_fn fs x ≡ Some k → is_name x ≡ true
-called_named [] h x k e = absurd (none_is_none e)
+called_named [] h x k e = absurd (none_some e)
 called_named (f ∷ fs) h x k e =
     let p = and_parts (function_has_names f) (each function_has_names fs) h in
     by_cases _ (same_name f.name x)
@@ -64,16 +65,6 @@ no_binders = record { are = refl }
 append : {bs cs : List Binder} → AreBinders bs → AreBinders cs → AreBinders (bs ++ cs)
 append {bs = []} h k = k
 append {bs = b ∷ bs} h k = let p = and_parts (is_binder b) (each is_binder bs) h.are in record { are = and_from _ _ p.0 (append {bs = bs} (record { are = p.1 }) k).are }
-
-type_kind : (t : Target) (level : Level) (u : CType) → is_kind (kind_at t level u) ≡ true
-type_kind t Bytes u = width_is (scalar_width t u) (scalar_wide t u)
-type_kind t Words u = width_is (scalar_width t u) (scalar_wide t u)
-type_kind t Numbers (Integer i) =
-    let w = width_is (width_of t i) (scalar_wide t (Integer i)) in by_test (λ k. is_kind k ≡ true) (is_signed i) (IntKind (width_of t i)) (NatKind (width_of t i)) (λ b. w) (λ b. w)
-type_kind t Numbers Void = width_is (scalar_width t Void) (scalar_wide t Void)
-type_kind t Numbers (Ptr u) = width_is (scalar_width t (Ptr u)) (scalar_wide t (Ptr u))
-type_kind t Numbers (Struct x) = width_is (scalar_width t (Struct x)) (scalar_wide t (Struct x))
-type_kind t Numbers (Array u n) = width_is (scalar_width t (Array u n)) (scalar_wide t (Array u n))
 
 module _ (t : Target) (level : Level) where
   one_binder : (x : Name) (u : CType) → is_name x ≡ true → AreBinders (binder x (kind_at t level u) ∷ [])

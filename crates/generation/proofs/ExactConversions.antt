@@ -16,7 +16,8 @@ use Rattle.c_meaning.specs.CValue.{converted, number_of_type}
 use Rattle.generation.specs.Guards.{cast_to, conversion, is_signed_type}
 use Rattle.c_meaning.specs.Fitting.{IsOfType}
 use Rattle.expression_lang.proofs.Filled.{word_fits}
-use Rattle.generation.proofs.ExactNumbers.{number_by, number_of_type_is, bits_are, word_of_bits, word-number}
+use Rattle.expression_lang.proofs.Fine.{bits_word}
+use Rattle.generation.proofs.ExactNumbers.{number_by, number_of_type_is, bits_are, word-number}
 
 lacking : (bits c m : ℕ) → bits + suc c ≡ m → pos bits +ℤ pos 0 ≡ negsuc c +ℤ pos m
 lacking bits c m e = omega (arith, ints)
@@ -50,12 +51,12 @@ module _ (l : Layout) (env : Env) (s : State) where
       by_cases : ((to == from) ≡ true) ⊎ ((to == from) ≡ false) → (nat_lt to from ≡ true) ⊎ (nat_lt to from ≡ false) → E.value l env s (cast_to to from b e) ≡ Bits (word to (number_by b (word_in v)))
       by_cases (inl p) q =
           ap (E.value l env s) (cond-true (to == from) e other p) ∙ h ∙ bits_are from v k
-          ∙ ap Bits (sym (word-number b from (word_in v) (word_of_bits from v k)))
+          ∙ ap Bits (sym (word-number b from (word_in v) (bits_word from v k)))
           ∙ ap (λ n. Bits (word n (number_by b (word_in v)))) (sym (eqb-true to from p))
       by_cases (inr p) (inl q) =
           let lt : to < from = ltb-true to from q in
           ap (E.value l env s) (cond-false (to == from) e other p ∙ cond-true (nat_lt to from) (X.Cast X.Trunc to e) (cond b (X.Cast X.Sext to e) (X.Cast X.Zext to e)) q)
-          ∙ narrower ∙ ap Bits (narrowed b to from (word_in v) (omega arith) (word_of_bits from v k))
+          ∙ narrower ∙ ap Bits (narrowed b to from (word_in v) (omega arith) (bits_word from v k))
       by_cases (inr p) (inr q) =
           ap (E.value l env s) (cond-false (to == from) e other p ∙ cond-false (nat_lt to from) (X.Cast X.Trunc to e) (cond b (X.Cast X.Sext to e) (X.Cast X.Zext to e)) q)
           ∙ wider b

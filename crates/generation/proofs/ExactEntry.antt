@@ -8,6 +8,7 @@ use Rattle.c_values.specs.Types.{Target, CType, Integer, Void, Ptr, Struct, Arra
 use Rattle.c_values.specs.Value as V
 use Rattle.c_values.specs.Layout.{Layout, is_scalar, scalar_width}
 use Rattle.c_values.proofs.Laid.{name_is, other_name}
+use Rattle.c_values.proofs.Options.{none_some, some_is}
 use Rattle.expression_lang.specs.Sort.{Level, Bytes, Words, Numbers, Kind, WordKind, NatKind, IntKind, BoolKind}
 use Rattle.expression_lang.specs.View.{zero_word_at}
 use Rattle.expression_lang.specs.Evaluation.{Env}
@@ -19,7 +20,7 @@ use Rattle.c_lang.specs.WellTyped.{variable_type, are_variables, is_own_name}
 use Rattle.c_meaning.specs.CRun as R
 use Rattle.c_meaning.specs.Kinds.{variables}
 use Rattle.c_meaning.specs.Fitting.{IsOfType, AreOfTypes}
-use Rattle.generation.proofs.ExactTests.{all_of_three, same_some, none_is_none, by_test, by_cases, where_true, where_false}
+use Rattle.generation.proofs.ExactTests.{all_of_three, by_test, by_cases, where_true, where_false}
 
 pub names_are : (t : Target) (level : Level) (vs : List C.Variable) → names_of (variables t level vs) ≡ C.variable_names vs
 names_are t level [] = refl
@@ -31,12 +32,12 @@ module _ (b : Bool) (t : CType) (o : Option CType) where
   none_further h = by_value b h
     where
       by_value : (c : Bool) → (if c then Some t else o) ≡ None → (c ≡ false) × (o ≡ None)
-      by_value true k = absurd (none_is_none (sym k))
+      by_value true k = absurd (none_some (sym k))
       by_value false k = (refl, k)
 
 module _ (x : Name) (t : CType) where
   pub declared_before : (vs ws : List C.Variable) → variable_type vs x ≡ Some t → variable_type (vs ++ ws) x ≡ Some t
-  declared_before [] ws h = absurd (none_is_none h)
+  declared_before [] ws h = absurd (none_some h)
   declared_before (v ∷ vs) ws h =
       by_test (λ o. o ≡ Some t) (same_name v.name x) (Some v.type) (variable_type (vs ++ ws) x)
       (λ b. sym (where_true (same_name v.name x) (Some v.type) (variable_type vs x) b) ∙ h)
@@ -70,14 +71,14 @@ module _ (l : Layout) (x : Name) (t : CType) where
   IsBound xs vs = (v : V.Value) × IsOfType l t v × ((env : Env) → bound (C.variable_names xs) vs env x ≡ v)
 
   pub parameter_bound : (xs : List C.Variable) (vs : List V.Value) → are_distinct (C.variable_names xs) ≡ true → AreOfTypes l xs vs → variable_type xs x ≡ Some t → IsBound xs vs
-  parameter_bound [] vs d h e = absurd (none_is_none e)
+  parameter_bound [] vs d h e = absurd (none_some e)
   parameter_bound (y ∷ xs) [] d h e = absurd h
   parameter_bound (y ∷ xs) (v ∷ vs) d h e =
       let q = and_parts (not (is_among y.name (C.variable_names xs))) (are_distinct (C.variable_names xs)) d in
       by_cases (IsBound (y ∷ xs) (v ∷ vs)) (same_name y.name x)
       (λ b. (
         v,
-        subst (λ u. IsOfType l u v) (same_some (sym (where_true (same_name y.name x) (Some y.type) (variable_type xs x) b) ∙ e)) h.0,
+        subst (λ u. IsOfType l u v) (some_is (sym (where_true (same_name y.name x) (Some y.type) (variable_type xs x) b) ∙ e)) h.0,
         λ env. bound_leaves l x xs vs h.1 (ap (λ z. variable_type xs z) (sym (name_is y.name x b)) ∙ undeclared y.name xs (not-true (is_among y.name (C.variable_names xs)) q.0)) (with_name y.name v env)
             ∙ where_true (same_name y.name x) v (env x) b,
       ))
@@ -101,18 +102,18 @@ zero_is t Numbers (Array u n) h = absurd (false≢true h)
 
 module _ (l : Layout) (level : Level) (x : Name) where
   pub c_zero : (vs : List C.Variable) (t : CType) → variable_type vs x ≡ Some t → R.zero_locals l vs x ≡ zero l.target t
-  c_zero [] t e = absurd (none_is_none e)
+  c_zero [] t e = absurd (none_some e)
   c_zero (v ∷ vs) t e =
       by_test (λ z. z ≡ zero l.target t) (same_name v.name x) (zero l.target v.type) (R.zero_locals l vs x)
-      (λ b. ap (λ u. zero l.target u) (same_some (sym (where_true (same_name v.name x) (Some v.type) (variable_type vs x) b) ∙ e)))
+      (λ b. ap (λ u. zero l.target u) (some_is (sym (where_true (same_name v.name x) (Some v.type) (variable_type vs x) b) ∙ e)))
       (λ b. c_zero vs t (sym (where_false (same_name v.name x) (Some v.type) (variable_type vs x) b) ∙ e))
 
   pub simpl_zero : (vs : List C.Variable) (bs : List Binder) (t : CType) → are_variables vs ≡ true → variable_type vs x ≡ Some t → X.zero_locals (variables l.target level vs ++ bs) x ≡ zero l.target t
-  simpl_zero [] bs t own e = absurd (none_is_none e)
+  simpl_zero [] bs t own e = absurd (none_some e)
   simpl_zero (v ∷ vs) bs t own e =
       let p = all_of_three (is_scalar v.type) (is_own_name v.name) (are_variables vs) own in
       by_test (λ z. z ≡ zero l.target t) (same_name v.name x) (zero_word_at (kind_at l.target level v.type)) (X.zero_locals (variables l.target level vs ++ bs) x)
-      (λ b. zero_is l.target level v.type p.0 ∙ ap (λ u. zero l.target u) (same_some (sym (where_true (same_name v.name x) (Some v.type) (variable_type vs x) b) ∙ e)))
+      (λ b. zero_is l.target level v.type p.0 ∙ ap (λ u. zero l.target u) (some_is (sym (where_true (same_name v.name x) (Some v.type) (variable_type vs x) b) ∙ e)))
       (λ b. simpl_zero vs bs t p.2 (sym (where_false (same_name v.name x) (Some v.type) (variable_type vs x) b) ∙ e))
 
   pub zero_behind : (vs : List C.Variable) (bs : List Binder) → variable_type vs x ≡ None → X.zero_locals (variables l.target level vs ++ bs) x ≡ X.zero_locals bs x
@@ -122,10 +123,10 @@ module _ (l : Layout) (level : Level) (x : Name) where
       where_false (same_name v.name x) (zero_word_at (kind_at l.target level v.type)) (X.zero_locals (variables l.target level vs ++ bs) x) k.0 ∙ zero_behind vs bs k.1
 
   pub kind_found : (vs : List C.Variable) (bs : List Binder) (t : CType) → variable_type vs x ≡ Some t → kind_of (variables l.target level vs ++ bs) x ≡ Some (kind_at l.target level t)
-  kind_found [] bs t e = absurd (none_is_none e)
+  kind_found [] bs t e = absurd (none_some e)
   kind_found (v ∷ vs) bs t e =
       by_test (λ o. o ≡ Some (kind_at l.target level t)) (same_name v.name x) (Some (kind_at l.target level v.type)) (kind_of (variables l.target level vs ++ bs) x)
-      (λ b. ap (λ u. Some (kind_at l.target level u)) (same_some (sym (where_true (same_name v.name x) (Some v.type) (variable_type vs x) b) ∙ e)))
+      (λ b. ap (λ u. Some (kind_at l.target level u)) (some_is (sym (where_true (same_name v.name x) (Some v.type) (variable_type vs x) b) ∙ e)))
       (λ b. kind_found vs bs t (sym (where_false (same_name v.name x) (Some v.type) (variable_type vs x) b) ∙ e))
 
   pub kind_behind : (vs : List C.Variable) (bs : List Binder) → variable_type vs x ≡ None → kind_of (variables l.target level vs ++ bs) x ≡ kind_of bs x

@@ -1,5 +1,5 @@
 -- Generation is exact for expressions, places and paths, by induction on the three at once.
-use Rattle.std.proofs.Common.{◌≡◌, Bool, true, false, not, ◌&&◌, List, [], ◌∷◌, Option, Some, None, Ok, cond, pos, neg_ℤ, ◌*ℤ◌, refl, sym, ap, ap₂, ◌∙◌, subst}
+use Rattle.std.proofs.Common.{◌≡◌, Bool, true, false, not, ◌&&◌, List, [], ◌∷◌, Option, Some, Ok, cond, pos, neg_ℤ, ◌*ℤ◌, refl, sym, ap, ap₂, ◌∙◌, subst}
 use Rattle.std.proofs.lemmas.Bool.{and_parts}
 use Rattle.c_values.specs.Name.{Name, same_name}
 use Rattle.c_values.specs.Types.{CType, Integer, Ptr, address_width, same_type, width_of}
@@ -8,7 +8,6 @@ use Rattle.c_values.specs.Word.{word_unary, Wnot}
 use Rattle.c_values.specs.Layout.{Layout, IsLayout, shape_of, size_of, is_object, is_scalar, global_type}
 use Rattle.c_values.specs.Path.{Field, Index, Spot, spot, IsBits, HasShape}
 use Rattle.c_values.proofs.Leads.{leads_spot}
-use Rattle.c_values.specs.CodeSameType.{type_is}
 use Rattle.expression_lang.specs.Evaluation.{Env, State, moved, moved_to}
 use Rattle.expression_lang.specs.Evaluation as E
 use Rattle.expression_lang.specs.Expression as X
@@ -28,6 +27,7 @@ use Rattle.generation.proofs.ExactTruth.{scalar_shaped, plain_value}
 use Rattle.generation.proofs.ExactPlaces.{context_of, IsExactPath, access_exact, content_exact, through_exact, in_global_exact}
 use Rattle.generation.proofs.ExactOperations.{moved_fits, own_number, converted_value, null_value, complement_value, negated, computed_value, combined_value, compared_value, shifted_value, equated_value, moved_value, moved_by_value}
 use Rattle.generation.proofs.ExactChoices.{not_value, and_exact, or_exact, choose_exact}
+use Rattle.generation.proofs.ExactMachines.{is_declared}
 
 variable_scalar : (vs : List C.Variable) (x : Name) (t : CType) → are_variables vs ≡ true → variable_type vs x ≡ Some t → is_scalar t ≡ true
 variable_scalar [] x t h e = absurd cc
@@ -38,10 +38,6 @@ variable_scalar (v ∷ vs) x t h e =
     by_name : (b : Bool) → cond b (Some v.type) (variable_type vs x) ≡ Some t → is_scalar v.type ≡ true → (variable_type vs x ≡ Some t → is_scalar t ≡ true) → is_scalar t ≡ true
     by_name true e h rest = let same : v.type ≡ t = cc in subst (λ u. is_scalar u ≡ true) same h
     by_name false e h rest = rest e
-
-some_type : (o : Option CType) (t : CType) → is_type o t ≡ true → o ≡ Some t
-some_type None t h = absurd cc
-some_type (Some u) t h = ap Some (type_is u t h)
 
 address_fits : (l : Layout) (p : _) (o : Option Spot) (q : Spot) → o ≡ Some q → IsBits (address_width l.target) (moved_to l p o)
 address_fits l p o q e = subst (λ x. IsBits (address_width l.target) (moved_to l p x)) (sym e) (moved_fits l p q.offset)
@@ -57,7 +53,7 @@ module _ (g : Scope) (level : Level) (locals : Env) (s : State) (env : Env) (lay
 
   local_exact : (x : Name) (t : CType) → is_type (variable_type g.variables x) t ≡ true → IsExactValue g c env (C.Local x t)
   local_exact x t h =
-      let found = some_type (variable_type g.variables x) t h in
+      let found = is_declared (variable_type g.variables x) t h in
       (refl, plain_value l env s (C.Local x t) (locals x) refl (agree x t found) (scalar_shaped l t (locals x) (variable_scalar g.variables x t variables found) (fits_locals x t found)))
 
   content_value : (p : C.Place) → IsExactPlace g c env p → IsExactValue g c env (C.Value p)

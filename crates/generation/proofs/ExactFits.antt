@@ -9,19 +9,20 @@ use Rattle.c_values.specs.Value.{Value, Bits, word_in, number_in, same_value}
 use Rattle.c_values.specs.Layout.{Layout}
 use Rattle.c_values.specs.Path.{IsBits}
 use Rattle.c_values.proofs.WordResults.{unsigned_quotient}
+use Rattle.c_values.proofs.Widths.{some_width}
 use Rattle.expression_lang.specs.Evaluation.{Env, State, holds}
 use Rattle.expression_lang.specs.Evaluation as E
 use Rattle.expression_lang.specs.Expression as X
 use Rattle.expression_lang.specs.Sort.{Level, Bytes, Words, Numbers}
 use Rattle.expression_lang.specs.GuardKind.{GuardKind}
 use Rattle.expression_lang.specs.GuardKind as K
+use Rattle.expression_lang.proofs.Fine.{op_word, bits_word}
 use Rattle.c_meaning.specs.CValue.{unless, value_at, number_at, number_of_type, fitted, divided}
 use Rattle.generation.specs.Guards.{when, word_of, number, in_type, fits, divides}
 use Rattle.generation.specs.Refused.{refused}
 use Rattle.generation.proofs.ExactValue.{Same}
 use Rattle.generation.proofs.FirstRefused.{same_unless}
-use Rattle.generation.proofs.ExactNumbers.{number_by, some_width, word_of_bits, same_as_number, zero_between}
-use Rattle.generation.proofs.ExactArithmetic.{word_op_fits}
+use Rattle.generation.proofs.ExactNumbers.{number_by, same_as_number, zero_between}
 
 -- a test that holds
 same_holds : {A : Type 0} (t : Bool) (k : GuardKind) (a : A) (Q : A → Type 0) → t ≡ true → Q a → Same (unless t k (Ok a)) None Q
@@ -94,11 +95,11 @@ module _ (l : Layout) (env : Env) (s : State) where
   quotient_fits width false e f v w u h k p q =
       let a = word_in v in
       let b = word_in w in
-      let p' = word_of_bits width v p in
-      let q' = word_of_bits width w q in
+      let p' = bits_word width v p in
+      let q' = bits_word width w q in
       same_holds (is_between (least false width) (quotient (unsigned a) (unsigned b)) (greatest false width)) K.Signed u (λ r. r ≡ u)
       (subst (λ n. is_between (least false width) n (greatest false width) ≡ true) (unsigned_quotient width a b p' q')
-      (unsigned_in_range width (word_op Wudiv a b) (word_op_fits width Wudiv a b p'))) refl
+      (unsigned_in_range width (word_op Wudiv a b) (op_word width Wudiv a b p'))) refl
 
   pub divides_exact : (i : IntType) (op : NumberOp) (e f : X.Exp) (v w : Value) → E.value l env s e ≡ v → E.value l env s f ≡ w → IsBits (width_of l.target i) v → IsBits (width_of l.target i) w →
       Same (divided l i op (number_at i v) (number_at i w)) (refused l env s (divides l.target i e f)) (λ u. u ≡ value_at l i (number_op op (number_at i v) (number_at i w)))

@@ -28,8 +28,8 @@ use Rattle.c_meaning.specs.Kinds.{variables}
 use Rattle.generation.specs.Generate.{whole_body}
 use Rattle.c_meaning.specs.Fitting.{IsOfType, AreOfTypes, IsResultOf, IsReturned}
 use Rattle.expression_lang.specs.States.{IsState}
-use Rattle.generation.proofs.ExactTests.{same_some}
 use Rattle.correspondence.proofs.Steps.{same_on_right, after_done, after_fault, in_brackets}
+use Rattle.c_values.proofs.Options.{some_is}
 use Rattle.generation.proofs.ExactGuards.{SameKind}
 use Rattle.generation.proofs.ExactMachines.{Alike, declared_scalar, is_first_name, own_not_first}
 use Rattle.generation.proofs.ExactEnds.{IsEnd}
@@ -44,7 +44,7 @@ module _ (l : Layout) (level : Level) (params locals : List C.Variable) (bs : Li
   pub locals_kind : (x : Name) (t : CType) → variable_type (params ++ locals) x ≡ Some t → kind_of (variables l.target level params ++ (variables l.target level locals ++ bs)) x ≡ Some (kind_at l.target level t)
   locals_kind x t e =
       by_place (kind_of (variables l.target level params ++ (variables l.target level locals ++ bs)) x ≡ Some (kind_at l.target level t)) x (variable_type params x) refl
-      (λ u d. kind_found l level x params (variables l.target level locals ++ bs) u d ∙ ap (λ z. Some (kind_at l.target level z)) (same_some (sym (declared_before x u params locals d) ∙ e)))
+      (λ u d. kind_found l level x params (variables l.target level locals ++ bs) u d ∙ ap (λ z. Some (kind_at l.target level z)) (some_is (sym (declared_before x u params locals d) ∙ e)))
       (λ d. kind_behind l level x params (variables l.target level locals ++ bs) d ∙ kind_found l level x locals bs t (sym (declared_behind x params locals d) ∙ e))
 
   module _ (own : are_variables (params ++ locals) ≡ true) (own_params : are_variables params ≡ true) (own_locals : are_variables locals ≡ true) (distinct : are_distinct (C.variable_names params) ≡ true)
@@ -61,7 +61,7 @@ module _ (l : Layout) (level : Level) (params locals : List C.Variable) (bs : Li
     begins_alike : (x : Name) (t : CType) → variable_type (params ++ locals) x ≡ Some t → BeginsAlike x t
     begins_alike x t e =
         by_place (BeginsAlike x t) x (variable_type params x) refl
-        (λ u d. let b = parameter_bound l x t params vs distinct typed (d ∙ ap Some (same_some (sym (declared_before x u params locals d) ∙ e))) in
+        (λ u d. let b = parameter_bound l x t params vs distinct typed (d ∙ ap Some (some_is (sym (declared_before x u params locals d) ∙ e))) in
         (b.2 (X.zero_locals (variables l.target level params ++ (variables l.target level locals ++ bs))) ∙ sym (b.2 (R.zero_locals l locals)), subst (λ v. IsOfType l t v) (sym (b.2 (R.zero_locals l locals))) b.1))
         (λ d. let k = sym (declared_behind x params locals d) ∙ e in
         let c = bound_leaves l x params vs typed d (R.zero_locals l locals) ∙ c_zero l level x locals t k in (

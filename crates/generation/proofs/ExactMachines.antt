@@ -10,6 +10,7 @@ use Rattle.c_values.specs.Layout.{is_scalar}
 use Rattle.c_values.proofs.Laid.{name_is}
 use Rattle.c_values.specs.CodeSameType.{type_is}
 use Rattle.c_values.specs.Choice.{Choice}
+use Rattle.c_values.proofs.Options.{none_some, some_is}
 use Rattle.expression_lang.specs.Sort.{Level}
 use Rattle.expression_lang.specs.Evaluation.{Env, State}
 use Rattle.expression_lang.specs.Machine.{Machine, machine_with, with_local}
@@ -18,7 +19,7 @@ use Rattle.c_lang.specs.WellTyped.{Scope, variable_type, is_type, are_variables,
 use Rattle.c_meaning.specs.CRun.{Setting, context}
 use Rattle.c_meaning.specs.Fitting.{Fits, IsOfType, AgreeOn}
 use Rattle.expression_lang.specs.States.{IsState}
-use Rattle.generation.proofs.ExactTests.{all_of_three, same_some, none_is_none, by_test, by_cases, where_true, where_false}
+use Rattle.generation.proofs.ExactTests.{all_of_three, by_test, by_cases, where_true, where_false}
 
 abbrev second_byte : Name → ℕ
 second_byte [] = 0
@@ -48,11 +49,11 @@ fitting g p level m n a = record { layout = refl; variables = a.typed; state = a
 
 -- a declared name begins with no `$`, and has a scalar type
 pub declared_scalar : (vs : List C.Variable) → are_variables vs ≡ true → (x : Name) (t : CType) → variable_type vs x ≡ Some t → (is_own_name x ≡ true) × (is_scalar t ≡ true)
-declared_scalar [] h x t e = absurd (none_is_none e)
+declared_scalar [] h x t e = absurd (none_some e)
 declared_scalar (v ∷ vs) h x t e =
     let p = all_of_three (is_scalar v.type) (is_own_name v.name) (are_variables vs) h in
     by_cases ((is_own_name x ≡ true) × (is_scalar t ≡ true)) (same_name v.name x)
-    (λ b. (subst (λ y. is_own_name y ≡ true) (name_is v.name x b) p.1, subst (λ u. is_scalar u ≡ true) (same_some (sym (where_true (same_name v.name x) (Some v.type) (variable_type vs x) b) ∙ e)) p.0))
+    (λ b. (subst (λ y. is_own_name y ≡ true) (name_is v.name x b) p.1, subst (λ u. is_scalar u ≡ true) (some_is (sym (where_true (same_name v.name x) (Some v.type) (variable_type vs x) b) ∙ e)) p.0))
     (λ b. declared_scalar vs p.2 x t (sym (where_false (same_name v.name x) (Some v.type) (variable_type vs x) b) ∙ e))
 
 -- the type that a name is said to have
@@ -89,7 +90,7 @@ module _ (g : Scope) (own : are_variables g.variables ≡ true) (m n : Machine) 
     state = a.state;
     locals = declared_agrees g.variables own m.locals n.locals a.locals x v;
     typed = λ y u e. by_test (λ w. IsOfType g.layout u w) (same_name x y) v (m.locals y)
-        (λ s. subst (λ w. IsOfType g.layout w v) (same_some (sym d ∙ ap (λ z. variable_type g.variables z) (name_is x y s) ∙ e)) h) (λ s. a.typed y u e);
+        (λ s. subst (λ w. IsOfType g.layout w v) (some_is (sym d ∙ ap (λ z. variable_type g.variables z) (name_is x y s) ∙ e)) h) (λ s. a.typed y u e);
     can_be = a.can_be;
     quiet = λ y e. by_test (λ w. V.truth_in w ≡ false) (same_name x y) v (n.locals y)
         (λ s. absurd (false≢true (sym (own_not_first x (declared_scalar g.variables own x t d).0) ∙ ap (λ z. is_first_name z) (name_is x y s) ∙ e))) (λ s. a.quiet y e);

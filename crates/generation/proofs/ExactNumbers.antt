@@ -1,39 +1,24 @@
 -- Words and the numbers that they are at a type: a word of a width is the word of its number, and words are the same where
 -- their numbers are.
-use Rattle.std.proofs.Common.{◌≡◌, ℕ, zero, suc, ◌-◌, ◌^◌, ◌<◌, ◌≤◌, ◌==◌, Bool, true, false, cond, ℤ, pos, neg_ℤ, int_eq, refl, sym, ap, ap₂, ◌∙◌, arith, eq-eqb, eqb-true, lit≤}
+use Rattle.std.proofs.Common.{◌≡◌, ℕ, zero, suc, ◌-◌, ◌^◌, ◌<◌, ◌≤◌, ◌==◌, Bool, true, false, cond, ℤ, pos, neg_ℤ, int_eq, refl, sym, ap, ap₂, ◌∙◌, arith, eq-eqb, eqb-true}
 use Rattle.std.proofs.lemmas.Nat.{pow_pos}
 use Rattle.std.proofs.lemmas.Bool.{and_parts, and_from}
 use Rattle.std.proofs.lemmas.Bool.Decides.{Decides-int_eq, same_from_decides}
 use Rattle.std.specs.Prelude.{Decides}
-use Rattle.c_values.specs.Types.{Target, Ilp32, Lp64, IntType, Char, SChar, UChar, Short, UShort, Int, UInt, Long, ULong, LLong, ULLong, CType, Integer, Void, Ptr, Struct, Array, width_of, address_width, is_signed}
+use Rattle.c_values.specs.Types.{Target, IntType, CType, Integer, Void, Ptr, Struct, Array, width_of, is_signed}
 use Rattle.c_values.specs.Number.{is_between, least, greatest, is_of_type}
 use Rattle.c_values.specs.Word.{Word, IsWord, unsigned, signed, word}
 use Rattle.c_values.specs.Value.{Value, Bits, Number, Truth, Parts, word_in, same_value}
 use Rattle.c_values.specs.Layout.{scalar_width}
 use Rattle.c_values.specs.Path.{IsBits}
 use Rattle.c_values.proofs.WordValues.{word-unsigned, word-signed, unsigned-word, signed-word}
+use Rattle.c_values.proofs.Widths.{some_address, some_width}
 use Rattle.expression_lang.proofs.Filled.{word_fits}
+use Rattle.expression_lang.proofs.Fine.{bits_word}
 use Rattle.c_meaning.specs.CValue.{number_at, number_of_type}
 use Rattle.generation.specs.Guards.{is_signed_type}
 
 -- ---- widths
-
-pub some_address : (t : Target) → 1 ≤ address_width t
-some_address Ilp32 = lit≤ tt
-some_address Lp64 = lit≤ tt
-
-pub some_width : (t : Target) (i : IntType) → 1 ≤ width_of t i
-some_width t Char = lit≤ tt
-some_width t SChar = lit≤ tt
-some_width t UChar = lit≤ tt
-some_width t Short = lit≤ tt
-some_width t UShort = lit≤ tt
-some_width t Int = lit≤ tt
-some_width t UInt = lit≤ tt
-some_width t Long = some_address t
-some_width t ULong = some_address t
-some_width t LLong = lit≤ tt
-some_width t ULLong = lit≤ tt
 
 pub some_scalar : (t : Target) (u : CType) → 1 ≤ scalar_width t u
 some_scalar t (Integer i) = some_width t i
@@ -49,12 +34,6 @@ bits_are n (Bits w) h = refl
 bits_are n (Number z) h = absurd h
 bits_are n (Truth b) h = absurd h
 bits_are n (Parts vs) h = absurd h
-
-pub word_of_bits : (n : ℕ) (v : Value) → IsBits n v → IsWord n (word_in v)
-word_of_bits n (Bits w) h = h
-word_of_bits n (Number z) h = absurd h
-word_of_bits n (Truth b) h = absurd h
-word_of_bits n (Parts vs) h = absurd h
 
 -- the word of a word's own width
 pub word_at : (width : ℕ) (a : Word) (n : ℤ) → IsWord width a → word a.width n ≡ word width n
@@ -113,7 +92,7 @@ pub same_as_number : (s : Bool) (width : ℕ) (v : Value) (n : ℤ) → 1 ≤ wi
     same_value v (Bits (word width n)) ≡ int_eq (number_by s (word_in v)) n
 same_as_number s width v n w h k =
     ap (λ u. same_value u (Bits (word width n))) (bits_are width v h)
-    ∙ same_number s width (word_in v) (word width n) (word_of_bits width v h) (word_fits width n)
+    ∙ same_number s width (word_in v) (word width n) (bits_word width v h) (word_fits width n)
     ∙ ap (int_eq (number_by s (word_in v))) (number-word s width n w k)
 
 -- a switch's operand and a label

@@ -7,6 +7,7 @@ use Rattle.c_values.specs.Value.{Value, Bits, word_in, number_in, same_value}
 use Rattle.c_values.specs.Layout.{Layout, shape_of, size_of, is_scalar, scalar_width}
 use Rattle.c_values.specs.Path.{HasShape, IsBits}
 use Rattle.c_values.specs.CodeSameType.{type_is}
+use Rattle.c_values.proofs.Widths.{some_width}
 use Rattle.expression_lang.specs.Evaluation.{Env, State, holds, moved}
 use Rattle.expression_lang.specs.Evaluation as E
 use Rattle.expression_lang.specs.Expression as X
@@ -19,8 +20,9 @@ use Rattle.generation.specs.Refused.{refused}
 use Rattle.generation.proofs.ExactValue.{Same, IsValueOf}
 use Rattle.generation.proofs.FirstRefused.{same_weaken}
 use Rattle.expression_lang.proofs.Filled.{word_fits}
-use Rattle.generation.proofs.ExactNumbers.{number_by, number_of_type_is, some_width, bits_are, word_of_bits, same_number}
-use Rattle.generation.proofs.ExactArithmetic.{word_op_fits, word_shift_fits, word_unary_fits, sum_of_words, difference_of_words, product_of_words, negation_of_word, quotient_of_words, remainder_of_words, less_of_words, at_most_of_words}
+use Rattle.expression_lang.proofs.Fine.{op_word, shift_word as word_shift_fits, unary_word, bits_word}
+use Rattle.generation.proofs.ExactNumbers.{number_by, number_of_type_is, bits_are, same_number}
+use Rattle.generation.proofs.ExactArithmetic.{sum_of_words, difference_of_words, product_of_words, negation_of_word, quotient_of_words, remainder_of_words, less_of_words, at_most_of_words}
 use Rattle.generation.proofs.ExactFits.{number_value, IsFitted, fits_exact, divides_exact}
 use Rattle.generation.proofs.ExactShifts.{shifts_exact}
 use Rattle.generation.proofs.ExactConversions.{conversion_exact}
@@ -63,7 +65,7 @@ module _ (l : Layout) (env : Env) (s : State) where
   pub complement_value : (i : IntType) (a : C.Expr) (v : Value) → has_type (Integer i) a ≡ true → IsValueOf l env s a v → IsValueOf l env s (C.Complement i a) (Bits (word_unary Wnot (word_in v)))
   complement_value i a v h p =
       plain_value l env s (C.Complement i a) (Bits (word_unary Wnot (word_in v))) refl (ap (λ u. Bits (word_unary Wnot (word_in u))) p.is)
-      (word_unary_fits (width_of l.target i) Wnot (word_in v) (word_of_bits (width_of l.target i) v (at_type (Integer i) a v h p)))
+      (unary_word (width_of l.target i) Wnot (word_in v) (bits_word (width_of l.target i) v (at_type (Integer i) a v h p)))
 
   pub negated : (level : Level) (i : IntType) (a : C.Expr) (v : Value) → has_type (Integer i) a ≡ true → IsValueOf l env s a v →
       Same (fitted l level i (neg_ℤ (number_at i v))) (refused l env s (fits l.target level i (X.Negate (number (Integer i) (exp l a))))) (IsValueOf l env s (C.Negate i a))
@@ -75,14 +77,14 @@ module _ (l : Layout) (env : Env) (s : State) where
       (λ u fit. subst (IsValueOf l env s (C.Negate i a)) (sym fit.0)
       (plain_value l env s (C.Negate i a) (value_at l i n) refl
       (ap (λ x. Bits (word_unary Wneg (word_in x))) p.is
-      ∙ ap Bits (negation_of_word w (some_width l.target i) (word_in v) (word_of_bits w v (at_type (Integer i) a v h p)) (is_signed i) (as_signed (is_signed i) w (λ b. neg_ℤ (number_by b (word_in v))) fit.1)))
+      ∙ ap Bits (negation_of_word w (some_width l.target i) (word_in v) (bits_word w v (at_type (Integer i) a v h p)) (is_signed i) (as_signed (is_signed i) w (λ b. neg_ℤ (number_by b (word_in v))) fit.1)))
       (word_fits w n)))
 
   shift_word : (i : IntType) (d : C.Direction) (e f : X.Exp) → IsBits (width_of l.target i) (E.value l env s e) → IsBits (width_of l.target i) (E.value l env s (shift i d e f))
   shift_word i d e f h = by_direction d
     where
       fits' : (op : ShiftOp) → IsBits (width_of l.target i) (E.value l env s (X.WordShift op e f))
-      fits' op = word_shift_fits (width_of l.target i) op (word_in (E.value l env s e)) (number_in (E.value l env s f)) (word_of_bits (width_of l.target i) (E.value l env s e) h)
+      fits' op = word_shift_fits (width_of l.target i) op (word_in (E.value l env s e)) (number_in (E.value l env s f)) (bits_word (width_of l.target i) (E.value l env s e) h)
 
       by_sign : (b : Bool) → IsBits (width_of l.target i) (E.value l env s (cond b (X.WordShift Wsshr e f) (X.WordShift Wushr e f)))
       by_sign true = fits' Wsshr
@@ -129,26 +131,26 @@ module _ (l : Layout) (env : Env) (s : State) where
           let n = width_of l.target i in
           fitted_value level C.Add (X.Arith Add (number (Integer i) (exp l a)) (number (Integer i) (exp l b))) (number_at i v +ℤ number_at i w)
           (ap₂ (λ x y. x +ℤ y) (number_at_type i a v p) (number_at_type i b w q))
-          (λ fit. sum_of_words n (some_width l.target i) (word_in v) (word_in w) (word_of_bits n v left_word) (word_of_bits n w right_word) (is_signed i)
+          (λ fit. sum_of_words n (some_width l.target i) (word_in v) (word_in w) (bits_word n v left_word) (bits_word n w right_word) (is_signed i)
           (as_signed (is_signed i) n (λ t. number_by t (word_in v) +ℤ number_by t (word_in w)) fit))
       computed_value level C.Subtract =
           let n = width_of l.target i in
           fitted_value level C.Subtract (X.Arith Sub (number (Integer i) (exp l a)) (number (Integer i) (exp l b))) (number_at i v -ℤ number_at i w)
           (ap₂ (λ x y. x -ℤ y) (number_at_type i a v p) (number_at_type i b w q))
-          (λ fit. difference_of_words n (some_width l.target i) (word_in v) (word_in w) (word_of_bits n v left_word) (word_of_bits n w right_word) (is_signed i)
+          (λ fit. difference_of_words n (some_width l.target i) (word_in v) (word_in w) (bits_word n v left_word) (bits_word n w right_word) (is_signed i)
           (as_signed (is_signed i) n (λ t. number_by t (word_in v) -ℤ number_by t (word_in w)) fit))
       computed_value level C.Multiply =
           let n = width_of l.target i in
           fitted_value level C.Multiply (X.Arith Mul (number (Integer i) (exp l a)) (number (Integer i) (exp l b))) (number_at i v *ℤ number_at i w)
           (ap₂ (λ x y. x *ℤ y) (number_at_type i a v p) (number_at_type i b w q))
-          (λ fit. product_of_words n (some_width l.target i) (word_in v) (word_in w) (word_of_bits n v left_word) (word_of_bits n w right_word) (is_signed i)
+          (λ fit. product_of_words n (some_width l.target i) (word_in v) (word_in w) (bits_word n v left_word) (bits_word n w right_word) (is_signed i)
           (as_signed (is_signed i) n (λ t. number_by t (word_in v) *ℤ number_by t (word_in w)) fit))
       computed_value level C.Divide =
           let n = width_of l.target i in
-          divided_value C.Divide Div (quotient_of_words n (some_width l.target i) (word_in v) (word_in w) (word_of_bits n v left_word) (word_of_bits n w right_word) (is_signed i))
+          divided_value C.Divide Div (quotient_of_words n (some_width l.target i) (word_in v) (word_in w) (bits_word n v left_word) (bits_word n w right_word) (is_signed i))
       computed_value level C.Remainder =
           let n = width_of l.target i in
-          divided_value C.Remainder Mod (remainder_of_words n (some_width l.target i) (word_in v) (word_in w) (word_of_bits n v left_word) (word_of_bits n w right_word) (is_signed i))
+          divided_value C.Remainder Mod (remainder_of_words n (some_width l.target i) (word_in v) (word_in w) (bits_word n v left_word) (bits_word n w right_word) (is_signed i))
 
       bits_of : (op : C.Bitwise) → combined op (word_in v) (word_in w) ≡ Bits (word_op (combine_op op) (word_in v) (word_in w))
       bits_of C.BitAnd = refl
@@ -158,7 +160,7 @@ module _ (l : Layout) (env : Env) (s : State) where
       pub combined_value : (op : C.Bitwise) → IsValueOf l env s (C.Combine op i a b) (combined op (word_in v) (word_in w))
       combined_value op = subst (IsValueOf l env s (C.Combine op i a b)) (sym (bits_of op))
           (plain_value l env s (C.Combine op i a b) (Bits (word_op (combine_op op) (word_in v) (word_in w))) refl (operation (combine_op op))
-          (word_op_fits (width_of l.target i) (combine_op op) (word_in v) (word_in w) (word_of_bits (width_of l.target i) v left_word)))
+          (op_word (width_of l.target i) (combine_op op) (word_in v) (word_in w) (bits_word (width_of l.target i) v left_word)))
 
       compares_words : (r : C.Relation) → holds l env s (comparison r (is_signed i) (exp l a) (exp l b)) ≡ compares r (number_at i v) (number_at i w)
       compares_words C.Less = less_of_words (is_signed i) _ _ ∙ ap₂ (λ x y. int_lt (number_at i x) (number_at i y)) p.is q.is
@@ -194,7 +196,7 @@ module _ (l : Layout) (env : Env) (s : State) where
         same : same_value (E.value l env s (exp l a)) (E.value l env s (exp l b)) ≡ int_eq (number_of_type t v) (number_of_type t w)
         same =
             ap₂ same_value (p.is ∙ bits_are n v left) (q.is ∙ bits_are n w right)
-            ∙ same_number (is_signed_type t) n (word_in v) (word_in w) (word_of_bits n v left) (word_of_bits n w right)
+            ∙ same_number (is_signed_type t) n (word_in v) (word_in w) (bits_word n v left) (bits_word n w right)
             ∙ sym (ap₂ int_eq (number_of_type_is t v) (number_of_type_is t w))
 
         by_test : (e : C.Equality) → holds l env s (equation e (exp l a) (exp l b)) ≡ equates e (number_of_type t v) (number_of_type t w)

@@ -11,15 +11,17 @@ use Rattle.c_values.specs.Layout as L
 use Rattle.c_values.specs.Layout.{Layout, IsLayout, Shape, Incomplete, Scalar, Record, Row, Fields, no_fields, field, size, shape_of, is_complete, are_complete}
 use Rattle.c_values.specs.Path.{Step, Field, Index, is_index}
 use Rattle.c_values.proofs.Laid.{shape_good, structs_of}
-use Rattle.c_values.proofs.Leads.{IsNth, first, next, Leads, ends, by_member, by_element}
+use Rattle.c_values.proofs.Leads.{Leads, ends, by_member, by_element}
 use Rattle.c_values.proofs.Parts.{leads_laid, laid_shape}
 use Rattle.c_values.specs.CodeSameType.{type_is}
+use Rattle.c_values.proofs.Options.{some_is}
 use Rattle.expression_lang.specs.Evaluation.{Env, State}
 use Rattle.expression_lang.specs.Evaluation as E
 use Rattle.expression_lang.specs.GuardKind.{GuardKind}
 use Rattle.expression_lang.specs.GuardKind as K
 use Rattle.c_lang.specs.Typed as C
 use Rattle.c_lang.specs.WellTyped.{member_shape, shape_along, leads_to}
+use Rattle.c_lang.proofs.Paths.{none_along, nth_member}
 use Rattle.c_meaning.specs.CValue.{are_in_bounds}
 use Rattle.generation.specs.Guards.{number, exp, path_of, bounds}
 use Rattle.generation.specs.Refused.{refused}
@@ -31,14 +33,6 @@ HasElements C.Here = Unit {0}
 HasElements (C.Member k path) = HasElements path
 HasElements (C.Element n e path) = (0 < n) × HasElements path
 
-some_same : {A : Type 0} {a b : A} → ◌≡◌ {A = Option A} (Some a) (Some b) → a ≡ b
-some_same h = cc
-
-pub nowhere : (path : C.Path) → shape_along None path ≡ None
-nowhere C.Here = refl
-nowhere (C.Member k path) = refl
-nowhere (C.Element n e path) = refl
-
 -- what is at the end of a path
 pub end_of : (o : Option Shape) (u : CType) → leads_to o u ≡ true → (q : Shape) × (o ≡ Some q) × (L.type_of q ≡ u)
 end_of None u h = absurd cc
@@ -46,13 +40,8 @@ end_of (Some q) u h = (q, refl, type_is (L.type_of q) u h)
 
 member_complete : (fs : Fields) (k : ℕ) (s : Shape) → are_complete fs ≡ true → member_shape fs k ≡ Some s → is_complete s ≡ true
 member_complete no_fields k s h e = absurd cc
-member_complete (field at s' fs) zero s h e = subst (λ r. is_complete r ≡ true) (some_same e) (and_parts (is_complete s') (are_complete fs) h).0
+member_complete (field at s' fs) zero s h e = subst (λ r. is_complete r ≡ true) (some_is e) (and_parts (is_complete s') (are_complete fs) h).0
 member_complete (field at s' fs) (suc k) s h e = member_complete fs k s (and_parts (is_complete s') (are_complete fs) h).1 e
-
-nth_member : (fs : Fields) (k : ℕ) (s : Shape) → member_shape fs k ≡ Some s → (at : ℕ) × IsNth fs k at s
-nth_member no_fields k s e = absurd cc
-nth_member (field at s' fs) zero s e = (at, subst (λ r. IsNth (field at s' fs) zero at r) (some_same e) first)
-nth_member (field at s' fs) (suc k) s e = let r = nth_member fs k s e in (r.0, next r.1)
 
 -- into an array of so many elements
 pub into_row : (n m : ℕ) (e : Shape) (path : C.Path) (q : Shape) → cond (n == m) (shape_along (Some e) path) None ≡ Some q → (n ≡ m) × (shape_along (Some e) path ≡ Some q)
@@ -64,7 +53,7 @@ into_row n m e path q h = by_case (n == m) refl h
 
 member_elements : (fs : Fields) (k : ℕ) (path : C.Path) (q : Shape) → are_complete fs ≡ true → ((r : Shape) → is_complete r ≡ true → shape_along (Some r) path ≡ Some q → HasElements path) →
     (o : Option Shape) → member_shape fs k ≡ o → shape_along o path ≡ Some q → HasElements path
-member_elements fs k path q h rest None c e = absurd (let none = nowhere path in cc)
+member_elements fs k path q h rest None c e = absurd (let none = none_along path in cc)
 member_elements fs k path q h rest (Some r) c e = rest r (member_complete fs k r h c) e
 
 elements_along : (s : Shape) (path : C.Path) (q : Shape) → is_complete s ≡ true → shape_along (Some s) path ≡ Some q → HasElements path
@@ -109,14 +98,14 @@ module _ (l : Layout) (env : Env) (s : State) where
   member_leads : (x : Name) (n align : ℕ) (fs : Fields) (k : ℕ) (path : C.Path) (q : Shape) →
       ((r : Shape) → shape_along (Some r) path ≡ Some q → (d : ℕ) × Leads r (E.steps l env s (path_of l path)) d q) →
       (o : Option Shape) → member_shape fs k ≡ o → shape_along o path ≡ Some q → (d : ℕ) × Leads (Record x n align fs) (Field k ∷ E.steps l env s (path_of l path)) d q
-  member_leads x n align fs k path q rest None c e = absurd (let none = nowhere path in cc)
+  member_leads x n align fs k path q rest None c e = absurd (let none = none_along path in cc)
   member_leads x n align fs k path q rest (Some r) c e =
       let m = nth_member fs k r c in
       let p = rest r e in
       (m.0 + p.0, by_member m.1 p.1)
 
   path_leads : (r : Shape) (path : C.Path) (q : Shape) → shape_along (Some r) path ≡ Some q → are_in_bounds path (E.steps l env s (path_of l path)) ≡ true → (d : ℕ) × Leads r (E.steps l env s (path_of l path)) d q
-  path_leads r C.Here q e b = (0, subst (λ x. Leads r [] 0 x) (some_same e) ends)
+  path_leads r C.Here q e b = (0, subst (λ x. Leads r [] 0 x) (some_is e) ends)
   path_leads (Record x n align fs) (C.Member k path) q e b = member_leads x n align fs k path q (λ r d. path_leads r path q d b) (member_shape fs k) refl e
   path_leads (Row r m) (C.Element n i path) q e b =
       let z = number_in (E.value l env s (number (C.type_of i) (exp l i))) in

@@ -1,15 +1,16 @@
 -- Places: where a C place is the Simpl pointer and steps are, its conditions are those of its root, its indices, its bounds
 -- and its access, in this order, and what lies there is what Simpl reads.
-use Rattle.std.proofs.Common.{◌≡◌, nat_le, Bool, true, false, not, ◌||◌, List, [], ◌∷◌, Option, Some, None, Ok, cond, pos, refl, sym, ap, subst}
+use Rattle.std.proofs.Common.{◌≡◌, Bool, true, false, not, ◌||◌, List, [], ◌∷◌, Option, Some, None, Ok, cond, pos, refl, sym, ap, subst}
 use Rattle.std.proofs.lemmas.Bool.{and_parts}
 use Rattle.c_values.specs.Name.{Name, same_name}
 use Rattle.c_values.specs.Types.{CType}
 use Rattle.c_values.specs.Value.{Value, word_in}
-use Rattle.c_values.specs.Layout.{Layout, IsLayout, GlobalVar, shape_of, is_object, is_complete, size_of, largest_size, global_type}
+use Rattle.c_values.specs.Layout.{Layout, IsLayout, GlobalVar, shape_of, is_object, global_type}
 use Rattle.c_values.specs.Path.{Step, HasShape}
 use Rattle.c_values.proofs.Leads.{leads_in_range, leads_spot}
 use Rattle.c_memory.specs.Tags.{is_pointer_ok}
 use Rattle.c_memory.specs.Heap.{is_tagged}
+use Rattle.c_memory.proofs.Objects.{object_complete}
 use Rattle.expression_lang.specs.Evaluation.{Env, State}
 use Rattle.expression_lang.specs.Evaluation as E
 use Rattle.expression_lang.specs.Expression as X
@@ -23,13 +24,11 @@ use Rattle.c_meaning.specs.CValue as V
 use Rattle.generation.specs.Guards.{when, exp, content, path_of, guards, bounds, index_guards, accesses}
 use Rattle.generation.specs.Refused.{refused}
 use Rattle.expression_lang.specs.States.{IsState}
+use Rattle.c_lang.proofs.Paths.{none_along}
 use Rattle.generation.proofs.ReadHeap.{sel_shaped, read_shaped}
 use Rattle.generation.proofs.ExactValue.{Same, IsValueOf, IsExactValue, IsAt, IsExactPlace}
 use Rattle.generation.proofs.FirstRefused.{same_unless, same_bind, same_both}
-use Rattle.generation.proofs.ExactPath.{nowhere, bounds_refused, path_has_elements, path_ends}
-
-complete_object : (l : Layout) (t : CType) → is_object l t ≡ true → is_complete (shape_of l t) ≡ true
-complete_object l t h = (and_parts (is_complete (shape_of l t)) (nat_le (size_of l t) largest_size) h).0
+use Rattle.generation.proofs.ExactPath.{bounds_refused, path_has_elements, path_ends}
 
 -- a global's type is one of an object
 pub global_object : (l : Layout) (vs : List GlobalVar) (x : Name) (t : CType) → are_globals l vs ≡ true → global_type vs x ≡ Some t → is_object l t ≡ true
@@ -79,7 +78,7 @@ module _ (g : Scope) (level : Level) (locals : Env) (s : State) (env : Env) wher
         let end = at.ends in (
           ap (V.content c) (sym at.is),
           subst (λ x. HasShape (shape_of g.layout u) (V.content c x)) (sym at.is)
-              (read_shaped g.layout layout t (complete_object g.layout t at.object) address ps (record { offset = pos end.at; shape = shape_of g.layout u }) (leads_in_range end.leads) (leads_spot end.leads) s.heap state.heap),
+              (read_shaped g.layout layout t (object_complete g.layout t at.object) address ps (record { offset = pos end.at; shape = shape_of g.layout u }) (leads_in_range end.leads) (leads_spot end.leads) s.heap state.heap),
         )
     content_exact (C.InGlobal x path u) w at = (
       ap (V.content c) (sym at.is),
@@ -99,7 +98,7 @@ module _ (g : Scope) (level : Level) (locals : Env) (s : State) (env : Env) wher
         at_steps : (v : Value) → IsValueOf g.layout env s p v →
             Same (unless (are_in_bounds path steps) K.Bounds (Ok (InMemory t (word_in v) steps))) (refused g.layout env s (bounds g.layout path)) (IsAt g env s (C.Through t p path u))
         at_steps v hv =
-            let complete = complete_object g.layout t object in
+            let complete = object_complete g.layout t object in
             same_bounds (are_in_bounds path steps) (refused g.layout env s (bounds g.layout path)) (InMemory t (word_in v) steps) (IsAt g env s (C.Through t p path u))
             (bounds_refused g.layout env s path (path_has_elements g.layout env s layout t complete path u typed))
             (λ b. record { is = ap (λ x. InMemory t (word_in x) steps) (sym hv.is); object = object; ends = path_ends g.layout env s layout t complete path u typed b })
@@ -117,9 +116,9 @@ module _ (g : Scope) (level : Level) (locals : Env) (s : State) (env : Env) wher
 
         by_type : (o : Option CType) → global_type g.globals x ≡ o → leads_to (shape_along (shape_in g.layout o) path) u ≡ true →
             Same (unless (are_in_bounds path steps) K.Bounds (Ok (InGlobal x steps))) (refused g.layout env s (bounds g.layout path)) (IsAt g env s (C.InGlobal x path u))
-        by_type None e typed = absurd (let none : leads_to None u ≡ true = subst (λ o. leads_to o u ≡ true) (nowhere path) typed in cc)
+        by_type None e typed = absurd (let none : leads_to None u ≡ true = subst (λ o. leads_to o u ≡ true) (none_along path) typed in cc)
         by_type (Some t) e typed =
-            let complete = complete_object g.layout t (global_object g.layout g.globals x t known e) in
+            let complete = object_complete g.layout t (global_object g.layout g.globals x t known e) in
             same_bounds (are_in_bounds path steps) (refused g.layout env s (bounds g.layout path)) (InGlobal x steps) (IsAt g env s (C.InGlobal x path u))
             (bounds_refused g.layout env s path (path_has_elements g.layout env s layout t complete path u typed))
             (λ b. record { root = t; found = e; is = refl; ends = path_ends g.layout env s layout t complete path u typed b })

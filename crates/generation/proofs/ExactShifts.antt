@@ -14,17 +14,19 @@ use Rattle.c_values.specs.Value.{Value, Bits, word_in, number_in}
 use Rattle.c_values.specs.Layout.{Layout}
 use Rattle.c_values.specs.Path.{IsBits}
 use Rattle.c_values.proofs.WordValues.{IsSigned, low, high, signed_of, signed-word}
+use Rattle.c_values.proofs.Widths.{some_width}
 use Rattle.expression_lang.specs.Evaluation.{Env, State, holds}
 use Rattle.expression_lang.specs.Evaluation as E
 use Rattle.expression_lang.specs.Expression as X
 use Rattle.expression_lang.specs.GuardKind as K
+use Rattle.expression_lang.proofs.Fine.{bits_word}
 use Rattle.c_lang.specs.Typed as C
 use Rattle.c_meaning.specs.CValue.{unless, value_at, number_at, shifted}
 use Rattle.generation.specs.Guards.{when, word_of, shifts, shift}
 use Rattle.generation.specs.Refused.{refused}
 use Rattle.generation.proofs.ExactValue.{Same}
 use Rattle.generation.proofs.FirstRefused.{same_unless}
-use Rattle.generation.proofs.ExactNumbers.{number_by, some_width, word_of_bits, word_at}
+use Rattle.generation.proofs.ExactNumbers.{number_by, word_at}
 
 count_in_range : (w m : ℕ) → 1 ≤ w → is_between (pos 0) (pos m) (pos (w - 1)) ≡ is_shift w (pos m)
 count_in_range w m h = grind (arith, nat_tests)
@@ -99,7 +101,7 @@ is_natural w (negsuc m) h = absurd cc
 
 module _ (l : Layout) (env : Env) (s : State) (w : ℕ) (some : 1 ≤ w) (e f : X.Exp) (v : Value) (h : E.value l env s e ≡ v) (p : IsBits w v) where
   in_width : (z : ℤ) → is_shift w z ≡ true → is_shift (word_in v).width z ≡ true
-  in_width z c = subst (λ n. is_shift n z ≡ true) (sym (word_of_bits w v p).has_width) c
+  in_width z c = subst (λ n. is_shift n z ≡ true) (sym (bits_word w v p).has_width) c
 
   count_holds : (z : ℤ) → number_in (E.value l env s f) ≡ z → holds l env s (X.Between (pos 0) f (pos (w - 1))) ≡ is_shift w z
   count_holds z k = ap (λ n. is_between (pos 0) n (pos (w - 1))) k ∙ shift_range w z some
@@ -111,7 +113,7 @@ module _ (l : Layout) (env : Env) (s : State) (w : ℕ) (some : 1 ≤ w) (e f : 
       ap₂ (λ x y. Bits (word_shift Wshl (word_in x) y)) h k
       ∙ ap Bits (cond-true (is_shift a.width z) (word a.width (unsigned a *ℤ power_of_two z)) (word a.width (pos 0)) (in_width z c))
       ∙ ap (λ n. Bits (word a.width (n *ℤ power_of_two z))) same
-      ∙ ap Bits (word_at w a (number_by b a *ℤ power_of_two z) (word_of_bits w v p))
+      ∙ ap Bits (word_at w a (number_by b a *ℤ power_of_two z) (bits_word w v p))
 
   right_value : (b : Bool) (z : ℤ) → number_in (E.value l env s f) ≡ z → is_shift w z ≡ true →
       E.value l env s (cond b (X.WordShift Wsshr e f) (X.WordShift Wushr e f)) ≡ Bits (word w (int_div_euclid (number_by b (word_in v)) (power_of_two z)))
@@ -119,12 +121,12 @@ module _ (l : Layout) (env : Env) (s : State) (w : ℕ) (some : 1 ≤ w) (e f : 
       let a = word_in v in
       ap₂ (λ x y. Bits (word_shift Wsshr (word_in x) y)) h k
       ∙ ap Bits (cond-true (is_shift a.width z) (word a.width (int_div_euclid (signed a) (power_of_two z))) (word a.width (cond (int_lt (signed a) (pos 0)) (negsuc 0) (pos 0))) (in_width z c))
-      ∙ ap Bits (word_at w a (int_div_euclid (signed a) (power_of_two z)) (word_of_bits w v p))
+      ∙ ap Bits (word_at w a (int_div_euclid (signed a) (power_of_two z)) (bits_word w v p))
   right_value false z k c =
       let a = word_in v in
       ap₂ (λ x y. Bits (word_shift Wushr (word_in x) y)) h k
       ∙ ap Bits (cond-true (is_shift a.width z) (word a.width (int_div_euclid (unsigned a) (power_of_two z))) (word a.width (pos 0)) (in_width z c))
-      ∙ ap Bits (word_at w a (int_div_euclid (unsigned a) (power_of_two z)) (word_of_bits w v p))
+      ∙ ap Bits (word_at w a (int_div_euclid (unsigned a) (power_of_two z)) (bits_word w v p))
 
   -- what is shifted left, after the count
   left_fits : (b : Bool) (z : ℤ) → number_in (E.value l env s f) ≡ z → is_shift w z ≡ true →
@@ -144,7 +146,7 @@ module _ (l : Layout) (env : Env) (s : State) (w : ℕ) (some : 1 ≤ w) (e f : 
       (same_twice l env s b t K.Shift (X.Between (pos 0) (X.ToInt e) (pos top)) (X.Le (X.ToInt e) (X.ToInt (X.WordShift Wsshr (X.WordLit (word w (pos top))) f))) u (λ r. E.value l env s (X.WordShift Wshl e f) ≡ r)
       (ap (λ x. is_between (pos 0) (signed (word_in x)) (pos top)) h)
       (ap₂ (λ x y. int_le (signed (word_in x)) (signed (word_shift Wsshr (word w (pos top)) y))) h k ∙ ap (int_le (signed a)) (greatest_shifted w m some c))
-      (λ both. left_value true (pos m) k c (sym (not_negative w a.bits (signed a) (signed_of w a (word_of_bits w v p)) (and_parts (int_le (pos 0) (signed a)) (int_le (signed a) (pos top)) (and_parts b t both).0).0))))
+      (λ both. left_value true (pos m) k c (sym (not_negative w a.bits (signed a) (signed_of w a (bits_word w v p)) (and_parts (int_le (pos 0) (signed a)) (int_le (signed a) (pos top)) (and_parts b t both).0).0))))
 
 pub shifts_exact : (l : Layout) (env : Env) (s : State) (i : IntType) (d : C.Direction) (e f : X.Exp) (v : Value) (z : ℤ) → E.value l env s e ≡ v → IsBits (width_of l.target i) v →
     number_in (E.value l env s f) ≡ z → Same (shifted l i d (number_at i v) z) (refused l env s (shifts l.target i d e f)) (λ u. E.value l env s (shift i d e f) ≡ u)

@@ -13,6 +13,7 @@ use Rattle.c_values.specs.Choice.{Choice}
 use Rattle.c_values.proofs.Laid.{name_is}
 use Rattle.c_values.proofs.Leads.{leads_in_range, leads_spot}
 use Rattle.c_values.proofs.Shaped.{upd_shaped}
+use Rattle.c_values.proofs.Options.{some_is}
 use Rattle.c_memory.specs.Heap.{write_heap}
 use Rattle.expression_lang.specs.Sort.{Level}
 use Rattle.expression_lang.specs.Signature.{Binder, values_of}
@@ -31,7 +32,7 @@ use Rattle.generation.specs.Refused.{refused}
 use Rattle.c_meaning.specs.Fitting.{AreOfTypes}
 use Rattle.expression_lang.specs.States.{IsState}
 use Rattle.generation.proofs.ExactValue.{Same, IsValueOf, IsAt, EndsAt}
-use Rattle.generation.proofs.ExactTests.{same_some, by_test}
+use Rattle.generation.proofs.ExactTests.{by_test}
 use Rattle.generation.proofs.ExactGuards.{SameKind, evaluated_guarded}
 use Rattle.generation.proofs.ExactTruth.{scalar_bits}
 use Rattle.generation.proofs.ExactMachines.{Alike, setting, fitting, is_declared, declared_scalar, alike_declared, alike_at}
@@ -60,7 +61,7 @@ pub written_global : (l : Layout) (gs : List GlobalVar) (s : State) (x : Name) (
 written_global l gs s x ps t u v is e to h = record {
   heap = is.heap;
   globals = λ y w k. by_test (λ z. HasShape (shape_of l w) z) (same_name x y) (upd (s.globals x) ps v) (s.globals y)
-      (λ b. subst (λ z. HasShape (shape_of l z) (upd (s.globals x) ps v)) (same_some (sym e ∙ ap (λ z. global_type gs z) (name_is x y b) ∙ k)) (upd_shaped (s.globals x) v (is.globals x t e) h to.leads))
+      (λ b. subst (λ z. HasShape (shape_of l z) (upd (s.globals x) ps v)) (some_is (sym e ∙ ap (λ z. global_type gs z) (name_is x y b) ∙ k)) (upd_shaped (s.globals x) v (is.globals x t e) h to.leads))
       (λ b. is.globals y w k);
 }
 

@@ -1,5 +1,5 @@
 -- Tests that are made of several, and what is chosen by a test.
-use Rattle.std.proofs.Common.{◌≡◌, Bool, true, false, Option, Some, None, refl}
+use Rattle.std.proofs.Common.{◌≡◌, Bool, true, false, refl}
 use Rattle.std.specs.Prelude.{◌&&◌, if◌then◌else◌}
 use Rattle.std.proofs.lemmas.Bool.{false≢true}
 
@@ -23,12 +23,6 @@ all_of_five true true true false e h = absurd (false≢true h)
 all_of_five true true false d e h = absurd (false≢true h)
 all_of_five true false c d e h = absurd (false≢true h)
 all_of_five false b c d e h = absurd (false≢true h)
-
-pub same_some : {A : Type 0} {a b : A} → ◌≡◌ {A = Option A} (Some a) (Some b) → a ≡ b
-same_some h = cc
-
-pub none_is_none : {A : Type 0} {a : A} → ◌≡◌ {A = Option A} None (Some a) → ⊥
-none_is_none h = cc
 
 -- what holds of both choices, each under its test
 pub by_test : {A : Type 0} (P : A → Type 0) (b : Bool) (x y : A) → (b ≡ true → P x) → (b ≡ false → P y) → P (if b then x else y)

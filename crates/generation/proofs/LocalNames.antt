@@ -1,6 +1,6 @@
 -- The locals of a generated function have different names: those of the text, which begin with no `$`, and those that are added,
 -- each of a family by its first letters, in which numbers tell them apart.
-use Rattle.std.proofs.Common.{◌≡◌, ℕ, ◌+◌, ◌==◌, ◌^◌, ◌<◌, Bool, true, false, not, ◌&&◌, ◌||◌, cond, List, [], ◌∷◌, ◌++◌, map, Option, Some, None, decimal, ◌⊎◌, inl, inr, refl, sym, ap, ◌∙◌, subst, arith, length, pos}
+use Rattle.std.proofs.Common.{◌≡◌, ℕ, ◌+◌, ◌==◌, ◌^◌, ◌<◌, Bool, true, false, not, ◌||◌, cond, List, [], ◌∷◌, ◌++◌, map, Option, Some, None, decimal, ◌⊎◌, inl, inr, refl, sym, ap, ◌∙◌, subst, arith, length, pos}
 use Rattle.std.specs.Prelude.{nat_lt}
 use Rattle.std.specs.List.{list_any, list_all}
 use Rattle.std.specs.Str.Parse.{AllDigits}

@@ -1,15 +1,15 @@
 -- A read in range gives a value of the place's shape, on either heap and also where no tag covers the root.
-use Rattle.std.proofs.Common.{◌≡◌, ℕ, zero, suc, ◌^◌, ◌<◌, nat_lt, true, List, [], ◌∷◌, Option, Some, None, pos, refl, sym, subst}
+use Rattle.std.proofs.Common.{◌≡◌, ℕ, ◌^◌, ◌<◌, nat_lt, true, List, [], ◌∷◌, Option, Some, None, pos, refl, sym, subst}
 use Rattle.std.proofs.lemmas.Bool.{and_parts}
 use Rattle.std.proofs.lemmas.Nat.{pow_pos, mod_below}
 use Rattle.c_values.specs.Types.{CType}
 use Rattle.c_values.specs.Value.{Value, Bits, Number, Truth, Parts, count, part}
 use Rattle.c_values.specs.Layout.{Layout, IsLayout, Shape, Incomplete, Scalar, Record, Row, Fields, no_fields, field, shape_of, space, is_complete, are_complete}
-use Rattle.c_values.specs.Path.{Step, Field, Index, Spot, spot, in_range, sel, zeros, member_zeros, copies, HasShape, AreMembers, AreElements}
+use Rattle.c_values.specs.Path.{Step, Field, Index, Spot, spot, in_range, sel, zeros, member_zeros, HasShape, AreMembers}
 use Rattle.c_values.proofs.Formed.{IsFormed}
 use Rattle.c_values.proofs.Leads.{Leads, ends, by_member, by_element}
 use Rattle.c_values.proofs.Parts.{part_of, formed_complete}
-use Rattle.c_values.proofs.Shaped.{members_count, member_shaped, elements_count, element_shaped, placed_field, placed_index, sel_step}
+use Rattle.c_values.proofs.Shaped.{members_count, member_shaped, elements_count, element_shaped, placed_field, placed_index, sel_step, copies_shaped}
 use Rattle.c_memory.specs.Memory.{load_spot, address_at}
 use Rattle.c_memory.specs.Tags.{AreTags, path_from}
 use Rattle.c_memory.specs.TypedHeap.{TypedHeap, tags_of, zeros_spot, cell_part, read_cells}
@@ -31,11 +31,6 @@ sel_shaped (Parts vs) h (by_element {e} {s' = s₁} {n} {i} {ps} lt p) =
 sel_shaped (Bits w) h (by_element lt p) = absurd h
 sel_shaped (Number z) h (by_element lt p) = absurd h
 sel_shaped (Truth b) h (by_element lt p) = absurd h
-
--- zeros have their shape
-copies_shaped : (P : Value → Type 0) (n : ℕ) (v : Value) → P v → AreElements P n (copies n v)
-copies_shaped P zero v h = tt
-copies_shaped P (suc n) v h = (h, copies_shaped P n v h)
 
 mutual
   zeros_shaped : (s : Shape) → is_complete s ≡ true → HasShape s (zeros s)

@@ -7,12 +7,14 @@ use Rattle.c_values.specs.Types.{Target, IntType, CType, Integer, Void, Ptr, Str
 use Rattle.c_values.specs.Layout.{Layout, Shape, Incomplete, Scalar, Record, Row, type_of, shape_of, is_object, is_scalar, scalar_width}
 use Rattle.c_values.specs.CodeSameType.{type_is, same_type-refl}
 use Rattle.c_values.proofs.Laid.{IsLaid, structs_of}
+use Rattle.c_values.proofs.Options.{none_some}
 use Rattle.expression_lang.specs.Expression as E
 use Rattle.expression_lang.specs.Form.{path_has, is_part_of_value}
 use Rattle.expression_lang.specs.Sort as S
-use Rattle.expression_lang.specs.Sort.{Level, Bytes, Words, Numbers, NatKind, IntKind, BoolKind, Of, WordSort, NumberSort, TruthSort, word_sort_of, same_scalar, is_word_of, scalar_sort, sort_at, shape_along}
+use Rattle.expression_lang.specs.Sort.{Level, Bytes, Words, Numbers, NatKind, IntKind, BoolKind, Of, WordSort, TruthSort, word_sort_of, is_word_of, scalar_sort, sort_at, shape_along}
 use Rattle.expression_lang.specs.Signature.{Binder, Signature, signature, kinds_of, kind_at, result_kind, binder}
 use Rattle.expression_lang.specs.Sorted.{program_sort, part_place, global_place, fits_place, sort_in, scalars_of, scalar_in, with_scalar, same_scalars, call_scalars, result_scalars}
+use Rattle.expression_lang.proofs.SameScalars.{same_scalars-refl, same_scalar-refl}
 use Rattle.simpl_lang.specs.Command.{Condition, Simpl, Skip, Throw, Set, SetGlobal, Store, Pick, Seq, Cond, Catch, While, Call}
 use Rattle.program_sorts.specs.Sorts.{is_scalar_of}
 use Rattle.simpl_lang.specs.Sorted.{is_sorted, is_local, fits_target}
@@ -22,7 +24,7 @@ use Rattle.c_lang.specs.WellTyped.{Scope, Around, variable_type, are_variables, 
 use Rattle.c_meaning.specs.Kinds.{variables}
 use Rattle.generation.specs.Guards.{int_literal, conversion, exp, exps, guards, argument_guards}
 use Rattle.generation.specs.Generate.{exception_local, call_local, switch_local, first_local, returned, broken, continued, jump, stops_at, body_of_loop, looped, guarded, assignment, target_guards, call, call_of, test_guards, test_truth, after_first, do_while, is_one_of, cases, in_order, is_empty, command, commands, before, cases_of, default_of, whole_body, use_binder, Added, both_added, added, added_in, added_of, signature_of}
-use Rattle.generation.proofs.ExactTests.{by_test, none_is_none, all_of_three}
+use Rattle.generation.proofs.ExactTests.{by_test, all_of_three}
 use Rattle.generation.proofs.ExactMachines.{is_declared, declared_scalar}
 use Rattle.generation.proofs.SortedRows as R
 use Rattle.generation.proofs.SortedRows.{Has, HasWord, HasTruth, HasPath, Truths, none, more, in_program, truth_in_program, conditions_sorted, truths_append}
@@ -39,15 +41,6 @@ kind_word t Numbers Void = refl
 kind_word t Numbers (Ptr u) = refl
 kind_word t Numbers (Struct x) = refl
 kind_word t Numbers (Array u n) = refl
-
-same_scalar-refl : (r : S.Scalar) → same_scalar r r ≡ true
-same_scalar-refl (WordSort n) = eq-eqb n n refl
-same_scalar-refl NumberSort = refl
-same_scalar-refl TruthSort = refl
-
-same_scalars-refl : (rs : List S.Scalar) → same_scalars rs rs ≡ true
-same_scalars-refl [] = refl
-same_scalars-refl (r ∷ rs) = and_from _ _ (same_scalar-refl r) (same_scalars-refl rs)
 
 -- a part that is whole fits its place
 part_fits : (t : Target) (structs : Name → Shape) (q : Shape) → IsLaid t structs q → fits_place (sort_at q) (sort_at q) ≡ true
@@ -308,7 +301,7 @@ module _ (g : Scope) (names : Name → Option S.Scalar) (sigs : List Signature) 
   test_sorted (C.Tested e) h = X.test g names is.scope e h
 
   result_scalar : (r : Option CType) (t : CType) → is_result r ≡ true → r ≡ Some t → is_scalar t ≡ true
-  result_scalar None t h e = absurd (none_is_none e)
+  result_scalar None t h e = absurd (none_some e)
   result_scalar (Some u) t h e = subst (λ o. is_result o ≡ true) e h
 
   mutual

@@ -15,16 +15,18 @@ use Rattle.c_values.specs.Path.{Spot, member_spot}
 use Rattle.c_values.specs.CodeSameType.{type_is}
 use Rattle.c_values.proofs.Laid.{IsLaid, AreLaid, structs_of, shape_good}
 use Rattle.c_values.proofs.Parts.{laid_shape}
+use Rattle.c_values.proofs.Options.{none_some, some_is}
 use Rattle.expression_lang.specs.Expression as E
 use Rattle.expression_lang.specs.Sort as S
 use Rattle.expression_lang.specs.Sort.{Level, Bytes, Words, Numbers, is_lifted, WordSort, is_unary, sort_at, word_sort, scalar_sort}
 use Rattle.expression_lang.proofs.Sorting.{object_whole}
 use Rattle.c_lang.specs.Typed as C
 use Rattle.c_lang.specs.WellTyped.{Scope, variable_type, are_variables, are_globals, is_integer, has_type, has_scalar_type, has_integer_type, is_in_memory, member_shape, shape_along, shape_in, leads_to, is_typed, is_typed_place, are_typed_indices}
+use Rattle.c_lang.proofs.Paths.{none_along}
 use Rattle.generation.specs.Guards.{is_signed_type, number, cast_to, conversion, word_op_of, combine_op, fits, divides, computes, shifts, shift, comparison, equation, is_not_zero, of_truth, moved_by, exp, truth, content, address, path_of, bounds, accesses, guards, place_guards, index_guards}
-use Rattle.generation.proofs.ExactTests.{by_test, same_some, none_is_none}
+use Rattle.generation.proofs.ExactTests.{by_test}
 use Rattle.generation.proofs.ExactMachines.{is_declared, declared_scalar}
-use Rattle.generation.proofs.ExactPath.{nowhere, end_of, into_row}
+use Rattle.generation.proofs.ExactPath.{end_of, into_row}
 use Rattle.generation.proofs.ExactPlaces.{global_object}
 use Rattle.generation.proofs.SortedRows as R
 use Rattle.generation.proofs.SortedRows.{Has, HasWord, HasNumber, HasTruth, HasPath, Truths, none, more, truths_append, resorted}
@@ -74,30 +76,30 @@ integer_scalar (Array t n) h = absurd (false≢true h)
 -- shapes along paths
 
 member_found : (fs : Fields) (k : ℕ) (s : Shape) → member_shape fs k ≡ Some s → (r : Spot) × (member_spot fs k ≡ Some r) × (r.shape ≡ s)
-member_found no_fields k s e = absurd (none_is_none e)
-member_found (field at r fs) zero s e = (record { offset = pos at; shape = r }, refl, same_some e)
+member_found no_fields k s e = absurd (none_some e)
+member_found (field at r fs) zero s e = (record { offset = pos at; shape = r }, refl, some_is e)
 member_found (field at r fs) (suc k) s e = member_found fs k s e
 
 module _ (t : Target) (structs : Name → Shape) where
   member_laid : (fs : Fields) (k : ℕ) (s : Shape) → AreLaid t structs fs → member_shape fs k ≡ Some s → IsLaid t structs s
-  member_laid no_fields k s h e = absurd (none_is_none e)
-  member_laid (field at r fs) zero s h e = subst (IsLaid t structs) (same_some e) h.first
+  member_laid no_fields k s h e = absurd (none_some e)
+  member_laid (field at r fs) zero s h e = subst (IsLaid t structs) (some_is e) h.first
   member_laid (field at r fs) (suc k) s h e = member_laid fs k s h.others e
 
   along_laid : (s : Shape) (path : C.Path) (q : Shape) → shape_along (Some s) path ≡ Some q → IsLaid t structs s → IsLaid t structs q
-  along_laid s C.Here q e h = subst (IsLaid t structs) (same_some e) h
+  along_laid s C.Here q e h = subst (IsLaid t structs) (some_is e) h
   along_laid (Record x n align fs) (C.Member k path) q e h = by_member (member_shape fs k) refl e (λ r. along_laid r path q)
     where
       by_member : (o : Option Shape) → member_shape fs k ≡ o → shape_along o path ≡ Some q → ((r : Shape) → shape_along (Some r) path ≡ Some q → IsLaid t structs r → IsLaid t structs q) → IsLaid t structs q
-      by_member None c d rest = absurd (none_is_none (sym (nowhere path) ∙ d))
+      by_member None c d rest = absurd (none_some (sym (none_along path) ∙ d))
       by_member (Some r) c d rest = rest r d (member_laid fs k r h.members c)
   along_laid (Row s m) (C.Element n i path) q e h = along_laid s path q (into_row n m s path q e).1 h
-  along_laid Incomplete (C.Member k path) q e h = absurd (none_is_none e)
-  along_laid Incomplete (C.Element n i path) q e h = absurd (none_is_none e)
-  along_laid (Scalar u w) (C.Member k path) q e h = absurd (none_is_none e)
-  along_laid (Scalar u w) (C.Element n i path) q e h = absurd (none_is_none e)
-  along_laid (Record x n align fs) (C.Element m i path) q e h = absurd (none_is_none e)
-  along_laid (Row s m) (C.Member k path) q e h = absurd (none_is_none e)
+  along_laid Incomplete (C.Member k path) q e h = absurd (none_some e)
+  along_laid Incomplete (C.Element n i path) q e h = absurd (none_some e)
+  along_laid (Scalar u w) (C.Member k path) q e h = absurd (none_some e)
+  along_laid (Scalar u w) (C.Element n i path) q e h = absurd (none_some e)
+  along_laid (Record x n align fs) (C.Element m i path) q e h = absurd (none_some e)
+  along_laid (Row s m) (C.Member k path) q e h = absurd (none_some e)
 
 larger : (to from : ℕ) → (to == from) ≡ false → nat_lt to from ≡ false → nat_lt from to ≡ true
 larger to from h k = grind (arith, nat_tests)
@@ -254,7 +256,7 @@ module _ (g : Scope) (names : Name → Option S.Scalar) (is : IsScope g names) w
 
   global_ended : (x : Name) (path : C.Path) (u : CType) (o : Option CType) → global_type g.globals x ≡ o → leads_to (shape_along (shape_in g.layout o) path) u ≡ true → AlongShapes path →
       (t : CType) × (global_type g.globals x ≡ Some t) × (is_object g.layout t ≡ true) × Leads t path u
-  global_ended x path u None e h along = absurd (false≢true (sym (ap (λ o. leads_to o u) (nowhere path)) ∙ h))
+  global_ended x path u None e h along = absurd (false≢true (sym (ap (λ o. leads_to o u) (none_along path)) ∙ h))
   global_ended x path u (Some t) e h along = let o = global_object l g.globals x t is.globals e in (t, e, o, ended t path u o h along)
 
   mutual
@@ -300,21 +302,21 @@ module _ (g : Scope) (names : Name → Option S.Scalar) (is : IsScope g names) w
         let w = global_ended x path u (global_type g.globals x) refl (second_so _ _ h) (path_sorted path (first_so _ _ h)) in (R.global s x w.0 w.1 w.2 _ (shape_of l u) w.3.0, λ m. absurd (false≢true m))
 
     path_sorted : (path : C.Path) → are_typed_indices g path ≡ true → (r q : Shape) → shape_along (Some r) path ≡ Some q → HasPath s (path_of g.layout path) r q
-    path_sorted C.Here h r q e = subst (HasPath s E.Here r) (same_some e) (R.here s r)
+    path_sorted C.Here h r q e = subst (HasPath s E.Here r) (some_is e) (R.here s r)
     path_sorted (C.Member k path) h (Record x n align fs) q e = by_member (member_shape fs k) refl e (path_sorted path h)
       where
         by_member : (o : Option Shape) → member_shape fs k ≡ o → shape_along o path ≡ Some q → ((r q : Shape) → shape_along (Some r) path ≡ Some q → HasPath s (path_of g.layout path) r q) →
             HasPath s (E.IntoField k (path_of g.layout path)) (Record x n align fs) q
-        by_member None c d rest = absurd (none_is_none (sym (nowhere path) ∙ d))
+        by_member None c d rest = absurd (none_some (sym (none_along path) ∙ d))
         by_member (Some r) c d rest =
             let m = member_found fs k r c in R.into_field s x n align fs k m.0 _ q m.1 (subst (λ z. HasPath s (path_of l path) z q) (sym m.2) (rest r q d))
     path_sorted (C.Element n i path) h (Row r m) q e = R.into_element s r m _ _ q (number_read i (first_so _ _ (first_so _ _ h)) (expression_sorted i (second_so _ _ (first_so _ _ h)))) (path_sorted path (second_so _ _ h) r q (into_row n m r path q e).1)
-    path_sorted (C.Member k path) h Incomplete q e = absurd (none_is_none e)
-    path_sorted (C.Member k path) h (Scalar u w) q e = absurd (none_is_none e)
-    path_sorted (C.Member k path) h (Row r m) q e = absurd (none_is_none e)
-    path_sorted (C.Element n i path) h Incomplete q e = absurd (none_is_none e)
-    path_sorted (C.Element n i path) h (Scalar u w) q e = absurd (none_is_none e)
-    path_sorted (C.Element n i path) h (Record x m align fs) q e = absurd (none_is_none e)
+    path_sorted (C.Member k path) h Incomplete q e = absurd (none_some e)
+    path_sorted (C.Member k path) h (Scalar u w) q e = absurd (none_some e)
+    path_sorted (C.Member k path) h (Row r m) q e = absurd (none_some e)
+    path_sorted (C.Element n i path) h Incomplete q e = absurd (none_some e)
+    path_sorted (C.Element n i path) h (Scalar u w) q e = absurd (none_some e)
+    path_sorted (C.Element n i path) h (Record x m align fs) q e = absurd (none_some e)
 
   -- the path of a typed place, from a root that is an object
   pub path_in_memory : (t : CType) (p : C.Expr) (path : C.Path) (u : CType) → is_typed_place g (C.Through t p path u) ≡ true → Leads t path u

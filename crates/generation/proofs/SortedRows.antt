@@ -1,8 +1,6 @@
 -- Sorts of the rows of expressions that generation makes, none of them with a part of a value in it.
 use Rattle.std.proofs.Common.{◌≡◌, ℕ, ◌==◌, Bool, true, false, not, ◌&&◌, List, [], ◌∷◌, ◌++◌, Option, Some, None, ℤ, refl, sym, ap, ap₂, ◌∙◌, cond, eq-eqb}
-use Rattle.std.proofs.lemmas.Bool.{false≢true, and_parts, and_from, or_from, cond-false}
-use Rattle.std.proofs.lemmas.Nat.{pow_pos}
-use Rattle.std.specs.Cmp.{first_so}
+use Rattle.std.proofs.lemmas.Bool.{and_from, or_from, cond-false}
 use Rattle.c_values.specs.Name.{Name}
 use Rattle.c_values.specs.Types.{CType, address_width}
 use Rattle.c_values.specs.Number.{NumberOp}
@@ -14,14 +12,11 @@ use Rattle.expression_lang.specs.Expression as E
 use Rattle.expression_lang.specs.Form.{has, path_has, is_part_of_value}
 use Rattle.expression_lang.specs.Sort.{Sort, Scope, is_width, word_width, is_word_of, is_number, is_truth, number_sort, truth_sort, where_holds, of_words, of_word, word_sort, are_same, of_shape, shape_in, of_type, cast_fits, is_unary, sort_at, sort_of, shape_along}
 use Rattle.expression_lang.specs.Sorted.{program_sort}
-use Rattle.expression_lang.proofs.Sorting.{literal_is, literal_sorted}
+use Rattle.expression_lang.proofs.Sorting.{literal_sorted, width_is, where_true}
 use Rattle.expression_lang.proofs.Filled.{word_fits}
 use Rattle.simpl_lang.specs.Command.{Condition}
 use Rattle.simpl_lang.specs.Sorted.{are_conditions}
 use Rattle.generation.specs.Guards.{under}
-
-pub width_is : (n : ℕ) → IsWidth n → is_width n ≡ true
-width_is n w = first_so _ _ (literal_is n 0 w (pow_pos n))
 
 -- an expression of a program, and its sort
 pub record Has (g : Scope) (s : Option Sort) (e : E.Exp) : Type 0 where
@@ -61,10 +56,6 @@ pub truths_append : {g : Scope} {cs ds : List Condition} → Truths g cs → Tru
 truths_append none k = k
 truths_append (more h r) k = more h (truths_append r k)
 
-held : (b : Bool) (s : Option Sort) → b ≡ true → where_holds b s ≡ s
-held true s h = refl
-held false s h = absurd (false≢true h)
-
 pub resorted : {g : Scope} {s t : Option Sort} {e : E.Exp} → s ≡ t → Has g s e → Has g t e
 resorted p h = record { plain = h.plain; sort = h.sort ∙ p }
 
@@ -77,13 +68,13 @@ module _ (g : Scope) where
 
   module _ (n : ℕ) (a : E.Exp) (h : HasWord g n a) where
     pub binary : (op : WordOp) (b : E.Exp) → HasWord g n b → HasWord g n (E.WordBinary op a b)
-    binary op b k = record { plain = or_from _ _ h.plain k.plain; sort = ap₂ (λ s t. of_words (word_width s) (word_width t) word_sort) h.sort k.sort ∙ held (n == n) (word_sort n) (eq-eqb n n refl) }
+    binary op b k = record { plain = or_from _ _ h.plain k.plain; sort = ap₂ (λ s t. of_words (word_width s) (word_width t) word_sort) h.sort k.sort ∙ where_true (n == n) (word_sort n) (eq-eqb n n refl) }
 
     pub compared : (op : WordTest) (b : E.Exp) → HasWord g n b → HasTruth g (E.WordCompare op a b)
-    compared op b k = record { plain = or_from _ _ h.plain k.plain; sort = ap₂ (λ s t. of_words (word_width s) (word_width t) (λ m. truth_sort)) h.sort k.sort ∙ held (n == n) truth_sort (eq-eqb n n refl) }
+    compared op b k = record { plain = or_from _ _ h.plain k.plain; sort = ap₂ (λ s t. of_words (word_width s) (word_width t) (λ m. truth_sort)) h.sort k.sort ∙ where_true (n == n) truth_sort (eq-eqb n n refl) }
 
     pub equal : (b : E.Exp) → HasWord g n b → HasTruth g (E.Eq a b)
-    equal b k = record { plain = or_from _ _ h.plain k.plain; sort = ap₂ (λ s t. where_holds (are_same s t) truth_sort) h.sort k.sort ∙ held (n == n) truth_sort (eq-eqb n n refl) }
+    equal b k = record { plain = or_from _ _ h.plain k.plain; sort = ap₂ (λ s t. where_holds (are_same s t) truth_sort) h.sort k.sort ∙ where_true (n == n) truth_sort (eq-eqb n n refl) }
 
     pub shifted : (op : ShiftOp) (b : E.Exp) → HasNumber g b → HasWord g n (E.WordShift op a b)
     shifted op b k = record { plain = or_from _ _ h.plain k.plain; sort = ap₂ (λ s t. where_holds (is_number t) (of_word (word_width s) word_sort)) h.sort k.sort }
@@ -95,7 +86,7 @@ module _ (g : Scope) where
     cast op width w f = record {
       plain = h.plain;
       sort = ap (λ s. of_word (word_width s) (λ from. where_holds (is_width width && cast_fits op from width) (word_sort width))) h.sort
-          ∙ held (is_width width && cast_fits op n width) (word_sort width) (and_from _ _ (width_is width w) f);
+          ∙ where_true (is_width width && cast_fits op n width) (word_sort width) (and_from _ _ (width_is width w) f);
     }
 
     pub to_nat : HasNumber g (E.ToNat a)
@@ -108,7 +99,7 @@ module _ (g : Scope) where
     choice c b j k = record {
       plain = or_from _ _ (or_from _ _ j.plain h.plain) k.plain;
       sort = ap₂ (λ r s. where_holds (is_truth r && are_same s (sort_of g b)) s) j.sort h.sort ∙ ap (λ t. where_holds (are_same (word_sort n) t) (word_sort n)) k.sort
-          ∙ held (n == n) (word_sort n) (eq-eqb n n refl);
+          ∙ where_true (n == n) (word_sort n) (eq-eqb n n refl);
     }
 
   module _ (a : E.Exp) (h : HasNumber g a) where
@@ -156,33 +147,33 @@ module _ (g : Scope) where
     moved n k = record {
       plain = or_from _ _ h.plain k.plain;
       sort = ap₂ (λ s u. where_holds (is_object g.layout t && is_word_of address s && is_number u) (word_sort address)) h.sort k.sort
-          ∙ held _ (word_sort address) (and_from _ true root refl);
+          ∙ where_true _ (word_sort address) (and_from _ true root refl);
     }
 
     pub tagged : HasTruth g (E.Tagged t p)
-    tagged = record { plain = h.plain; sort = ap (λ s. where_holds (is_object g.layout t && is_word_of address s) truth_sort) h.sort ∙ held _ truth_sort root }
+    tagged = record { plain = h.plain; sort = ap (λ s. where_holds (is_object g.layout t && is_word_of address s) truth_sort) h.sort ∙ where_true _ truth_sort root }
 
     pub pointer_ok : HasTruth g (E.PtrOk t p)
-    pointer_ok = record { plain = h.plain; sort = ap (λ s. where_holds (is_object g.layout t && is_word_of address s) truth_sort) h.sort ∙ held _ truth_sort root }
+    pointer_ok = record { plain = h.plain; sort = ap (λ s. where_holds (is_object g.layout t && is_word_of address s) truth_sort) h.sort ∙ where_true _ truth_sort root }
 
     module _ (path : E.Path) (q : Shape) (k : HasPath g path (shape_of g.layout t) q) where
       pub at : HasWord g (address_width g.layout.target) (E.At t p path)
       at = record {
         plain = or_from _ _ h.plain k.plain;
-        sort = ap₂ (λ s r. where_holds (is_object g.layout t && is_word_of address s) (of_shape r (λ z. word_sort address))) h.sort k.along ∙ held _ (word_sort address) root;
+        sort = ap₂ (λ s r. where_holds (is_object g.layout t && is_word_of address s) (of_shape r (λ z. word_sort address))) h.sort k.along ∙ where_true _ (word_sort address) root;
       }
 
       pub loaded : Has g (sort_at q) (E.Load t p path)
       loaded = record {
         plain = or_from _ _ h.plain k.plain;
-        sort = ap₂ (λ s r. where_holds (is_object g.layout t && is_word_of address s) (of_shape r sort_at)) h.sort k.along ∙ held _ (sort_at q) root;
+        sort = ap₂ (λ s r. where_holds (is_object g.layout t && is_word_of address s) (of_shape r sort_at)) h.sort k.along ∙ where_true _ (sort_at q) root;
       }
 
   pub global : (x : Name) (t : CType) → g.globals x ≡ Some t → is_object g.layout t ≡ true → (path : E.Path) (q : Shape) → HasPath g path (shape_of g.layout t) q → Has g (sort_at q) (E.Global x path)
   global x t e o path q k = record {
     plain = k.plain;
     sort = ap (λ r. of_type r (λ u. where_holds (is_object g.layout u) (of_shape (shape_along g path (shape_of g.layout u)) sort_at))) e
-        ∙ ap (λ r. where_holds (is_object g.layout t) (of_shape r sort_at)) k.along ∙ held _ (sort_at q) o;
+        ∙ ap (λ r. where_holds (is_object g.layout t) (of_shape r sort_at)) k.along ∙ where_true _ (sort_at q) o;
   }
 
   pub here : (s : Shape) → HasPath g E.Here s s

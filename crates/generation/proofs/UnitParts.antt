@@ -5,6 +5,7 @@ use Rattle.std.proofs.lemmas.Bool.{and_parts}
 use Rattle.c_values.specs.Name.{Name, same_name}
 use Rattle.c_values.specs.Layout.{Layout, is_scalar}
 use Rattle.c_values.specs.Types.{Target}
+use Rattle.c_values.proofs.Options.{none_some, some_is}
 use Rattle.expression_lang.specs.Sort.{Level, WordKind, BoolKind}
 use Rattle.expression_lang.specs.Signature.{Binder, signature, binder}
 use Rattle.simpl_lang.specs.Command.{simpl_fn}
@@ -13,7 +14,7 @@ use Rattle.c_lang.specs.Typed as C
 use Rattle.c_lang.specs.WellTyped.{is_function, are_functions, is_own_name, are_variables}
 use Rattle.c_meaning.specs.Kinds.{variables}
 use Rattle.generation.specs.Generate.{function_of, signature_of, result_binder, exception_local, added_in, locals}
-use Rattle.generation.proofs.ExactTests.{all_of_three, same_some, none_is_none, by_test, by_cases, where_true, where_false}
+use Rattle.generation.proofs.ExactTests.{all_of_three, by_test, by_cases, where_true, where_false}
 
 pub variables_apart : (xs ys : List C.Variable) → are_variables (xs ++ ys) ≡ true → (are_variables xs ≡ true) × (are_variables ys ≡ true)
 variables_apart [] ys h = (refl, h)
@@ -25,25 +26,25 @@ variables_apart (x ∷ xs) ys h =
 -- what is generated for the function of a name
 module _ (l : Layout) (levels : Name → Level) (x : Name) (f : C.TypedFn) where
   pub body_found : (fs : List C.TypedFn) → C.typed_fn fs x ≡ Some f → simpl_fn (map (λ h. function_of l (levels h.name) h) fs) x ≡ Some (function_of l (levels f.name) f)
-  body_found [] e = absurd (none_is_none e)
+  body_found [] e = absurd (none_some e)
   body_found (h ∷ fs) e =
       by_test (λ o. o ≡ Some (function_of l (levels f.name) f)) (same_name h.name x) (Some (function_of l (levels h.name) h)) (simpl_fn (map (λ k. function_of l (levels k.name) k) fs) x)
-      (λ b. ap (λ k. Some (function_of l (levels k.name) k)) (same_some (sym (where_true (same_name h.name x) (Some h) (C.typed_fn fs x) b) ∙ e)))
+      (λ b. ap (λ k. Some (function_of l (levels k.name) k)) (some_is (sym (where_true (same_name h.name x) (Some h) (C.typed_fn fs x) b) ∙ e)))
       (λ b. body_found fs (sym (where_false (same_name h.name x) (Some h) (C.typed_fn fs x) b) ∙ e))
 
   pub signature_found : (fs : List C.TypedFn) → C.typed_fn fs x ≡ Some f → signature (map (λ h. signature_of l (levels h.name) h) fs) x ≡ Some (signature_of l (levels f.name) f)
-  signature_found [] e = absurd (none_is_none e)
+  signature_found [] e = absurd (none_some e)
   signature_found (h ∷ fs) e =
       by_test (λ o. o ≡ Some (signature_of l (levels f.name) f)) (same_name h.name x) (Some (signature_of l (levels h.name) h)) (signature (map (λ k. signature_of l (levels k.name) k) fs) x)
-      (λ b. ap (λ k. Some (signature_of l (levels k.name) k)) (same_some (sym (where_true (same_name h.name x) (Some h) (C.typed_fn fs x) b) ∙ e)))
+      (λ b. ap (λ k. Some (signature_of l (levels k.name) k)) (some_is (sym (where_true (same_name h.name x) (Some h) (C.typed_fn fs x) b) ∙ e)))
       (λ b. signature_found fs (sym (where_false (same_name h.name x) (Some h) (C.typed_fn fs x) b) ∙ e))
 
   pub function_typed : (u : C.TypedUnit) (fs : List C.TypedFn) → are_functions u fs ≡ true → C.typed_fn fs x ≡ Some f → is_function u f ≡ true
-  function_typed u [] h e = absurd (none_is_none e)
+  function_typed u [] h e = absurd (none_some e)
   function_typed u (k ∷ fs) h e =
       let p = and_parts (is_function u k) (are_functions u fs) h in
       by_cases (is_function u f ≡ true) (same_name k.name x)
-      (λ b. subst (λ z. is_function u z ≡ true) (same_some (sym (where_true (same_name k.name x) (Some k) (C.typed_fn fs x) b) ∙ e)) p.0)
+      (λ b. subst (λ z. is_function u z ≡ true) (some_is (sym (where_true (same_name k.name x) (Some k) (C.typed_fn fs x) b) ∙ e)) p.0)
       (λ b. function_typed u fs p.1 (sym (where_false (same_name k.name x) (Some k) (C.typed_fn fs x) b) ∙ e))
 
 -- the locals behind those of the text

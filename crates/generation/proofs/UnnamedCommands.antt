@@ -1,6 +1,6 @@
 -- A name that is neither declared nor one of those that commands of statements use stands in no command that is generated.
-use Rattle.std.proofs.Common.{◌≡◌, ℕ, Bool, true, false, ◌&&◌, List, [], ◌∷◌, Option, Some, None, ℤ, refl}
-use Rattle.std.proofs.lemmas.Bool.{false≢true, and_parts, or_from}
+use Rattle.std.proofs.Common.{◌≡◌, ℕ, Bool, true, false, List, [], ◌∷◌, Option, Some, None, ℤ, refl}
+use Rattle.std.proofs.lemmas.Bool.{false≢true, or_from}
 use Rattle.std.specs.Cmp.{first_so, second_so}
 use Rattle.c_values.specs.Name.{Name, same_name}
 use Rattle.c_values.specs.Types.{Target, IntType, CType}

@@ -5,23 +5,25 @@ use Rattle.c_values.specs.Name.{Name, same_name, with_name, is_among, are_distin
 use Rattle.c_values.specs.Types.{Target, CType, Integer, Void, Ptr, Struct, Array, is_signed, width_of}
 use Rattle.c_values.specs.Layout.{is_scalar, scalar_width, global_type}
 use Rattle.c_values.proofs.Laid.{name_is, other_name, same_name-refl}
+use Rattle.c_values.proofs.Options.{none_some, some_is}
 use Rattle.expression_lang.specs.Sort.{Level, Bytes, Words, Numbers, Scalar, Kind, WordKind, NatKind, IntKind, BoolKind, WordSort, word_sort_of, is_kind, are_kinds}
 use Rattle.expression_lang.specs.Signature.{Binder, Signature, names_of, kinds_of, kind_at, binder, result_kind}
 use Rattle.expression_lang.specs.Sorted.{names_with}
+use Rattle.expression_lang.proofs.Sorting.{width_is}
 use Rattle.simpl_lang.specs.Command.{kind_of}
 use Rattle.simpl_lang.specs.Exec.{result_local}
 use Rattle.simpl_lang.specs.Flag.{thrown_local}
-use Rattle.simpl_lang.specs.Sorted.{are_fns_sorted, same_kind, same_level, come_first, is_kind_of, holds_result, are_signed, IsWellFormed}
+use Rattle.simpl_lang.specs.Sorted.{are_fns_sorted, same_kind, come_first, is_kind_of, holds_result, are_signed, IsWellFormed}
+use Rattle.simpl_lang.proofs.SameKinds.{same_level-refl}
 use Rattle.c_lang.specs.Typed as C
 use Rattle.c_lang.specs.WellTyped.{IsWellTyped, scope_in, variable_type, are_variables, is_own_name, is_result, is_function, are_functions, are_numbered, are_statements, nowhere}
 use Rattle.c_lang.specs.Numbers.{are_numbers, numbers_in}
 use Rattle.c_meaning.specs.Kinds.{variables}
 use Rattle.generation.specs.Generate.{exception_local, call_local, switch_local, first_local, result_binder, use_binder, Added, none_added, both_added, added, added_in, added_of, locals, function_of, signature_of, generated}
-use Rattle.generation.proofs.ExactTests.{all_of_three, all_of_four, same_some, none_is_none, by_test, by_cases, where_true, where_false}
+use Rattle.generation.proofs.ExactTests.{all_of_three, all_of_four, by_test, by_cases, where_true, where_false}
 use Rattle.generation.proofs.ExactMachines.{apart}
 use Rattle.generation.proofs.UnitParts.{variables_apart, signature_found, function_typed, locals_are}
 use Rattle.generation.proofs.LocalNames.{variables_append, locals_distinct}
-use Rattle.generation.proofs.SortedRows.{width_is}
 use Rattle.generation.proofs.SortedExpressions.{scalar_wide}
 use Rattle.generation.proofs.SortedCommands.{kind_word, AreIn, in_parts, HasAdded, IsBody, IsSorted, commands_sorted, whole_sorted}
 
@@ -30,7 +32,7 @@ use Rattle.generation.proofs.SortedCommands.{kind_word, AreIn, in_parts, HasAdde
 abbrev scalars_among : List Binder → (Name → Option Scalar) → Name → Option Scalar
 scalars_among bs names = names_with (names_of bs) (map word_sort_of (kinds_of bs)) names
 
-other_scalar : (bs : List Binder) (names : Name → Option Scalar) (x : Name) → is_among x (names_of bs) ≡ false → scalars_among bs names x ≡ names x
+pub other_scalar : (bs : List Binder) (names : Name → Option Scalar) (x : Name) → is_among x (names_of bs) ≡ false → scalars_among bs names x ≡ names x
 other_scalar [] names x h = refl
 other_scalar (b ∷ bs) names x h =
     let p = or_parts (same_name x b.name) (is_among x (names_of bs)) h in
@@ -44,10 +46,10 @@ all_in (b ∷ bs) names h =
     (other_scalar bs more b.name (not-true (is_among b.name (names_of bs)) p.0) ∙ where_true (same_name b.name b.name) (Some (word_sort_of b.kind)) (names b.name) (same_name-refl b.name), all_in bs more p.1)
 
 variables_known : (t : Target) (level : Level) (names : Name → Option Scalar) (vs : List C.Variable) → AreIn names (variables t level vs) → (x : Name) (u : CType) → variable_type vs x ≡ Some u → names x ≡ Some (WordSort (scalar_width t u))
-variables_known t level names [] h x u e = absurd (none_is_none e)
+variables_known t level names [] h x u e = absurd (none_some e)
 variables_known t level names (v ∷ vs) h x u e =
     by_cases (names x ≡ Some (WordSort (scalar_width t u))) (same_name v.name x)
-    (λ b. ap names (sym (name_is v.name x b)) ∙ h.0 ∙ ap Some (kind_word t level v.type) ∙ ap (λ w. Some (WordSort (scalar_width t w))) (same_some (sym (where_true (same_name v.name x) (Some v.type) (variable_type vs x) b) ∙ e)))
+    (λ b. ap names (sym (name_is v.name x b)) ∙ h.0 ∙ ap Some (kind_word t level v.type) ∙ ap (λ w. Some (WordSort (scalar_width t w))) (some_is (sym (where_true (same_name v.name x) (Some v.type) (variable_type vs x) b) ∙ e)))
     (λ b. variables_known t level names vs h.1 x u (sym (where_false (same_name v.name x) (Some v.type) (variable_type vs x) b) ∙ e))
 
 -- the kinds of locals
@@ -63,7 +65,7 @@ kinds_append {bs = b ∷ bs} h k =
 no_kinds : HaveKinds []
 no_kinds = record { kinds = refl }
 
-type_kind : (t : Target) (level : Level) (u : CType) → is_kind (kind_at t level u) ≡ true
+pub type_kind : (t : Target) (level : Level) (u : CType) → is_kind (kind_at t level u) ≡ true
 type_kind t Bytes u = width_is (scalar_width t u) (scalar_wide t u)
 type_kind t Words u = width_is (scalar_width t u) (scalar_wide t u)
 type_kind t Numbers (Integer i) =
@@ -146,11 +148,6 @@ same_kind-refl (NatKind n) = eq-eqb n n refl
 same_kind-refl (IntKind n) = eq-eqb n n refl
 same_kind-refl BoolKind = refl
 
-same_level-refl : (level : Level) → same_level level level ≡ true
-same_level-refl Bytes = refl
-same_level-refl Words = refl
-same_level-refl Numbers = refl
-
 first_come : (bs cs : List Binder) → come_first bs (bs ++ cs) ≡ true
 first_come [] cs = refl
 first_come (b ∷ bs) cs = and_from _ _ (and_from _ _ (same_name-refl b.name) (same_kind-refl b.kind)) (first_come bs cs)
@@ -222,8 +219,8 @@ module _ (u : C.TypedUnit) (w : IsWellTyped u) (levels : Name → Level) where
         (p3.0, record { calls = p3.1; switches = p4.1; firsts = p5.1 })
 
     result_in : (r : Option CType) → AreIn names (result_binder u.layout.target (levels f.name) r) → (v : CType) → r ≡ Some v → names result_local ≡ Some (WordSort (scalar_width u.layout.target v))
-    result_in None h v e = absurd (none_is_none e)
-    result_in (Some x) h v e = h.0 ∙ ap Some (kind_word t level x) ∙ ap (λ y. Some (WordSort (scalar_width t y))) (same_some e)
+    result_in None h v e = absurd (none_some e)
+    result_in (Some x) h v e = h.0 ∙ ap Some (kind_word t level x) ∙ ap (λ y. Some (WordSort (scalar_width t y))) (some_is e)
 
     body : IsBody (scope_in u f) names sigs levels
     body =

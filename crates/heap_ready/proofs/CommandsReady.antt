@@ -8,7 +8,7 @@ use Rattle.generation.specs.Generate.{guarded}
 use Rattle.heap_ready.specs.CommandReady.{AllGiven, AreInOrder, IsCommandReady}
 use Rattle.heap_ready.proofs.ExpressionsReady.{split, all_split}
 
-one_by_one : {A : Type 0} (xs : List A) (y : A) (ys : List A) → (xs ++ (y ∷ [])) ++ ys ≡ xs ++ (y ∷ ys)
+pub one_by_one : {A : Type 0} (xs : List A) (y : A) (ys : List A) → (xs ++ (y ∷ [])) ++ ys ≡ xs ++ (y ∷ ys)
 one_by_one [] y ys = refl
 one_by_one (x ∷ xs) y ys = ap (λ zs. x ∷ zs) (one_by_one xs y ys)
 

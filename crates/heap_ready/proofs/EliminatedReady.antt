@@ -13,7 +13,7 @@ use Rattle.heap_ready.specs.CommandReady.{AllGiven, Under, AreInOrder, IsCommand
 use Rattle.heap_ready.proofs.ExpressionsReady.{under_whole, under_whole_order}
 use Rattle.heap_ready.proofs.CommandsReady.{command_from_more}
 
-unless_is_under : (cs : List Condition) → unless_thrown cs ≡ under (Not is_thrown) cs
+pub unless_is_under : (cs : List Condition) → unless_thrown cs ≡ under (Not is_thrown) cs
 unless_is_under [] = refl
 unless_is_under (c ∷ cs) = ap (λ ds. asked_unless_thrown c ∷ ds) (unless_is_under cs)
 

@@ -21,8 +21,9 @@ use Rattle.expression_lang.specs.GuardKind as K
 use Rattle.c_values.specs.Word.{Wsshr, Wushr}
 use Rattle.c_lang.specs.WellTyped.{has_type, has_scalar_type, has_integer_type, is_in_memory}
 use Rattle.c_values.specs.Layout.{is_scalar, scalar_width}
+use Rattle.c_lang.proofs.Paths.{no_way}
 
-unless_map : (b : Bool) (P Q : Type 0) → (P → Q) → Unless b P → Unless b Q
+pub unless_map : (b : Bool) (P Q : Type 0) → (P → Q) → Unless b P → Unless b Q
 unless_map true P Q k h = tt
 unless_map false P Q k h = k h
 
@@ -56,11 +57,6 @@ under_not fs c gs h = all_under (NotTrue (exp_lifted c) ∷ fs) (E.Not c) gs (fi
 no_lead : (u : CType) → leads_to None u ≡ true → ⊥
 no_lead u h = absurd (false≢true h)
 
-no_lead_along : (path : C.Path) (u : CType) → leads_to (shape_along None path) u ≡ true → ⊥
-no_lead_along C.Here u h = no_lead u h
-no_lead_along (C.Member k path) u h = no_lead u h
-no_lead_along (C.Element n e path) u h = no_lead u h
-
 -- a member's shape, and where it is
 record MemberThere (fs : Fields) (k : ℕ) (s : Shape) : Type 0 where
   spot : Spot
@@ -83,7 +79,7 @@ module _ (l : Layout) where
   in_range fs (C.Member j path) (Record x n align ms) u c h k = by_member (λ r c h. in_range fs path r u c h k) (member_shape ms j) refl h
     where
       by_member : ((r : Shape) → is_complete r ≡ true → leads_to (shape_along (Some r) path) u ≡ true → AreInRange fs (path_lifted (path_of l path)) r) → (o : Option Shape) → member_shape ms j ≡ o → leads_to (shape_along o path) u ≡ true → InMember (member_spot ms j) (λ s. AreInRange fs (path_lifted (path_of l path)) s)
-      by_member rest None e h = absurd (no_lead_along path u h)
+      by_member rest None e h = absurd (no_way path u h)
       by_member rest (Some r) e h =
           let m = member_there ms j r c e in
           subst (λ o. InMember o (λ s. AreInRange fs (path_lifted (path_of l path)) s)) (sym m.there)

@@ -19,7 +19,7 @@ use Rattle.heap_ready.proofs.ExpressionsReady.{split, under_not, under_whole_ord
 use Rattle.heap_ready.proofs.GuardsReady.{two, truth_there, value_there, guards_ready}
 use Rattle.heap_ready.proofs.CommandsReady.{guarded_ready}
 
-after_is_under : (k : ℕ) (gs : List Condition) → after_first k gs ≡ under (E.Not (E.Var (first_local k))) gs
+pub after_is_under : (k : ℕ) (gs : List Condition) → after_first k gs ≡ under (E.Not (E.Var (first_local k))) gs
 after_is_under k [] = refl
 after_is_under k (g ∷ gs) = ap (λ hs. when g.kind (E.Imp (E.Not (E.Var (first_local k))) g.exp) ∷ hs) (after_is_under k gs)
 

@@ -41,7 +41,7 @@ lifted_is_no_pair bs (While cs e a) us vs n = refl
 lifted_is_no_pair bs (Call (Some x) f es) us vs n = refl
 lifted_is_no_pair bs (Call None f es) us vs n = refl
 
-pair_is_of_pointer : (e : E.Exp) (m : M.Mon) → is_pair (M.Guard e) [] m ≡ true → is_ptrok e ≡ true
+pub pair_is_of_pointer : (e : E.Exp) (m : M.Mon) → is_pair (M.Guard e) [] m ≡ true → is_ptrok e ≡ true
 pair_is_of_pointer (E.PtrOk t p) m h = refl
 pair_is_of_pointer e m h = absurd cc
 

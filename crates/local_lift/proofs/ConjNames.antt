@@ -1,5 +1,5 @@
 -- Names of conditions as one.
-use Rattle.std.proofs.Common.{◌≡◌, Bool, true, false, ◌||◌, List, [], ◌∷◌, refl, ap}
+use Rattle.std.proofs.Common.{◌≡◌, ◌||◌, List, [], ◌∷◌, refl, ap}
 use Rattle.std.proofs.Math.Bool.{or-false}
 use Rattle.c_values.specs.Name.{Name}
 use Rattle.expression_lang.specs.Mentions.{names}

@@ -1,5 +1,5 @@
 -- Plans put together from plans, and what is lifted from what is lifted.
-use Rattle.std.proofs.Common.{rules, arith, ℕ, ◌≤◌, ◌≡◌, Bool, true, false, ◌||◌, List, refl, sym, subst, ap, ap₂, ◌∙◌}
+use Rattle.std.proofs.Common.{rules, arith, ℕ, ◌≤◌, ◌≡◌, Bool, ◌||◌, List, sym, subst, ap, ap₂, ◌∙◌}
 use Rattle.c_values.specs.Name.{Name}
 use Rattle.expression_lang.specs.declared.signatures.Binder as B
 use Rattle.simpl_lang.specs.Command.{Simpl, Seq}
@@ -11,6 +11,7 @@ use Rattle.local_lift.specs.CodePlan.{IsAssigned, AssignedBeside}
 use Rattle.local_lift.specs.CodeRows.{marks, either_row, past_row}
 use Rattle.simpl_lang.specs.declared.command.Simpl as S
 use Rattle.simpl_lang.specs.declared.command.Simpl.{size-Simpl}
+use Rattle.rule_local.proofs.UsesLaws.{either}
 use Rattle.local_lift.specs.declared.plan.Fronts as F
 use Rattle.local_lift.specs.declared.plan.Fronts.{size-Fronts}
 use Rattle.local_lift.proofs.FirstLive.{past, first_live}
@@ -37,10 +38,6 @@ pub less_last : (n : ℕ) (s b : S.Simpl) (p : _) (a : S.Simpl) (q : _) → s �
 less_last n s b p a q e h =
     let k = subst (λ x. size-Simpl b ≤ size-Simpl x) (sym e) (seq_smaller p a q b) in omega (arith, k, h)
 
-or_later : (a b c : Bool) → ((a || b) || c) ≡ (a || (b || c))
-or_later true b c = refl
-or_later false b c = refl
-
 -- what two parts assign
 pub assigned_either : (bs : List B.Binder) (a b whole : Simpl) (row other all : List Bool) → ((y : Name) → assigns y whole ≡ (assigns y a || assigns y b)) → all ≡ either_row row other → IsAssigned bs a row → IsAssigned bs b other →
     IsAssigned bs whole all
@@ -56,7 +53,7 @@ pub beside_first : (bs : List B.Binder) (a b whole : Simpl) (row other all : Lis
 beside_first bs a b whole row other all e h k = record {
   beside = λ y. h.beside y || assigns y a;
   marked = e ∙ ap₂ either_row h.marked k ∙ either_marks h.beside (λ y. assigns y a) bs;
-  all = λ y. or_later (h.beside y) (assigns y a) (assigns y b) ∙ h.all y;
+  all = λ y. either (h.beside y) (assigns y a) (assigns y b) ∙ h.all y;
 }
 
 -- the row before the first part of a sequence, where this is the row after it

@@ -1,9 +1,10 @@
 -- Rows of names that pass tests.
-use Rattle.std.proofs.Common.{◌≡◌, ℕ, zero, suc, Bool, true, false, not, cond, ◌&&◌, ◌||◌, List, [], ◌∷◌, ◌++◌, length, refl, sym, subst, ap, ap₂, ◌∙◌, string_bytes, Result, Ok, Err, IfOk, ◌<◌, ◌≤◌, ◌+◌, add-one, drop, get_or, arith, append_assoc}
+use Rattle.std.proofs.Common.{◌≡◌, ℕ, zero, suc, Bool, true, false, not, cond, ◌&&◌, ◌||◌, List, [], ◌∷◌, ◌++◌, length, refl, sym, subst, ap, ap₂, ◌∙◌, string_bytes, ◌<◌, ◌≤◌, ◌+◌, add-one, drop, get_or, arith, append_assoc}
 use Rattle.c_values.specs.Name.{Name, same_name, is_among}
 use Rattle.std.proofs.lemmas.Bool.{or_left, or_right}
 use Rattle.c_values.proofs.Laid.{name_is, same_name-refl}
 use Rattle.expression_lang.specs.declared.signatures.Binder as B
+use Rattle.rule_local.proofs.UsesLaws.{either}
 use Rattle.local_lift.specs.declared.rows.Row.{Row}
 use Rattle.local_lift.specs.Live.{some_of, through}
 use Rattle.local_lift.specs.CodeNames.{names}
@@ -173,10 +174,6 @@ or_none : (c : Bool) → (c || false) ≡ c
 or_none true = refl
 or_none false = refl
 
-or_later : (a b c : Bool) → ((a || b) || c) ≡ (a || (b || c))
-or_later true b c = refl
-or_later false b c = refl
-
 -- a row that means the local at a position, and one that doesn't
 pub way_taken : (bs : List B.Binder) (k : ℕ) (x : Name) (w : Name → Bool) (row way r : List Bool) → get_or row k false ≡ true → r ≡ either_row row way → IsAt k bs x → way ≡ marks w bs → RowMoves bs (by_way x w) row r
 way_taken bs k x w row way r t e i n p m =
@@ -194,7 +191,7 @@ meant_marks bs leads from (l ∷ ls) (r ∷ rs) all acc h e =
     by_test true j =
         j (either_row all r.flags.items) (λ y. acc y || leads (string_bytes l.name) y) (ap₂ either_row e h.0 ∙ either_marks acc (leads (string_bytes l.name)) bs)
         ∙ marks_same (λ y. (acc y || leads (string_bytes l.name) y) || some_of (λ z. from z && leads z y) (names ls)) (λ y. acc y || (leads (string_bytes l.name) y || some_of (λ z. from z && leads z y) (names ls))) bs
-        (λ y. or_later (acc y) (leads (string_bytes l.name) y) (some_of (λ z. from z && leads z y) (names ls)))
+        (λ y. either (acc y) (leads (string_bytes l.name) y) (some_of (λ z. from z && leads z y) (names ls)))
     by_test false j = j all acc e
 meant_marks bs leads from [] (r ∷ rs) all acc h e = absurd h
 meant_marks bs leads from (l ∷ ls) [] all acc h e = absurd h

@@ -1,11 +1,11 @@
 -- Zeros of locals, one by one.
-use Rattle.std.proofs.Common.{◌≡◌, Bool, true, false, cond, List, [], ◌∷◌, ◌++◌, Option, Some, None, refl, sym, ap, ◌∙◌, subst}
-use Rattle.std.proofs.lemmas.Bool.{and_parts}
-use Rattle.c_values.specs.Name.{Name, same_name}
+use Rattle.std.proofs.Common.{◌≡◌, true, List, [], ◌∷◌, ◌++◌, Option, Some, None, refl, sym, ap, ◌∙◌}
+use Rattle.c_values.specs.Name.{Name}
 use Rattle.expression_lang.specs.Expression.{Exp}
 use Rattle.expression_lang.specs.Sort.{Kind, is_kind, are_kinds}
 use Rattle.expression_lang.specs.Signature.{Binder, kinds_of}
 use Rattle.simpl_lang.specs.Command.{kind_of}
+use Rattle.simpl_lang.proofs.SameKinds.{local_is_kind}
 use Rattle.rule_local.specs.Table.{zero_exp, zero_first, zeros}
 
 pub record FirstZero (o : Option Kind) (r : Option (List Exp)) (es : List Exp) : Type 0 where
@@ -21,14 +21,6 @@ first_zero (Some k) (Some others) es h =
     let inner : zero_exp k ∷ others ≡ es = cc in record { kind = k; others = others; has_kind = refl; has_others = refl; all = sym inner }
 first_zero (Some k) None es h = let clash : None ≡ Some es = h in cc
 first_zero None r es h = let clash : None ≡ Some es = h in cc
-
-pub kind_good : (bs : List Binder) (x : Name) (k : Kind) → are_kinds (kinds_of bs) ≡ true → kind_of bs x ≡ Some k → is_kind k ≡ true
-kind_good [] x k h e = let clash : None ≡ Some k = e in cc
-kind_good (b ∷ bs) x k h e = let p = and_parts (is_kind b.kind) (are_kinds (kinds_of bs)) h in by_test (same_name b.name x) (λ r. kind_good bs x k p.1 r) p.0 e
-  where
-    by_test : (t : Bool) → (kind_of bs x ≡ Some k → is_kind k ≡ true) → is_kind b.kind ≡ true → cond t (Some b.kind) (kind_of bs x) ≡ Some k → is_kind k ≡ true
-    by_test true j g e = let same : Some b.kind ≡ Some k = e in let inner : b.kind ≡ k = cc in subst (λ z. is_kind z ≡ true) inner g
-    by_test false j g e = j e
 
 -- what is made so far, before the zeros that are left, is all
 pub record ZerosSo (bs : List Binder) (rest : List Name) (made es : List Exp) : Type 0 where
@@ -49,5 +41,5 @@ zeros_more bs x xs made more es e g m h z =
     let f = first_zero (kind_of bs x) (zeros bs xs) z.later z.are in record {
       later = f.others;
       are = f.has_others;
-      whole = m f.others ∙ ap (λ d. made ++ d ∷ f.others) (h f.kind f.has_kind (kind_good bs x f.kind g f.has_kind)) ∙ ap (λ l. made ++ l) (sym f.all) ∙ z.whole;
+      whole = m f.others ∙ ap (λ d. made ++ d ∷ f.others) (h f.kind f.has_kind (local_is_kind bs x f.kind g f.has_kind)) ∙ ap (λ l. made ++ l) (sym f.all) ∙ z.whole;
     }

@@ -16,7 +16,7 @@ use Rattle.c_memory.specs.Memory.{address_at}
 use Rattle.c_memory.specs.Tags.{is_pointer_ok}
 use Rattle.expression_lang.specs.Expression.{Exp, Var, WordLit, NumberLit, TruthLit, WordBinary, WordShift, WordUnary, WordCompare, Cast, CastOp, Zext, Sext, Trunc, ToNat, ToInt, ToWord, Arith, Negate, Lt, Le, Between, Eq, And, Or, Imp, Not, If, Padd, At, Load, Read, Tagged, PtrOk, Global, Sel, Upd, Path, Here, IntoField, IntoElement}
 use Rattle.expression_lang.specs.Evaluation.{cast_op, if_truth}
-use Rattle.expression_lang.proofs.Good.{rem_below}
+use Rattle.expression_lang.proofs.Good.{rem_below, address_below}
 use Rattle.expression_text.specs.Numbers.{is_number}
 use Rattle.expression_text.specs.TypeText.{is_type}
 use Rattle.expression_text.specs.ExpText.{is_width, is_of_two, is_exp, is_path}
@@ -171,9 +171,6 @@ address_is_width Lp64 = refl
 
 pointer_fits : (l : Layout) (a : ℕ) → a < space l → Fits (pointer l a)
 pointer_fits l a h = and_from _ _ (address_is_width l.target) (lt-ltb a (2 ^ address_width l.target) h)
-
-address_below : (l : Layout) (a : ℕ) (n : ℤ) → address_at (space l) a n < space l
-address_below l a n = rem_below _ (space l) (pow_pos (address_width l.target))
 
 address_there : (l : Layout) (f : ℕ → Option Value) (v : Value) → ((a : ℕ) → a < space l → Fits (f a)) → Fits (by_address l f v)
 address_there l f (Bits w) k =

@@ -1,6 +1,6 @@
 -- A program that was lifted to typed heaps has a text where the program on bytes has one, and so has the tree of rules that leads there;
 -- and it binds as few names at a time.
-use Rattle.std.proofs.Common.{◌≡◌, ℕ, suc, ◌^◌, ◌≤◌, nat_lt, nat_le, Bool, true, false, cond, ◌&&◌, List, [], ◌∷◌, length, refl, sym, ap, subst, ◌∙◌, arith}
+use Rattle.std.proofs.Common.{◌≡◌, ℕ, suc, ◌^◌, ◌≤◌, nat_lt, nat_le, Bool, true, false, cond, ◌&&◌, List, [], ◌∷◌, length, refl, sym, subst, ◌∙◌, arith}
 use Rattle.std.proofs.lemmas.Bool.{and_parts, and_from, le-leb}
 use Rattle.c_values.specs.Name.{are_distinct}
 use Rattle.expression_lang.specs.Expression.{Exp, Var, WordLit, NumberLit, TruthLit, WordBinary, WordShift, WordUnary, WordCompare, Cast, ToNat, ToInt, ToWord, Arith, Negate, Lt, Le, Between, Eq, And, Or, Imp, Not, If, Padd, At, Load, Read, Tagged, PtrOk, Global, Sel, Upd, Path, Here, IntoField, IntoElement}
@@ -18,6 +18,7 @@ use Rattle.rule_heap.specs.Rule as R
 use Rattle.rule_heap.specs.Rule.{Rule}
 use Rattle.rule_heap.specs.ExpLifted.{exp_lifted, path_lifted, leaf, over_one, over_two, leaf_or_op, exp_tree, path_trees}
 use Rattle.rule_heap.specs.HeapLifted.{exps_lifted, starts_lifted, place_lifted, is_pair, on_heaps, is_plain, exp_trees, start_trees, place_tree, TreesOf, root_of, bind_tree, same_or, alone, trees_of, heap_tree}
+use Rattle.rule_heap.proofs.HeapTaken.{starts_named}
 use Rattle.rule_text.specs.Arities.{fits, at_least}
 use Rattle.rule_text.specs.HeapText.{arity, has_text, is_tree}
 use Rattle.rule_text.specs.RuleText as trees
@@ -269,10 +270,6 @@ starts_texts (x ∷ xs) h =
     and_from (is_name x.name && is_exp (exp_lifted x.exp)) (each is_start (starts_lifted xs))
     (and_from (is_name x.name) (is_exp (exp_lifted x.exp)) q.0 (exp_texts x.exp q.1).program) (starts_texts xs p.1)
 
-same_names : (xs : List Start) → start_names (starts_lifted xs) ≡ start_names xs
-same_names [] = refl
-same_names (x ∷ xs) = ap (λ ys. x.name ∷ ys) (same_names xs)
-
 start_trees_texts : (xs : List Start) (ts : Trees Rule) → each is_start xs ≡ true → are_trees ts ≡ true →
     are_trees (start_trees xs ts) ≡ true
 start_trees_texts [] ts h k = k
@@ -346,7 +343,7 @@ heap_program (M.Loop starts guard test m) h =
     let q = and_parts (is_exp guard) (is_exp test && is_mon m) p.1 in
     let r = and_parts (is_exp test) (is_mon m) q.1 in
     and_from _ _
-    (and_from _ _ (starts_texts starts s.0) (subst (λ xs. are_distinct xs ≡ true) (sym (same_names starts)) s.1))
+    (and_from _ _ (starts_texts starts s.0) (subst (λ xs. are_distinct xs ≡ true) (sym (starts_named starts)) s.1))
     (and_from _ _ (exp_texts guard q.0).program (and_from _ _ (exp_texts test r.0).program (heap_program m r.1)))
 heap_program (M.Call f es) h =
     let p = and_parts (is_name f) (each is_exp es) h in and_from _ _ p.0 (exps_texts es p.1)

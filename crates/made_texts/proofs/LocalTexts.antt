@@ -1,6 +1,6 @@
 -- A program that the locals of a command were lifted to has a text where the command has one and the locals are names of kinds, and so has
 -- the tree of rules that leads there. It binds few names at a time where the locals are few.
-use Rattle.std.proofs.Common.{◌≡◌, suc, ◌^◌, nat_lt, Bool, true, false, not, ◌&&◌, List, [], ◌∷◌, length, Option, Some, None, cond, refl, sym, ap, subst}
+use Rattle.std.proofs.Common.{◌≡◌, suc, ◌^◌, nat_lt, Bool, true, false, not, ◌&&◌, List, [], ◌∷◌, length, Option, Some, None, cond, refl, sym, subst}
 use Rattle.std.proofs.lemmas.Bool.{and_parts, and_from, lt-ltb}
 use Rattle.std.proofs.lemmas.Nat.{pow_pos}
 use Rattle.c_values.specs.Name.{Name, same_name, is_among, are_distinct}
@@ -16,7 +16,6 @@ use Rattle.simpl_lang.specs.Command.{Simpl, Condition, kind_of}
 use Rattle.command_text.specs.CommandText.{is_command, is_condition}
 use Rattle.monad_lang.specs.Program as M
 use Rattle.monad_lang.specs.Program.{Mon}
-use Rattle.monad_lang.specs.Run.{start_names}
 use Rattle.monad_lang.specs.Names.{is_free}
 use Rattle.program_text.specs.MonText.{is_mon, is_start}
 use Rattle.rule_local.specs.Assigned.{assigns}
@@ -25,6 +24,7 @@ use Rattle.rule_local.specs.Rule.{Rule, Context}
 use Rattle.rule_local.specs.Table.{vars, vars_with, as_starts, conj, picked_kind, zero_exp, zero_first, zeros, is_needed}
 use Rattle.rule_local.specs.Lifted.{Lifted, leaf, over_one, over_two, chosen, handed_on, kind_there, set_lifted, seq_lifted, while_lifted, lifted, zeros_there, begun, locals_lifted}
 use Rattle.rule_local.proofs.HandedOn.{settled_has}
+use Rattle.rule_local.proofs.Parts.{starts_named}
 use Rattle.rule_text.specs.Arities.{fits}
 use Rattle.rule_text.specs.LocalText.{arity, is_tree}
 use Rattle.made_texts.specs.Few.{binds_few}
@@ -87,10 +87,6 @@ are_starts (x ∷ xs) h =
     let p = and_parts (is_name x) (each is_name xs) h in
     and_from (is_name x && is_name x) (each is_start (as_starts xs)) (and_from (is_name x) (is_name x) p.0 p.0)
     (are_starts xs p.1)
-
-names_started : (xs : List Name) → start_names (as_starts xs) ≡ xs
-names_started [] = refl
-names_started (x ∷ xs) = ap (λ ys. x ∷ ys) (names_started xs)
 
 joined : (cs : List Condition) → each is_condition cs ≡ true → is_exp (conj cs) ≡ true
 joined [] h = refl
@@ -164,7 +160,7 @@ module _ (bs : List Binder) (names : AreNames (names_of bs)) (kinds : are_kinds 
   while_texts gs e vs us body g h v n k =
       let m = M.Loop (as_starts us) (conj gs) e (body us).right in
       let loop : is_mon m ≡ true = and_from _ _
-      (and_from _ _ (are_starts us n.names) (subst (λ xs. are_distinct xs ≡ true) (sym (names_started us)) n.distinct))
+      (and_from _ _ (are_starts us n.names) (subst (λ xs. are_distinct xs ≡ true) (sym (starts_named us)) n.distinct))
       (and_from _ _ (joined gs g) (and_from _ _ h k.program)) in
       with_one R.While (M.Bind m us (M.Ret (vars vs))) (body us) refl (bound m us (M.Ret (vars vs)) n loop (are_vars vs v))
       (few_bound m us (M.Ret (vars vs)) n k.few refl) k

@@ -14,9 +14,6 @@ use Rattle.rule_word.specs.Kept.{kinds_given}
 use Rattle.rule_word.proofs.ProgramSorts.{call_inv}
 use Rattle.rule_word.proofs.ProgramWidths.{AllWide, WideCalls}
 
-some_is : {A : Type 0} {a b : A} → ◌≡◌ {A = Option A} (Some a) (Some b) → a ≡ b
-some_is h = cc
-
 same_is : (j k : Kind) → same_kind j k ≡ true → is_kind k ≡ true → is_kind j ≡ true
 same_is (WordKind m) (WordKind n) e h = let i : m ≡ n = eqb-true m n e in subst (λ w. is_kind (WordKind w) ≡ true) (sym i) h
 same_is (NatKind m) (NatKind n) e h = let i : m ≡ n = eqb-true m n e in subst (λ w. is_kind (NatKind w) ≡ true) (sym i) h

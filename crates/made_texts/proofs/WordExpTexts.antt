@@ -1,7 +1,7 @@
 -- What stands for a well-sorted expression where words are numbers has a text where the expression has one, and so has the tree of rules
 -- that leads there.
-use Rattle.std.proofs.Common.{◌≡◌, ℕ, ◌+◌, ◌^◌, ◌≤◌, ◌<◌, ◌==◌, nat_lt, nat_le, Bool, true, false, ◌&&◌, ◌||◌, List, [], ◌∷◌, ◌++◌, Option, Some, None, ◌⊎◌, inl, inr, ℤ, pos, refl, ap, subst, ◌∙◌, arith}
-use Rattle.std.proofs.lemmas.Bool.{and_parts, and_from, le-leb, lt-ltb, ltb-true, eqb-true, or_cases}
+use Rattle.std.proofs.Common.{◌≡◌, ℕ, ◌+◌, ◌^◌, ◌≤◌, ◌<◌, nat_lt, Bool, true, false, ◌&&◌, List, [], ◌∷◌, ◌++◌, Option, Some, None, ℤ, pos, refl, ap, subst, ◌∙◌, arith}
+use Rattle.std.proofs.lemmas.Bool.{and_parts, and_from, lt-ltb, ltb-true}
 use Rattle.std.proofs.Math.Nat.{pow-le-pow_right}
 use Rattle.c_values.specs.Name.{Name}
 use Rattle.c_values.specs.Layout.{IsLayout}
@@ -17,6 +17,7 @@ use Rattle.expression_text.specs.Names.{is_name}
 use Rattle.expression_text.specs.Numbers.{is_number}
 use Rattle.expression_text.specs.TypeText.{is_type}
 use Rattle.expression_text.specs.ExpText.{is_width, is_of_two, is_one_step, is_exp, is_path}
+use Rattle.expression_text.proofs.Atoms.{width_small}
 use Rattle.ac_expr.specs.Fact.{Whole, NotTrue}
 use Rattle.ac_expr.specs.Heads.{path_children}
 use Rattle.ac_expr.proofs.PartsSorted.{IsSorted, AreSorted, children_sorted}
@@ -28,9 +29,10 @@ use Rattle.rule_word.specs.Table.{truth}
 use Rattle.rule_word.specs.Bases.{Surroundings, under, Base, Words, Naturals, Integers, first_base}
 use Rattle.rule_word.specs.WordsAbstracted.{Abstracted, made, one, two, as_word, seen_from, by_head, or_zero, Operands, by_rule, at_base, words_of, binary_base, binary_at, negation_base, unary_at, order, view_of_test, equality_kind, constant_at, var_at, Indices, extended, operands, compared, cast_at, equal, abstracted, indices, base_of}
 use Rattle.rule_word.proofs.Widths.{IsWide, expression_wide}
-use Rattle.rule_text.specs.Arities.{fits, at_least}
+use Rattle.rule_text.specs.Arities.{fits}
 use Rattle.rule_text.specs.WordText.{arity, has_text, is_tree}
 use Rattle.rule_text.specs.RuleText as trees
+use Rattle.made_texts.proofs.HeapTexts.{least}
 
 abbrev pub are_trees : Trees Rule → Bool
 are_trees = trees.are_trees arity has_text
@@ -38,9 +40,6 @@ are_trees = trees.are_trees arity has_text
 pub record HaveTexts (x : Abstracted) : Type 0 where
   pub program : is_exp x.right ≡ true
   pub rules : is_tree x.tree ≡ true
-
-pub least : (k n : ℕ) → k ≤ n → fits (at_least k) n ≡ true
-least k n h = and_from (nat_le k n) true (le-leb k n h) refl
 
 -- by a rule over one part and over two
 
@@ -54,27 +53,9 @@ by_two rule a x y f h k l = record { program = h; rules = and_from _ _ f (and_fr
 
 -- Numbers of words
 
-four : (n : ℕ) → is_width n ≡ true → n ≤ 64
-four n h = by_last (or_cases (n == 8 || n == 16 || n == 32) (n == 64) h)
-  where
-    is_at_most : (m : ℕ) → m ≤ 64 → (n == m) ≡ true → n ≤ 64
-    is_at_most m l e = let i : n ≡ m = eqb-true n m e in omega arith
-
-    by_first : ((n == 8) ≡ true) ⊎ ((n == 16) ≡ true) → n ≤ 64
-    by_first (inl e) = is_at_most 8 (omega arith) e
-    by_first (inr e) = is_at_most 16 (omega arith) e
-
-    by_third : ((n == 8 || n == 16) ≡ true) ⊎ ((n == 32) ≡ true) → n ≤ 64
-    by_third (inl e) = by_first (or_cases (n == 8) (n == 16) e)
-    by_third (inr e) = is_at_most 32 (omega arith) e
-
-    by_last : ((n == 8 || n == 16 || n == 32) ≡ true) ⊎ ((n == 64) ≡ true) → n ≤ 64
-    by_last (inl e) = by_third (or_cases (n == 8 || n == 16) (n == 32) e)
-    by_last (inr e) = is_at_most 64 (omega arith) e
-
 small : (n m : ℕ) → is_width n ≡ true → m ≤ 2 ^ n → m < 2 ^ 128
 small n m w h =
-    let a : 2 ^ n ≤ 2 ^ 64 = pow-le-pow_right (omega arith) (four n w) in
+    let a : 2 ^ n ≤ 2 ^ 64 = pow-le-pow_right (omega arith) (width_small n w) in
     omega (arith, a)
 
 unsigned_text : (n m : ℕ) → is_width n ≡ true → m < 2 ^ n → is_number (pos m) ≡ true

@@ -1,16 +1,18 @@
 -- A program on what stands for words has a text where the program on words has one, is well-sorted and its names have kinds; and so has
 -- the tree of rules that leads there, and it binds few names at a time where that does.
-use Rattle.std.proofs.Common.{◌≡◌, ℕ, ◌≤◌, ◌==◌, nat_le, Bool, true, false, not, cond, ◌&&◌, List, [], ◌∷◌, ◌++◌, length, map, Option, Some, None, refl, sym, ap, subst, ◌∙◌, arith}
+use Rattle.std.proofs.Common.{◌≡◌, ◌≤◌, ◌==◌, nat_le, Bool, true, false, not, cond, ◌&&◌, List, [], ◌∷◌, ◌++◌, length, map, Option, Some, None, refl, sym, ap, subst, ◌∙◌, arith}
 use Rattle.std.proofs.lemmas.Bool.{and_parts, and_from, or_parts, or_from}
 use Rattle.c_values.specs.Name.{Name, same_name, is_among, are_distinct}
 use Rattle.c_values.specs.Types.{CType, address_width}
 use Rattle.c_values.specs.Layout.{IsLayout, shape_of, is_object, global_type}
+use Rattle.c_values.proofs.Options.{some_is}
 use Rattle.expression_lang.specs.Expression as X
 use Rattle.expression_lang.specs.Expression.{Exp, Path}
 use Rattle.expression_lang.specs.Sort.{Scalar, WordSort, NumberSort, TruthSort, Sort, Of, Kind, WordKind, NatKind, IntKind, BoolKind, Scope, is_truth, is_word_of, is_width, same_scalar, word_sort_of, is_kind, are_kinds}
 use Rattle.expression_lang.specs.Sorted.{program_sort, scalar_in, scalars_of, typed_place, global_place, part_place, fits_place, call_scalars}
 use Rattle.expression_lang.specs.Signature.{Binder, binder, Signature, kinds_of, signature}
 use Rattle.expression_lang.proofs.Inversion.{truth_inv, word_of_inv}
+use Rattle.expression_lang.proofs.SortParts.{program_sort_inv, fits_inv as fits_there, scalar_in_inv}
 use Rattle.expression_text.specs.Names.{is_name}
 use Rattle.expression_text.specs.TypeText.{is_type}
 use Rattle.expression_text.specs.ExpText.{is_exp, is_path}
@@ -23,6 +25,7 @@ use Rattle.monad_lang.specs.Program.{Mon, Place, Start}
 use Rattle.monad_lang.specs.Run.{start_names}
 use Rattle.monad_lang.specs.Sorted.{setting_with, scalars_given, start_scalars, place_sort, one_for_each, are_scalars, where_fits}
 use Rattle.program_text.specs.MonText.{is_mon, is_start, is_place}
+use Rattle.ac_expr.proofs.ConstantsSound.{if_inv}
 use Rattle.program_facts.specs.Flow.{facts_after}
 use Rattle.rule_trees.specs.RuleTree.{Tree, Trees, node, no_trees, tree, count, Accepts, AcceptsAll}
 use Rattle.rule_word.specs.Rule as R
@@ -34,22 +37,21 @@ use Rattle.rule_word.specs.Kept.{kinds_taken, kinds_given}
 use Rattle.rule_word.specs.Bases.{among}
 use Rattle.rule_word.specs.WordsAbstracted.{Abstracted, indices}
 use Rattle.rule_word.specs.ProgramsAbstracted.{AbstractedProgram, rights, trees_before, restarted, word_kind_of, kind_for, kinds_for, scalars_there, same_kinds, recast_by, result_names, in_words, recast_or, recast_to, pick_at, PlaceAt, place_rule, place_at, exp_at, guard_at, all_at, program_abstracted}
-use Rattle.rule_word.proofs.ProgramSorts.{then_inv, fits_inv, are_inv, scalar_first, scalar_there, program_sorted, part_there, if_there, fits_there}
+use Rattle.rule_word.proofs.ProgramSorts.{then_inv, fits_inv, are_inv, scalar_first, part_there}
 use Rattle.rule_word.proofs.ProgramWidths.{AllWide, WideNames, WideCalls, given_wide}
 use Rattle.rule_word.proofs.ProgramsGive.{accepted_gives}
 use Rattle.rule_word.proofs.ScopesAfter.{setting_after}
+use Rattle.rule_word.proofs.KindsStay.{kind_word}
 use Rattle.rule_text.specs.WordText.{is_tree}
 use Rattle.made_texts.specs.Few.{most_names, binds_few}
 use Rattle.made_texts.proofs.WordExpTexts as E
-use Rattle.made_texts.proofs.WordExpTexts.{are_trees, least, by_two}
+use Rattle.made_texts.proofs.WordExpTexts.{are_trees, by_two}
+use Rattle.made_texts.proofs.HeapTexts.{least}
 
 pub record HaveTexts (x : AbstractedProgram) : Type 0 where
   pub program : is_mon x.right ≡ true
   pub few : binds_few x.right ≡ true
   pub rules : is_tree x.tree ≡ true
-
-some_is : {A : Type 0} {a b : A} → ◌≡◌ {A = Option A} (Some a) (Some b) → a ≡ b
-some_is h = cc
 
 -- Kinds
 
@@ -87,12 +89,6 @@ kind_there (b ∷ bs) h x k e =
     by_test true i r q = subst (λ j. is_kind j ≡ true) (some_is q) i
     by_test false i r q = r q
 
-word_width_of : (k : Kind) (n : ℕ) → is_kind k ≡ true → word_sort_of k ≡ WordSort n → is_width n ≡ true
-word_width_of (WordKind m) n h e = let i : m ≡ n = cc in subst (λ j. is_width j ≡ true) i h
-word_width_of (NatKind m) n h e = let i : m ≡ n = cc in subst (λ j. is_width j ≡ true) i h
-word_width_of (IntKind m) n h e = let i : m ≡ n = cc in subst (λ j. is_width j ≡ true) i h
-word_width_of BoolKind n h e = absurd cc
-
 wide_there : (bs : List Binder) → HaveKinds bs → WideNames (names_in word_sort_of bs)
 wide_there [] h x n e = absurd cc
 wide_there (b ∷ bs) h x n e =
@@ -100,7 +96,7 @@ wide_there (b ∷ bs) h x n e =
   where
     by_test : (c : Bool) → is_kind b.kind ≡ true → (names_in word_sort_of bs x ≡ Some (WordSort n) → is_width n ≡ true) →
         cond c (Some (word_sort_of b.kind)) (names_in word_sort_of bs x) ≡ Some (WordSort n) → is_width n ≡ true
-    by_test true i r q = word_width_of b.kind n i (some_is q)
+    by_test true i r q = kind_word b.kind n i (some_is q)
     by_test false i r q = r q
 
 more_kinds : (xs : List Name) (ks : List Kind) (bs : List Binder) → each is_kind ks ≡ true → HaveKinds bs →
@@ -276,16 +272,16 @@ each_sorted : (g : Scope) (es : List Exp) (cs : List Scalar) → scalars_of g es
 each_sorted g [] cs h = tt
 each_sorted g (e ∷ es) cs h =
     let r = scalar_first (scalar_in (program_sort g e)) (scalars_of g es) cs h in
-    ((_, program_sorted g e (Of r.0) (scalar_there (program_sort g e) r.0 r.4)), each_sorted g es r.1 r.3)
+    ((_, program_sort_inv g e (Of r.0) (scalar_in_inv (program_sort g e) r.0 r.4)), each_sorted g es r.1 r.3)
 
 starts_sorted : (g : Scope) (xs : List Start) (cs : List Scalar) → start_scalars g xs ≡ Some cs → AreSorted g (start_exps xs)
 starts_sorted g [] cs h = tt
 starts_sorted g (x ∷ xs) cs h =
     let r = scalar_first (scalar_in (program_sort g x.exp)) (start_scalars g xs) cs h in
-    ((_, program_sorted g x.exp (Of r.0) (scalar_there (program_sort g x.exp) r.0 r.4)), starts_sorted g xs r.1 r.3)
+    ((_, program_sort_inv g x.exp (Of r.0) (scalar_in_inv (program_sort g x.exp) r.0 r.4)), starts_sorted g xs r.1 r.3)
 
 truth_sorted : (g : Scope) (e : Exp) → is_truth (program_sort g e) ≡ true → IsSorted g e
-truth_sorted g e h = (_, program_sorted g e (Of TruthSort) (truth_inv (program_sort g e) h))
+truth_sorted g e h = (_, program_sort_inv g e (Of TruthSort) (truth_inv (program_sort g e) h))
 
 called_sorted : (g : Scope) (f : Kind → Scalar) (o : Option Signature) (es : List Exp) (cs : List Scalar) →
     call_scalars f o (scalars_of g es) ≡ Some cs → AreSorted g es
@@ -300,12 +296,12 @@ called_sorted g f o es cs h = by_scalars (scalars_of g es) refl o h
 root_sorted : (g : Scope) (t : CType) (p : Exp) (path : Path) (s : Sort) → typed_place g t p path ≡ Some s →
     IsSorted g p × AreSorted g (path_children path)
 root_sorted g t p path s h =
-    let r = if_there (is_object g.layout t && is_word_of (address_width g.layout.target) (program_sort g p)) (part_place g t path) s h in
+    let r = if_inv (is_object g.layout t && is_word_of (address_width g.layout.target) (program_sort g p)) (part_place g t path) s h in
     let d = and_parts (is_object g.layout t) (is_word_of (address_width g.layout.target) (program_sort g p)) r.0 in
     let w = part_there g t path s r.1 in (
       (
         _,
-        program_sorted g p (Of (WordSort (address_width g.layout.target)))
+        program_sort_inv g p (Of (WordSort (address_width g.layout.target)))
             (word_of_inv (address_width g.layout.target) (program_sort g p) d.1),
       ),
       path_sorted g path (shape_of g.layout t) w.0 w.1,
@@ -315,7 +311,7 @@ global_sorted : (g : Scope) (o : Option CType) (path : Path) (s : Sort) → glob
     AreSorted g (path_children path)
 global_sorted g None path s h = absurd cc
 global_sorted g (Some t) path s h =
-    let r = if_there (is_object g.layout t) (part_place g t path) s h in
+    let r = if_inv (is_object g.layout t) (part_place g t path) s h in
     let w = part_there g t path s r.1 in path_sorted g path (shape_of g.layout t) w.0 w.1
 
 -- Programs
@@ -457,7 +453,7 @@ module _ (same : Exp → Exp → Bool) (numbers : Bool) (ctx : Context) (lay : I
         let i = fits_inv (fits_place (place_sort (g_in names) place) (program_sort (g_in names) e)) (Some []) (map word_sort_of ks) q in
         let f = fits_there (place_sort (g_in names) place) (program_sort (g_in names) e) i.0 in
         let p = and_parts (is_place place) (is_exp e) h in
-        let y = exp_texts names n fs e p.1 (f.0, program_sorted (g_in names) e f.0 f.2) (own (g_in names) e) in
+        let y = exp_texts names n fs e p.1 (f.0, program_sort_inv (g_in names) e f.0 f.2) (own (g_in names) e) in
         let x = place_texts names n fs place (exp_at same numbers ctx names fs e (own (g_in names) e)).tree f.0 f.1 p.0 y.rules in
         record { program = and_from _ _ x.program y.program; few = refl; rules = x.rules }
     program_texts fs names (M.Pick j) ks n h w k q b = pick_texts j ks h

@@ -1,12 +1,10 @@
 -- The tree of a memory that has a text is a tree of atoms.
-use Rattle.std.proofs.Common.{◌≡◌, ℕ, zero, suc, ◌+◌, ◌/◌, ◌%◌, ◌^◌, ◌<◌, ◌≤◌, Bool, true, ◌&&◌, List, [], ◌∷◌, length, ◌⊎◌, inl, inr, ℤ, Option, Some, None, refl, arith}
-use Rattle.std.specs.Prelude.{pos, negsuc, nat_lt, slice_index}
-use Rattle.std.specs.Char.{is_ascii_digit}
+use Rattle.std.proofs.Common.{◌≡◌, ℕ, zero, suc, ◌/◌, ◌%◌, ◌^◌, ◌<◌, Bool, true, ◌&&◌, List, [], ◌∷◌, length, Option, Some, None, refl, arith}
+use Rattle.std.specs.Prelude.{nat_lt, slice_index}
 use Rattle.std.specs.List.{list_all}
 use Rattle.std.specs.Option.{option_map}
 use Rattle.std.specs.Fmt.{decimal}
-use Rattle.std.proofs.lemmas.Bool.{and_parts, and_from, or_cases, ltb-true}
-use Rattle.std.proofs.lemmas.Fmt.{decimal_by_steps_wide}
+use Rattle.std.proofs.lemmas.Bool.{and_parts, and_from, ltb-true}
 use Rattle.hex.specs.Hex.{encode_with, encode_lower, lower_digits}
 use Rattle.c_values.specs.Name.{Name}
 use Rattle.c_values.specs.Layout.{Layout, Shape, GlobalVar, shape_of, is_object, space}
@@ -16,14 +14,12 @@ use Rattle.c_memory.specs.Memory.{Tag}
 use Rattle.c_memory.specs.Ranges.{Run}
 use Rattle.c_memory.specs.Tags.{is_root_type}
 use Rattle.c_lang.specs.Typed.{TypedUnit, typed_fn}
-use Rattle.c_values.specs.Types.{Target, address_width, IntType, Char, SChar, UChar, Short, UShort, Int, UInt, Long, ULong, LLong, ULLong, CType, Integer, Void, Ptr, Struct, Array}
+use Rattle.c_values.specs.Types.{Target, address_width}
 use Rattle.ac_sx.specs.Tree.{Tree, is_atom_byte, is_atom, IsTree, AreTrees}
-use Rattle.ac_sx.proofs.Reached.{is_atom-push}
-use Rattle.expression_text.specs.Names.{begins_name, goes_on_name, is_name}
-use Rattle.expression_text.specs.Numbers.{number_text, is_number}
-use Rattle.expression_text.specs.Words.{int_type_word}
-use Rattle.expression_text.specs.TypeText.{type_tree, is_type}
+use Rattle.expression_text.specs.Names.{is_name}
+use Rattle.expression_text.specs.TypeText.{is_type}
 use Rattle.expression_text.specs.Lists.{each, trees_for}
+use Rattle.expression_text.proofs.Atoms.{type_is_tree, decimal_atom, name_atom, number_atom}
 use Rattle.memory_text.specs.ValueText.{value_tree, value_trees, parts_of, where_parts, is_value, are_values}
 use Rattle.memory_text.specs.MemoryText.{Setting, Memory, call_tree, run_tree, tag_tree, setting_tree, memory_tree, parameter_shapes, is_call, are_bytes, after_run, is_tag, after_setting, goes_on, are_chained, is_memory}
 use Rattle.memory_text.proofs.ValueLaws.{has_decimal}
@@ -31,48 +27,6 @@ use Rattle.memory_text.proofs.NumberLaws.{address_small}
 use Rattle.memory_text.proofs.RunLaws.{is_byte, some_bytes, follows}
 use Rattle.memory_text.proofs.SettingLaws.{sets}
 use Rattle.memory_text.proofs.MemoryLaws.{fine}
-
--- bytes
-plain_byte : (b : ℕ) → 42 ≤ b → b ≤ 126 → is_atom_byte b ≡ true
-plain_byte b h k = grind arith
-
-first_byte : (b : ℕ) → begins_name b ≡ true → is_atom_byte b ≡ true
-first_byte b h = grind arith
-
-next_byte : (b : ℕ) → goes_on_name b ≡ true → is_atom_byte b ≡ true
-next_byte b h = by_case (or_cases (begins_name b) (is_ascii_digit b) h)
-  where
-    by_case : (begins_name b ≡ true) ⊎ (is_ascii_digit b ≡ true) → is_atom_byte b ≡ true
-    by_case (inl i) = first_byte b i
-    by_case (inr i) = grind arith
-
--- names
-all_bytes : (bs : List ℕ) → list_all goes_on_name bs ≡ true → list_all is_atom_byte bs ≡ true
-all_bytes [] h = refl
-all_bytes (b ∷ bs) h =
-    let p = and_parts (goes_on_name b) (list_all goes_on_name bs) h in
-    and_from (is_atom_byte b) (list_all is_atom_byte bs) (next_byte b p.0) (all_bytes bs p.1)
-
-pub name_atom : (x : List ℕ) → is_name x ≡ true → is_atom x ≡ true
-name_atom [] h = absurd cc
-name_atom (b ∷ bs) h =
-    let p = and_parts (begins_name b) (list_all goes_on_name bs) h in
-    and_from (is_atom_byte b) (list_all is_atom_byte bs) (first_byte b p.0) (all_bytes bs p.1)
-
--- numbers
-pub decimal_atom : (n : ℕ) → n < 2 ^ 128 → is_atom (decimal n) ≡ true
-decimal_atom n h =
-    decimal_by_steps_wide (λ m ds. is_atom ds ≡ true)
-    (λ m l. and_from (is_atom_byte (48 + m)) true (plain_byte (48 + m) (omega arith) (omega arith)) refl)
-    (λ m ds l r. is_atom-push ds (48 + m % 10) r (plain_byte (48 + m % 10) (omega arith) (omega arith))) n (omega arith)
-
-negative : (w : List ℕ) → is_atom w ≡ true → is_atom (45 ∷ w) ≡ true
-negative [] h = absurd cc
-negative (b ∷ bs) h = h
-
-pub number_atom : (n : ℤ) → is_number n ≡ true → is_atom (number_text n) ≡ true
-number_atom (pos n) h = decimal_atom n (ltb-true n (2 ^ 128) h)
-number_atom (negsuc n) h = negative (decimal (n + 1)) (decimal_atom (n + 1) (ltb-true (n + 1) (2 ^ 128) h))
 
 -- digits of bytes
 at_all : (test : ℕ → Bool) (xs : List ℕ) (k : ℕ) → list_all test xs ≡ true → k < length xs → test (slice_index xs k) ≡ true
@@ -100,30 +54,6 @@ digits_atom : (bs : List ℕ) → are_bytes bs ≡ true → is_atom (encode_lowe
 unfolding encode_with
 digits_atom [] h = absurd cc
 digits_atom (b ∷ bs) h = all_digits (b ∷ bs) h
-
--- types
-int_type_atom : (i : IntType) → is_atom (int_type_word i) ≡ true
-int_type_atom Char = refl
-int_type_atom SChar = refl
-int_type_atom UChar = refl
-int_type_atom Short = refl
-int_type_atom UShort = refl
-int_type_atom Int = refl
-int_type_atom UInt = refl
-int_type_atom Long = refl
-int_type_atom ULong = refl
-int_type_atom LLong = refl
-int_type_atom ULLong = refl
-
-type_trees : (t : CType) → is_type t ≡ true → IsTree (type_tree t)
-type_trees (Integer i) is = int_type_atom i
-type_trees Void is = refl
-type_trees (Ptr t) is = (refl, (type_trees t is, tt))
-type_trees (Struct x) is = (refl, (name_atom x is, tt))
-type_trees (Array t n) is =
-    let p = and_parts (is_type t) (nat_lt n (2 ^ 32)) is in
-    let less = ltb-true n (2 ^ 32) p.1 in
-    (refl, (type_trees t p.0, (decimal_atom n (omega (arith, less)), tt)))
 
 -- values
 parts_atoms : (g : Target) (vs : Values) (o : Option (List Shape)) → where_parts o (λ ss. are_values g ss vs) ≡ true → ((ss : List Shape) → are_values g ss vs ≡ true → AreTrees (value_trees vs)) → AreTrees (value_trees vs)
@@ -170,7 +100,7 @@ tag_trees : (l : Layout) (t : Tag) → is_tag l t ≡ true → IsTree (tag_tree 
 tag_trees l t is =
     let p = and_parts (nat_lt t.address (space l)) (is_type t.type && (is_root_type t.type && is_object l t.type)) is in
     let q = and_parts (is_type t.type) (is_root_type t.type && is_object l t.type) p.1 in
-    (address_atom l.target t.address (ltb-true t.address (space l) p.0), (type_trees t.type q.0, tt))
+    (address_atom l.target t.address (ltb-true t.address (space l) p.0), (type_is_tree t.type q.0, tt))
 
 setting_trees : (l : Layout) (gs : List GlobalVar) (s : Setting) (rest : List GlobalVar) → after_setting l gs s ≡ Some rest → IsTree (setting_tree s)
 setting_trees l gs s rest h = let (g, f) = sets l gs s rest h in (name_atom s.name f.name, (value_atoms l.target (shape_of l g.type) s.value f.value, tt))

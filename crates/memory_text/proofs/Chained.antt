@@ -1,14 +1,11 @@
 -- One part more of a list in which each is read by what the one before has left.
-use Rattle.std.proofs.Common.{◌≡◌, ℕ, List, [], ◌∷◌, ◌++◌, map, Ok, Err, refl, ap, sym, ◌∙◌, append_assoc}
+use Rattle.std.proofs.Common.{◌≡◌, ℕ, List, [], ◌∷◌, ◌++◌, map, Ok, ap, sym, ◌∙◌}
 use Rattle.std.proofs.lemmas.List.{map_push, append-nil}
 use Rattle.ac_sx.specs.Tree.{Tree, Trees, no_trees, more}
 use Rattle.expression_text.specs.declared.fault.TextFault.TheVariants as F
 use Rattle.expression_text.specs.Reading.{Read, ◌>>=◌, made}
+use Rattle.expression_text.proofs.ListsRead.{made_more}
 use Rattle.memory_text.specs.MemoryReading.{chained_at}
-
-made_more : {A : Type 0} (before : List A) (x : A) (r : Read (List A)) → made (λ ys. (before ++ x ∷ []) ++ ys) r ≡ made (λ ys. before ++ ys) (r >>= λ y. Ok (x ∷ y.0, y.1))
-made_more before x (Ok (ys, n)) = ap (λ zs. Ok (zs, n)) (append_assoc before (x ∷ []) ys)
-made_more before x (Err n) = refl
 
 module _ {S A X : Type 0} (view : X → A) (read : S → ℕ → Tree → Read (A × S)) where
   -- what is read so far, and what is to come

@@ -13,7 +13,7 @@ use Rattle.c_memory.specs.Tags.{is_root_type}
 use Rattle.c_lang.specs.Typed.{TypedFn, TypedUnit, typed_fn}
 use Rattle.ac_sx.specs.Tree.{Tree, Trees, Atom, Node, no_trees, more}
 use Rattle.ac_sx.specs.CodeSx.{word_in, parts_in, headed_in, one_of, two_of, first_of}
-use Rattle.expression_text.specs.Reading.{Read, next, made}
+use Rattle.expression_text.specs.Reading.{Read, next, made, ◌>>=◌}
 use Rattle.expression_text.specs.Names.{name_at}
 use Rattle.expression_text.specs.Numbers.{number_at}
 use Rattle.expression_text.specs.TypeReading.{type_at}

@@ -5,7 +5,7 @@ use Rattle.c_values.specs.Layout.{Shape}
 use Rattle.c_values.specs.Value.{Value, Values, Number, Parts, no_values, more}
 use Rattle.ac_sx.specs.Tree as T
 use Rattle.ac_sx.specs.Tree.{Tree, Trees, Atom, Node, no_trees}
-use Rattle.expression_text.specs.Reading.{Read, next, made}
+use Rattle.expression_text.specs.Reading.{Read, next, made, ◌>>=◌}
 use Rattle.expression_text.specs.Numbers.{number_at}
 use Rattle.memory_text.specs.ValueText.{parts_of, is_number_of}
 

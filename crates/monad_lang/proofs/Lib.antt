@@ -5,3 +5,4 @@ pub mod WithFronts
 pub mod Agreeing
 pub mod AgreeingValues
 pub mod AgreeingSorts
+pub mod Given

@@ -1,13 +1,12 @@
 -- Two programs are decided to be well-sorted and to give values of the same scalars where they do.
-use Rattle.std.proofs.Common.{◌≡◌, Bool, true, ◌&&◌, List, [], ◌∷◌, Option, Some, None, refl, sym, ap, ap₂, ◌∙◌}
-use Rattle.std.proofs.lemmas.Bool.Decides.{Decides-eqb}
-use Rattle.expression_lang.specs.Sort.{Scalar, WordSort, NumberSort, TruthSort, same_scalar}
-use Rattle.expression_lang.specs.Sorted.{same_scalars}
+use Rattle.std.proofs.Common.{◌≡◌, Bool, true, List, Option, Some, None, refl, sym, ap, ap₂, ◌∙◌}
+use Rattle.expression_lang.specs.Sort.{Scalar}
+use Rattle.expression_lang.proofs.SameScalars.{same_scalars_are, same_scalars-refl}
 use Rattle.monad_lang.specs.Program.{Mon}
 use Rattle.monad_lang.specs.Sorted.{Setting, scalars_given}
 use Rattle.monad_sorts.specs.CodeTold.{values_told}
 use Rattle.monad_sorts.specs.CodeSorted.{same_told, is_sorted}
-use Rattle.monad_sorts.proofs.ValuesTold.{values_are, same_scalars_are}
+use Rattle.monad_sorts.proofs.ValuesTold.{values_are}
 use Rattle.monad_sorts.proofs.SortedIs.{is_given, same_is, sorted_is}
 
 abbrev pub GiveSame : Setting → Mon → Mon → Type 0
@@ -19,15 +18,6 @@ IsGiven t m = (given : List Scalar) × (scalars_given t m ≡ Some given)
 something : (o : Option (List Scalar)) → is_given o ≡ true → (ss : List Scalar) × (o ≡ Some ss)
 something None h = absurd cc
 something (Some ss) h = (ss, refl)
-
-scalar_itself : (s : Scalar) → same_scalar s s ≡ true
-scalar_itself (WordSort n) = (Decides-eqb n n).1 refl
-scalar_itself NumberSort = refl
-scalar_itself TruthSort = refl
-
-scalars_themselves : (ss : List Scalar) → same_scalars ss ss ≡ true
-scalars_themselves [] = refl
-scalars_themselves (s ∷ ss) = ap₂ (λ b c. b && c) (scalar_itself s) (scalars_themselves ss)
 
 -- what is decided of one
 
@@ -48,4 +38,4 @@ told_give t m n g k h =
 
 pub given_told : (t : Setting) (m n : Mon) → GiveSame t m n → same_told (values_told t m) (values_told t n) ≡ true
 given_told t m n g =
-    ap₂ same_told (values_are m t g.0 g.1) (values_are n t g.0 g.2) ∙ same_is g.0 g.0 ∙ scalars_themselves g.0
+    ap₂ same_told (values_are m t g.0 g.1) (values_are n t g.0 g.2) ∙ same_is g.0 g.0 ∙ same_scalars-refl g.0

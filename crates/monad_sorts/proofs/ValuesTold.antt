@@ -1,15 +1,16 @@
 -- What is told of a well-sorted program's values is their scalars, and names have what is told of them.
-use Rattle.std.proofs.Common.{◌≡◌, suc, Bool, true, false, ◌&&◌, List, [], ◌∷◌, map, length, Option, Some, None, if◌then◌else◌, refl, sym, ap, ap₂, ◌∙◌}
+use Rattle.std.proofs.Common.{◌≡◌, suc, Bool, true, false, ◌&&◌, List, [], ◌∷◌, map, length, Option, Some, None, if◌then◌else◌, refl, ap, ◌∙◌}
 use Rattle.std.proofs.lemmas.Bool.{and_parts, eqb-true}
 use Rattle.c_values.specs.Name.{Name, are_distinct, with_name}
 use Rattle.expression_lang.specs.Expression.{Exp}
-use Rattle.expression_lang.specs.Sort.{Scalar, WordSort, NumberSort, TruthSort, Kind, Scope, same_scalar, is_truth, is_kind, sort_of_kind}
+use Rattle.expression_lang.specs.Sort.{Scalar, Kind, Scope, is_truth, is_kind, sort_of_kind}
 use Rattle.expression_lang.specs.Sorted.{names_with, program_sort, scalars_of, same_scalars, call_scalars, result_scalars, fits_place}
 use Rattle.expression_lang.specs.Signature.{Signature, signature, kinds_of}
 use Rattle.monad_lang.specs.Program as M
 use Rattle.monad_lang.specs.Program.{Mon, Start}
 use Rattle.monad_lang.specs.Run.{start_names}
-use Rattle.monad_lang.specs.Sorted.{Setting, setting_with, start_scalars, scalars_given, one_for_each, and_then_scalars, where_fits, are_scalars, place_sort}
+use Rattle.monad_lang.specs.Sorted.{Setting, setting_with, start_scalars, scalars_given, one_for_each, where_fits, are_scalars, place_sort}
+use Rattle.monad_lang.proofs.Given.{then_parts, given_there, fits_parts}
 use Rattle.monad_sorts.specs.CodeTold.{all_told, starts_told, names_given, with_names, setting_given, result_told, call_told, values_told}
 use Rattle.monad_sorts.specs.CodeSorted.{call_count, count_of}
 use Rattle.monad_sorts.proofs.ToldSorts.{exps_told, starts_are}
@@ -18,38 +19,6 @@ abbrev pub somes : List Scalar → List (Option Scalar)
 somes ss = map (λ s. Some s) ss
 
 -- parts of what is given
-
-pub then_parts : (o : Option (List Scalar)) (f : List Scalar → Option (List Scalar)) (cs : List Scalar) →
-    and_then_scalars o f ≡ Some cs → (ss : List Scalar) × (o ≡ Some ss) × (f ss ≡ Some cs)
-then_parts None f cs h = absurd cc
-then_parts (Some ss) f cs h = (ss, refl, h)
-
-pub fits_parts : (b : Bool) (o : Option (List Scalar)) (cs : List Scalar) → where_fits b o ≡ Some cs → (b ≡ true) × (o ≡ Some cs)
-fits_parts true o cs h = (refl, h)
-fits_parts false o cs h = absurd cc
-
-same_scalar_is : (a b : Scalar) → same_scalar a b ≡ true → a ≡ b
-same_scalar_is (WordSort m) (WordSort n) h = ap (λ k. WordSort k) (eqb-true m n h)
-same_scalar_is NumberSort NumberSort h = refl
-same_scalar_is TruthSort TruthSort h = refl
-same_scalar_is (WordSort m) NumberSort h = absurd cc
-same_scalar_is (WordSort m) TruthSort h = absurd cc
-same_scalar_is NumberSort (WordSort n) h = absurd cc
-same_scalar_is NumberSort TruthSort h = absurd cc
-same_scalar_is TruthSort (WordSort n) h = absurd cc
-same_scalar_is TruthSort NumberSort h = absurd cc
-
-pub same_scalars_are : (as' bs : List Scalar) → same_scalars as' bs ≡ true → as' ≡ bs
-same_scalars_are [] [] h = refl
-same_scalars_are (a ∷ as') (b ∷ bs) h =
-    let p = and_parts (same_scalar a b) (same_scalars as' bs) h in
-    ap₂ (λ c cs. c ∷ cs) (same_scalar_is a b p.0) (same_scalars_are as' bs p.1)
-same_scalars_are [] (b ∷ bs) h = absurd cc
-same_scalars_are (a ∷ as') [] h = absurd cc
-
-pub scalars_are : (ss : List Scalar) (o : Option (List Scalar)) → are_scalars ss o ≡ true → o ≡ Some ss
-scalars_are ss (Some ts) h = ap (λ cs. Some cs) (sym (same_scalars_are ss ts h))
-scalars_are ss None h = absurd cc
 
 call_is : (f : Kind → Scalar) (s : Option Signature) (o : Option (List Scalar)) (cs : List Scalar) →
     call_scalars f s o ≡ Some cs → (g : Signature) × (s ≡ Some g) × (result_scalars f g.result ≡ cs)
@@ -141,7 +110,7 @@ values_are (M.If e m n) t cs h =
     (λ ss. where_fits (is_truth (program_sort t.scope e) && are_scalars ss (scalars_given t n)) (Some ss)) cs h in
     let f = fits_parts (is_truth (program_sort t.scope e) && are_scalars o.0 (scalars_given t n)) (Some o.0) cs o.2 in
     let same =
-    scalars_are o.0 (scalars_given t n)
+    given_there o.0 (scalars_given t n)
     (and_parts (is_truth (program_sort t.scope e)) (are_scalars o.0 (scalars_given t n)) f.0).1 in
     values_are n t cs (same ∙ f.1)
 values_are (M.Write place e) t cs h =

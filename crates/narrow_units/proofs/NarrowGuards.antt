@@ -14,16 +14,16 @@ use Rattle.expression_lang.specs.Evaluation.{Env, State, value}
 use Rattle.expression_lang.specs.Sort as S
 use Rattle.expression_lang.specs.Sort.{Level, Bytes, Words, Numbers, is_lifted, Of, WordSort}
 use Rattle.expression_lang.specs.States.{IsEnvironment, IsState}
-use Rattle.expression_lang.proofs.Fine.{fine}
+use Rattle.expression_lang.proofs.Fine.{fine, bits_word}
+use Rattle.expression_lang.proofs.Meeting.{met_none}
 use Rattle.simpl_lang.specs.Command.{Condition}
 use Rattle.c_lang.specs.Typed as C
 use Rattle.c_lang.specs.WellTyped.{Scope, is_typed, is_typed_place, are_typed_indices}
 use Rattle.generation.specs.Guards.{is_signed_type, number, fits, divides, computes, shifts, exp, under, bounds, accesses, guards, place_guards, index_guards}
-use Rattle.generation.proofs.ExactNumbers.{word_of_bits}
 use Rattle.generation.proofs.SortedRows.{HasWord}
 use Rattle.generation.proofs.SortedExpressions.{IsScope, simpl_scope, scalar_wide, operand}
 use Rattle.narrow_units.proofs.Magnitudes.{IsBelow, unsigned_below, signed_below, narrow_operation}
-use Rattle.narrow_units.proofs.NarrowValues.{none_of_two, IsQuiet, literal, shifted, to_int, negated, between, at_most, equal, not_so, implication, number_quiet, value_quiet, truth_quiet}
+use Rattle.narrow_units.proofs.NarrowValues.{IsQuiet, literal, shifted, to_int, negated, between, at_most, equal, not_so, implication, number_quiet, value_quiet, truth_quiet}
 
 -- no operation of the conditions is wide here
 pub data AreQuiet (l : Layout) (env : Env) (s : State) : List Condition → Type 0 where
@@ -86,7 +86,7 @@ module _ (l : Layout) (env : Env) (s : State) where
       IsBelow (2 ^ 64) (number_in (value l env s y)) → Quiet (E.Arith op x y)
   operation_quiet op x y h k i j =
       record {
-        none = none_of_two _ _ (none_of_two _ _ h.none k.none)
+        none = met_none _ _ (met_none _ _ h.none k.none)
             (narrow_operation op (number_in (value l env s x)) (number_in (value l env s y)) i j);
       }
 
@@ -126,7 +126,7 @@ module _ (g : Scope) (names : Name → Option S.Scalar) (is : IsScope g names) (
   operand_is i a h = record {
     width = width_of l.target i;
     is_width = scalar_wide l.target (Integer i);
-    word = word_of_bits (width_of l.target i) (value l env s (exp l a))
+    word = bits_word (width_of l.target i) (value l env s (exp l a))
         (fine (simpl_scope g names) is.layout env s fits_names fits_state.globals fits_state.heap (exp l a)
         (Of (WordSort (width_of l.target i))) h.sort).sort;
     quiet = value_quiet l env s a;

@@ -1,10 +1,11 @@
 -- The Simpl unit of a well-typed unit has no wide operation.
-use Rattle.std.proofs.Common.{◌≡◌, true, false, not, List, [], ◌∷◌, ◌++◌, map, Option, Some, None, refl, sym, ap, ◌∙◌, subst, append_assoc}
-use Rattle.std.proofs.lemmas.Bool.{or_parts, not-true, and_parts}
+use Rattle.std.proofs.Common.{◌≡◌, true, false, not, List, [], ◌∷◌, ◌++◌, map, Option, Some, None, sym, ap, ◌∙◌, subst, append_assoc}
+use Rattle.std.proofs.lemmas.Bool.{not-true, and_parts}
 use Rattle.c_values.specs.Name.{Name, same_name, with_name, is_among, are_distinct}
 use Rattle.c_values.specs.Types.{Target, CType}
 use Rattle.c_values.specs.Layout.{scalar_width}
-use Rattle.c_values.proofs.Laid.{name_is, other_name}
+use Rattle.c_values.proofs.Laid.{name_is}
+use Rattle.c_values.proofs.Options.{none_some, some_is}
 use Rattle.expression_lang.specs.Sort.{Level, Scalar, WordSort, word_sort_of, are_kinds}
 use Rattle.expression_lang.specs.Signature.{Binder, names_of, kinds_of, kind_at, binder}
 use Rattle.expression_lang.specs.Sorted.{names_with}
@@ -14,12 +15,12 @@ use Rattle.c_lang.specs.Typed as C
 use Rattle.c_lang.specs.WellTyped.{IsWellTyped, scope_in, variable_type, are_variables, is_function, are_functions, are_statements, nowhere}
 use Rattle.c_meaning.specs.Kinds.{variables}
 use Rattle.generation.specs.Generate.{locals, function_of, generated}
-use Rattle.generation.proofs.ExactTests.{all_of_four, same_some, none_is_none, by_cases, where_true, where_false}
+use Rattle.generation.proofs.ExactTests.{all_of_four, by_cases, where_true, where_false}
 use Rattle.generation.proofs.UnitParts.{more_locals, locals_are}
 use Rattle.generation.proofs.LocalNames.{variables_append}
 use Rattle.generation.proofs.SortedCommands.{kind_word}
 use Rattle.generation.proofs.SortedExpressions.{IsScope}
-use Rattle.generation.proofs.WellFormedUnits.{generated_is_well_formed}
+use Rattle.generation.proofs.WellFormedUnits.{generated_is_well_formed, other_scalar}
 use Rattle.narrow.specs.Narrow.{IsUnitNarrow, AreFnsNarrow, IsCommandNarrow}
 use Rattle.narrow_units.proofs.NarrowCommands.{commands_narrow, whole_narrow}
 
@@ -28,14 +29,6 @@ use Rattle.narrow_units.proofs.NarrowCommands.{commands_narrow, whole_narrow}
 abbrev scalars_among : List Binder → (Name → Option Scalar) → Name → Option Scalar
 scalars_among bs names = names_with (names_of bs) (map word_sort_of (kinds_of bs)) names
 
-left_out : (bs : List Binder) (names : Name → Option Scalar) (x : Name) → is_among x (names_of bs) ≡ false →
-    scalars_among bs names x ≡ names x
-left_out [] names x h = refl
-left_out (b ∷ bs) names x h =
-    let p = or_parts (same_name x b.name) (is_among x (names_of bs)) h in
-    left_out bs (with_name b.name (Some (word_sort_of b.kind)) names) x p.1 ∙ where_false (same_name b.name x)
-    (Some (word_sort_of b.kind)) (names x) (other_name x b.name p.0)
-
 module _ (t : Target) (level : Level) (x : Name) (u : CType) where
   -- a variable of the name, before others of other names
   found : (names : Name → Option Scalar) (v : C.Variable) (bs : List Binder) → is_among v.name (names_of bs) ≡ false →
@@ -43,7 +36,7 @@ module _ (t : Target) (level : Level) (x : Name) (u : CType) where
       scalars_among (binder v.name (kind_at t level v.type) ∷ bs) names x ≡ Some (WordSort (scalar_width t u))
   found names v bs h b e =
       let r = Some (word_sort_of (kind_at t level v.type)) in
-      left_out bs (with_name v.name r names) x (subst (λ y. is_among y (names_of bs) ≡ false) (name_is v.name x b) h)
+      other_scalar bs (with_name v.name r names) x (subst (λ y. is_among y (names_of bs) ≡ false) (name_is v.name x b) h)
       ∙ where_true (same_name v.name x) r (names x) b ∙ ap Some (kind_word t level v.type)
       ∙ ap (λ w. Some (WordSort (scalar_width t w))) e
 
@@ -51,13 +44,13 @@ module _ (t : Target) (level : Level) (x : Name) (u : CType) where
   variable_known : (names : Name → Option Scalar) (vs : List C.Variable) (bs : List Binder) →
       are_distinct (names_of (variables t level vs ++ bs)) ≡ true → variable_type vs x ≡ Some u →
       scalars_among (variables t level vs ++ bs) names x ≡ Some (WordSort (scalar_width t u))
-  variable_known names [] bs d e = absurd (none_is_none e)
+  variable_known names [] bs d e = absurd (none_some e)
   variable_known names (v ∷ vs) bs d e =
       let others = variables t level vs ++ bs in
       let p = and_parts (not (is_among v.name (names_of others))) (are_distinct (names_of others)) d in
       by_cases (scalars_among (variables t level (v ∷ vs) ++ bs) names x ≡ Some (WordSort (scalar_width t u))) (same_name v.name x)
       (λ b. found names v others (not-true (is_among v.name (names_of others)) p.0) b
-      (same_some (sym (where_true (same_name v.name x) (Some v.type) (variable_type vs x) b) ∙ e)))
+      (some_is (sym (where_true (same_name v.name x) (Some v.type) (variable_type vs x) b) ∙ e)))
       (λ b. variable_known (with_name v.name (Some (word_sort_of (kind_at t level v.type))) names) vs bs p.1
       (sym (where_false (same_name v.name x) (Some v.type) (variable_type vs x) b) ∙ e))
 

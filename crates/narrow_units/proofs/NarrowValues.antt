@@ -1,19 +1,15 @@
 -- What stands for the value and the truth of a C expression has no operation on numbers in it, so none that is wide.
 use Rattle.std.specs.Prelude.{nat_lt}
-use Rattle.std.proofs.Common.{◌≡◌, ℕ, ◌==◌, Bool, true, false, cond, Option, Some, None, ℤ, pos, refl}
+use Rattle.std.proofs.Common.{◌≡◌, ℕ, ◌==◌, Bool, true, false, cond, Option, None, ℤ, pos, refl}
 use Rattle.c_values.specs.Types.{Target, IntType, CType, Integer, Ptr, width_of, is_signed}
 use Rattle.c_values.specs.Word.{word, WordOp, ShiftOp, Wshl, Wsshr, Wushr, UnaryOp, Wneg, Wnot, WordTest}
 use Rattle.c_values.specs.Layout.{Layout, scalar_width}
 use Rattle.expression_lang.specs.Expression as E
 use Rattle.expression_lang.specs.Evaluation.{Env, State}
-use Rattle.expression_lang.specs.Wide.{Operation, or_else, wide, wide_in}
+use Rattle.expression_lang.specs.Wide.{Operation, wide, wide_in}
+use Rattle.expression_lang.proofs.Meeting.{met_none}
 use Rattle.c_lang.specs.Typed as C
 use Rattle.generation.specs.Guards.{is_signed_type, number, cast_to, conversion, word_op_of, combine_op, shift, comparison, equation, is_not_zero, of_truth, moved_by, reading, content, address, path_of}
-
--- neither is there
-pub none_of_two : (p q : Option Operation) → p ≡ None → q ≡ None → or_else p q ≡ None
-none_of_two None q h k = k
-none_of_two (Some x) q h k = h
 
 -- nor the one that is chosen
 pub none_chosen : (b : Bool) (p q : Option Operation) → p ≡ None → q ≡ None → cond b p q ≡ None
@@ -34,16 +30,16 @@ module _ {l : Layout} {env : Env} {s : State} where
   literal n z = record { none = refl }
 
   binary : (op : WordOp) {a b : E.Exp} → IsQuiet l env s a → IsQuiet l env s b → IsQuiet l env s (E.WordBinary op a b)
-  binary op h k = record { none = none_of_two _ _ h.none k.none }
+  binary op h k = record { none = met_none _ _ h.none k.none }
 
   unary : (op : UnaryOp) {a : E.Exp} → IsQuiet l env s a → IsQuiet l env s (E.WordUnary op a)
   unary op h = record { none = h.none }
 
   pub shifted : (op : ShiftOp) {a n : E.Exp} → IsQuiet l env s a → IsQuiet l env s n → IsQuiet l env s (E.WordShift op a n)
-  shifted op h k = record { none = none_of_two _ _ h.none k.none }
+  shifted op h k = record { none = met_none _ _ h.none k.none }
 
   compared : (op : WordTest) {a b : E.Exp} → IsQuiet l env s a → IsQuiet l env s b → IsQuiet l env s (E.WordCompare op a b)
-  compared op h k = record { none = none_of_two _ _ h.none k.none }
+  compared op h k = record { none = met_none _ _ h.none k.none }
 
   pub to_int : {a : E.Exp} → IsQuiet l env s a → IsQuiet l env s (E.ToInt a)
   to_int h = record { none = h.none }
@@ -58,28 +54,28 @@ module _ {l : Layout} {env : Env} {s : State} where
   between low high h = record { none = h.none }
 
   pub at_most : {a b : E.Exp} → IsQuiet l env s a → IsQuiet l env s b → IsQuiet l env s (E.Le a b)
-  at_most h k = record { none = none_of_two _ _ h.none k.none }
+  at_most h k = record { none = met_none _ _ h.none k.none }
 
   pub equal : {a b : E.Exp} → IsQuiet l env s a → IsQuiet l env s b → IsQuiet l env s (E.Eq a b)
-  equal h k = record { none = none_of_two _ _ h.none k.none }
+  equal h k = record { none = met_none _ _ h.none k.none }
 
   pub not_so : {a : E.Exp} → IsQuiet l env s a → IsQuiet l env s (E.Not a)
   not_so h = record { none = h.none }
 
   conjunction : {a b : E.Exp} → IsQuiet l env s a → IsQuiet l env s b → IsQuiet l env s (E.And a b)
-  conjunction h k = record { none = none_of_two _ _ h.none (none_chosen _ _ _ k.none refl) }
+  conjunction h k = record { none = met_none _ _ h.none (none_chosen _ _ _ k.none refl) }
 
   pub disjunction : {a b : E.Exp} → IsQuiet l env s a → IsQuiet l env s b → IsQuiet l env s (E.Or a b)
-  disjunction h k = record { none = none_of_two _ _ h.none (none_chosen _ _ _ refl k.none) }
+  disjunction h k = record { none = met_none _ _ h.none (none_chosen _ _ _ refl k.none) }
 
   pub implication : {a b : E.Exp} → IsQuiet l env s a → IsQuiet l env s b → IsQuiet l env s (E.Imp a b)
-  implication h k = record { none = none_of_two _ _ h.none (none_chosen _ _ _ k.none refl) }
+  implication h k = record { none = met_none _ _ h.none (none_chosen _ _ _ k.none refl) }
 
   choice : {c a b : E.Exp} → IsQuiet l env s c → IsQuiet l env s a → IsQuiet l env s b → IsQuiet l env s (E.If c a b)
-  choice h j k = record { none = none_of_two _ _ h.none (none_chosen _ _ _ j.none k.none) }
+  choice h j k = record { none = met_none _ _ h.none (none_chosen _ _ _ j.none k.none) }
 
   moved : (t : CType) {p n : E.Exp} → IsQuiet l env s p → IsQuiet l env s n → IsQuiet l env s (E.Padd t p n)
-  moved t h k = record { none = none_of_two _ _ h.none k.none }
+  moved t h k = record { none = met_none _ _ h.none k.none }
 
   -- one of two
   one_quiet : (b : Bool) (x y : E.Exp) → IsQuiet l env s x → IsQuiet l env s y → IsQuiet l env s (cond b x y)
@@ -164,18 +160,18 @@ module _ (l : Layout) (env : Env) (s : State) where
     reading_quiet (C.Decay p t) = valued l.target (Ptr t) _ (address_quiet p)
 
     content_quiet : (p : C.Place) → Quiet (content l p)
-    content_quiet (C.Through t p path u) = record { none = none_of_two _ _ (reading_quiet p).0.none (path_quiet path).none }
+    content_quiet (C.Through t p path u) = record { none = met_none _ _ (reading_quiet p).0.none (path_quiet path).none }
     content_quiet (C.InGlobal x path u) = record { none = (path_quiet path).none }
 
     address_quiet : (p : C.Place) → Quiet (address l p)
-    address_quiet (C.Through t p path u) = record { none = none_of_two _ _ (reading_quiet p).0.none (path_quiet path).none }
+    address_quiet (C.Through t p path u) = record { none = met_none _ _ (reading_quiet p).0.none (path_quiet path).none }
     address_quiet (C.InGlobal x path u) = record { none = (path_quiet path).none }
 
     path_quiet : (path : C.Path) → IsQuietAlong l env s (path_of l path)
     path_quiet C.Here = record { none = refl }
     path_quiet (C.Member k path) = record { none = (path_quiet path).none }
     path_quiet (C.Element n e path) =
-        let i = number_quiet (C.type_of e) _ (reading_quiet e).0 in record { none = none_of_two _ _ i.none (path_quiet path).none }
+        let i = number_quiet (C.type_of e) _ (reading_quiet e).0 in record { none = met_none _ _ i.none (path_quiet path).none }
 
   pub value_quiet : (e : C.Expr) → IsQuiet l env s (reading l e).value
   value_quiet e = (reading_quiet e).0

@@ -6,6 +6,7 @@ use Rattle.c_values.specs.Types.{Target}
 use Rattle.c_values.specs.Value.{Value, Bits, Number, Truth, Parts}
 use Rattle.c_values.specs.Layout.{Layout, IsLayout}
 use Rattle.c_values.proofs.Laid.{name_is}
+use Rattle.c_values.proofs.Options.{none_some, some_is}
 use Rattle.c_memory.specs.Memory.{Memory}
 use Rattle.c_memory.specs.Tags.{AreTags, IsWellTagged}
 use Rattle.c_memory.specs.Heap.{IsHeap}
@@ -25,7 +26,6 @@ use Rattle.c_lang.specs.Typed.{TypedFn, Variable, typed_fn}
 use Rattle.c_meaning.specs.Fitting.{AreOfTypes}
 use Rattle.c_meaning.specs.Kinds.{variables}
 use Rattle.generation.proofs.SortedCommands.{kind_word}
-use Rattle.generation.proofs.ExactTests.{same_some, none_is_none}
 use Rattle.exactness.specs.Exact.{results_of, IsProgramOf, ArePrograms}
 use Rattle.pipeline.specs.Whole.{word_sorts, TakesWords, AllTakeWords}
 
@@ -93,12 +93,12 @@ heap_can_be l false m lay h = h
 -- Functions
 
 pub found_name : (fs : List TypedFn) (x : Name) (f : TypedFn) → typed_fn fs x ≡ Some f → f.name ≡ x
-found_name [] x f e = absurd (none_is_none e)
+found_name [] x f e = absurd (none_some e)
 found_name (g ∷ fs) x f e = by_test (same_name g.name x) (λ b. name_is g.name x b) (found_name fs x f) e
   where
     by_test : (b : Bool) → (b ≡ true → g.name ≡ x) → (typed_fn fs x ≡ Some f → f.name ≡ x) →
         cond b (Some g) (typed_fn fs x) ≡ Some f → f.name ≡ x
-    by_test true h rest i = ap (λ (k : TypedFn). k.name) (sym (same_some i)) ∙ h refl
+    by_test true h rest i = ap (λ (k : TypedFn). k.name) (sym (some_is i)) ∙ h refl
     by_test false h rest i = rest i
 
 module _ (t : Target) (x : Name) (f : TypedFn) where
@@ -113,13 +113,13 @@ module _ (t : Target) (x : Name) (f : TypedFn) where
   words_by h g w o q rest true e = record {
     callee = signature_of g;
     found = refl;
-    sorts = w.params ∙ ap (λ (k : TypedFn). word_sorts t k.params) (same_some e);
+    sorts = w.params ∙ ap (λ (k : TypedFn). word_sorts t k.params) (some_is e);
   }
   words_by h g w o q rest false e = rest e
 
   pub words_there : (fs : List TypedFn) (gs : List FinalFn) → AllTakeWords t fs gs → typed_fn fs x ≡ Some f →
       WordsThere (signature (map signature_of gs) x)
-  words_there [] [] w e = absurd (none_is_none e)
+  words_there [] [] w e = absurd (none_some e)
   words_there (h ∷ fs) (g ∷ gs) w e =
       subst (λ y. WordsThere (cond (same_name y x) (Some (signature_of g)) (signature (map signature_of gs) x))) (sym w.0.name)
       (words_by h g w.0 (typed_fn fs x) (signature (map signature_of gs) x) (words_there fs gs w.1) (same_name h.name x) e)
@@ -136,12 +136,12 @@ module _ (t : Target) (x : Name) (f : TypedFn) where
     program_by : (h : TypedFn) (g : FinalFn) → IsProgramOf t (levels h.name) h g → (o : Option TypedFn) (q : Option Signature) →
         (o ≡ Some f → ProgramThere q) → (b : Bool) → cond b (Some h) o ≡ Some f → ProgramThere (cond b (Some (signature_of g)) q)
     program_by h g w o q rest true e =
-        record { program = g; found = refl; is_program = subst (λ k. IsProgramOf t (levels k.name) k g) (same_some e) w }
+        record { program = g; found = refl; is_program = subst (λ k. IsProgramOf t (levels k.name) k g) (some_is e) w }
     program_by h g w o q rest false e = rest e
 
     pub program_there : (fs : List TypedFn) (gs : List FinalFn) → ArePrograms t levels fs gs → typed_fn fs x ≡ Some f →
         ProgramThere (signature (map signature_of gs) x)
-    program_there [] [] w e = absurd (none_is_none e)
+    program_there [] [] w e = absurd (none_some e)
     program_there (h ∷ fs) (g ∷ gs) w e =
         subst (λ y. ProgramThere (cond (same_name y x) (Some (signature_of g)) (signature (map signature_of gs) x)))
         (sym w.0.name)

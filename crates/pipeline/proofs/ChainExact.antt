@@ -23,6 +23,7 @@ use Rattle.monad_lang.specs.Sorted.{signature_of}
 use Rattle.program_facts.specs.Lasting.{AreOfSorts}
 use Rattle.rule_local.specs.Kept.{as_values, SameResult, IsFilled}
 use Rattle.rule_heap.specs.Kept.{IsCall, AnswersOnItsHeap}
+use Rattle.rule_heap.proofs.Standing.{same_bytes}
 use Rattle.rule_word.specs.Scopes.{result_as_list}
 use Rattle.rule_word.specs.Kept.{context_of, kinds_taken, kinds_given, parameter_kinds, result_kinds, AnswersAtItsKinds}
 use Rattle.c_lang.specs.Typed.{TypedUnit, TypedFn, typed_fn}
@@ -32,7 +33,7 @@ use Rattle.exactness.specs.Exact.{Begin, IsBegin, c_ends, program_ends, seen, Ex
 use Rattle.pipeline.specs.Chain.{IsChain}
 use Rattle.pipeline.specs.Whole.{IsWhole}
 use Rattle.pipeline.proofs.Composed.{composed}
-use Rattle.pipeline.proofs.GivenEnds.{Gives, same_bytes, exact_from}
+use Rattle.pipeline.proofs.GivenEnds.{Gives, exact_from}
 use Rattle.pipeline.proofs.Begins.{kinds_are_words, types_sorted, types_fill, kinds_sorted, views_are_of_kinds, heap_can_be}
 use Rattle.pipeline.proofs.Begins.{found_name, WordsThere, words_there, ProgramThere, program_there, results_there}
 

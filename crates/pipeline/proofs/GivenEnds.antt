@@ -16,6 +16,7 @@ use Rattle.expression_lang.specs.GuardKind.{GuardKind, Tag, Wrap}
 use Rattle.expression_lang.specs.Machine.{Returned}
 use Rattle.monad_lang.specs.Program.{FinalUnit}
 use Rattle.monad_lang.specs.Run.{Answer, Failure}
+use Rattle.rule_heap.proofs.Standing.{same_bytes}
 use Rattle.c_lang.specs.Typed.{TypedUnit, TypedFn}
 use Rattle.c_meaning.specs.CRun.{plain}
 use Rattle.c_meaning.proofs.WatchedRun.{watched_same}
@@ -31,9 +32,6 @@ pub record Gives (l : Layout) (lifted : Bool) (before : Memory) (heap : Memory �
   pub values : a.values ≡ seen result r.result
   pub globals : a.state.globals ≡ r.state.globals
   pub keeps : KeepsMemory l lifted before after
-
-pub same_bytes : (m n : Memory) → ◌≡◌ {A = Heap} (OnBytes m) (OnBytes n) → m ≡ n
-same_bytes m n h = cc
 
 abbrev returned : Option Value → Memory → (Name → Value) → Returned
 returned v m globals = record { result = v; state = state_with (OnBytes m) globals }

@@ -58,7 +58,7 @@ kinds_fit same ctx (f ∷ fs) (k ∷ ks) h = (h.0.kinds, kinds_fit same ctx fs k
 kinds_fit same ctx [] (k ∷ ks) h = absurd h
 kinds_fit same ctx (f ∷ fs) [] h = absurd h
 
-same_results : (r : Option Kind) → result_as_list r ≡ results_of r
+pub same_results : (r : Option Kind) → result_as_list r ≡ results_of r
 same_results None = refl
 same_results (Some k) = refl
 

@@ -4,6 +4,7 @@ use Rattle.std.proofs.lemmas.Bool.{and_parts, cond_both, true≢false}
 use Rattle.c_values.specs.Name.{Name, same_name, are_distinct}
 use Rattle.c_values.specs.Layout.{IsLayout}
 use Rattle.c_values.proofs.Laid.{name_is}
+use Rattle.c_values.proofs.Options.{some_is}
 use Rattle.expression_lang.specs.Expression.{Exp, Var, WordLit, NumberLit, TruthLit}
 use Rattle.expression_lang.specs.Form.{is_part_of_value}
 use Rattle.expression_lang.specs.Sort.{Scalar, is_truth}
@@ -15,8 +16,8 @@ use Rattle.monad_lang.specs.Run.{start_names}
 use Rattle.monad_lang.specs.Names.{is_free}
 use Rattle.monad_lang.specs.Form.{are_vars, is_bind_ret, all_kept, is_true_guard, can_be_put}
 use Rattle.monad_lang.specs.Sorted.{Setting, setting_with, start_scalars, scalars_given, one_for_each, are_scalars, and_then_scalars, where_fits}
+use Rattle.monad_lang.proofs.Given.{then_parts, fits_parts, given_there}
 use Rattle.program_facts.specs.Substituted.{program_substituted}
-use Rattle.program_facts.proofs.Sorts.{some_is, then_parts, fits_parts, given_there}
 use Rattle.rule_trees.specs.RuleTree.{Tree, Trees, node, no_trees, tree}
 use Rattle.rule_eq.specs.Rule as R
 use Rattle.rule_eq.specs.Rule.{Rule, Point}

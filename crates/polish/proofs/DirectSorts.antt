@@ -4,12 +4,14 @@ use Rattle.std.proofs.lemmas.Bool.{and_parts}
 use Rattle.c_values.specs.Name.{Name, are_distinct}
 use Rattle.c_values.specs.Types.{CType, address_width}
 use Rattle.c_values.specs.Layout.{Layout, Shape, is_object, shape_of}
+use Rattle.c_values.proofs.Options.{none_is}
 use Rattle.expression_lang.specs.Expression.{Exp, Sel, Upd, Path}
 use Rattle.expression_lang.specs.Form.{has, path_has, is_part_of_value}
 use Rattle.expression_lang.specs.Sort.{Scalar, Sort, Of, PartsSort, Scope, sort_of, shape_along, is_truth, is_word_of}
 use Rattle.expression_lang.specs.Sorted.{program_sort, scalar_in, with_scalar, scalars_of, sort_in, part_place, global_place, fits_place, call_scalars}
 use Rattle.expression_lang.specs.Signature.{signature}
 use Rattle.expression_lang.proofs.Inversion.{truth_inv, word_of_inv}
+use Rattle.expression_lang.proofs.SortParts.{only_where}
 use Rattle.ac_expr.specs.Fact.{Fact, Whole}
 use Rattle.ac_expr.specs.Heads.{head}
 use Rattle.ac_expr.proofs.PartsSorted.{path_sorted}
@@ -17,7 +19,8 @@ use Rattle.monad_lang.specs.Program as M
 use Rattle.monad_lang.specs.Program.{Mon, Place, Start}
 use Rattle.monad_lang.specs.Run.{start_names}
 use Rattle.monad_lang.specs.Sorted.{setting_with, start_scalars, place_sort, scalars_given, and_then_scalars, where_fits, are_scalars}
-use Rattle.program_facts.proofs.Sorts.{none_is, then_parts, fits_parts, call_parts}
+use Rattle.monad_lang.proofs.Given.{then_parts, fits_parts}
+use Rattle.program_facts.proofs.Sorts.{call_parts}
 use Rattle.rule_eq.specs.Rule.{Point}
 use Rattle.rule_eq.specs.Table.{within}
 use Rattle.expression_steps.specs.Rewritten.{Choice, first_step, path_step, list_step, start_step, place_step}
@@ -47,10 +50,6 @@ both_fit : (o q : Option Sort) → fits_place o q ≡ true → ((r : Sort) × (o
 both_fit (Some r) (Some t) h = ((r, refl), (t, refl))
 both_fit (Some r) None h = absurd cc
 both_fit None q h = absurd cc
-
-only_true : (b : Bool) (o : Option Sort) (r : Sort) → cond b o None ≡ Some r → (b ≡ true) × (o ≡ Some r)
-only_true true o r h = (refl, h)
-only_true false o r h = absurd cc
 
 only_false : (b : Bool) (o : Option Sort) (r : Sort) → cond b None o ≡ Some r → (b ≡ false) × (o ≡ Some r)
 only_false true o r h = absurd cc
@@ -111,7 +110,7 @@ module _ (g : Scope) (f : Choice) (keeps : KeepsSorts g f) (whole : KeepsFree is
       ((x : Exp) → first_step f fs p ≡ Some x → place_sort g (k x path) ≡ place_sort g (k p path)) ×
       ((y : Path) → path_step f fs path ≡ Some y → place_sort g (k p y) ≡ place_sort g (k p path))
   rooted_step fs t p path k i o c =
-      let j = only_true (is_object g.layout t && width (program_sort g p)) (part_place g t path) o (sym (i p path) ∙ c) in
+      let j = only_where (is_object g.layout t && width (program_sort g p)) (part_place g t path) o (sym (i p path) ∙ c) in
       let w = and_parts (is_object g.layout t) (width (program_sort g p)) j.0 in (
         λ x h.
             i x path ∙ ap (λ q. cond (is_object g.layout t && width q) (part_place g t path) None)
@@ -126,7 +125,7 @@ module _ (g : Scope) (f : Choice) (keeps : KeepsSorts g f) (whole : KeepsFree is
       global_place g q path ≡ Some o → global_place g q r ≡ global_place g q path
   global_step fs None path r h o c = refl
   global_step fs (Some t) path r h o c =
-      let j = only_true (is_object g.layout t) (part_place g t path) o c in
+      let j = only_where (is_object g.layout t) (part_place g t path) o c in
       ap (λ q. cond (is_object g.layout t) q None) (part_step fs t path r h o j.1)
 
   place_kept : (fs : List Fact) (place r : Place) → place_step f fs place ≡ Some r → (o : Sort) → place_sort g place ≡ Some o →

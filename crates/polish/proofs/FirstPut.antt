@@ -1,21 +1,14 @@
 -- The first value that can be put in, with the names before it in their order.
-use Rattle.std.proofs.Common.{◌≡◌, ℕ, zero, ◌+◌, Bool, true, false, cond, not, ◌&&◌, ◌||◌, List, [], ◌∷◌, ◌++◌, Option, Some, None, refl, sym, ap, ◌∙◌, arith}
+use Rattle.std.proofs.Common.{◌≡◌, ℕ, zero, ◌+◌, true, false, cond, not, ◌&&◌, ◌||◌, List, [], ◌∷◌, ◌++◌, Option, Some, None, refl, sym, ap, ◌∙◌, arith}
 use Rattle.std.proofs.Math.Bool.{or-false, or_comm}
 use Rattle.c_values.specs.Name.{Name, same_name, is_among}
 use Rattle.expression_lang.specs.Expression.{Exp, Var, WordLit, NumberLit, TruthLit}
 use Rattle.monad_lang.specs.Program.{Mon}
 use Rattle.monad_lang.specs.Form.{can_be_put}
 use Rattle.monad_lang.specs.Names.{is_free, is_captured}
+use Rattle.value_putting.proofs.Putting.{among_both}
 use Rattle.polish.specs.Polished.{one_later, first_put, is_literal, first_constant}
 use Rattle.polish.specs.CodePutting.{put_later, put_behind}
-
-or_assoc : (a b c : Bool) → ((a || b) || c) ≡ (a || (b || c))
-or_assoc true b c = refl
-or_assoc false b c = refl
-
-among_both : (y : Name) (xs ys : List Name) → is_among y (xs ++ ys) ≡ (is_among y xs || is_among y ys)
-among_both y [] ys = refl
-among_both y (x ∷ xs) ys = ap (λ b. same_name y x || b) (among_both y xs ys) ∙ sym (or_assoc (same_name y x) (is_among y xs) (is_among y ys))
 
 -- names that are the same but for their order
 abbrev AreSame : List Name → List Name → Type 0

@@ -5,13 +5,13 @@ use Rattle.std.proofs.lemmas.Bool.{and_from, or_parts, lt-ltb}
 use Rattle.c_values.specs.Word.{Word, IsWord}
 use Rattle.c_values.specs.Value.{Value, Bits, Number, Truth, Parts}
 use Rattle.c_values.specs.Layout.{Layout, IsLayout}
+use Rattle.c_values.proofs.Options.{none_is}
 use Rattle.expression_lang.specs.Expression.{Exp, Var, WordLit, NumberLit, TruthLit, WordBinary, WordShift, WordUnary, WordCompare, Cast, ToNat, ToInt, ToWord, Arith, Negate, Lt, Le, Between, Eq, And, Or, Imp, Not, If, Padd, At, Load, Read, Tagged, PtrOk, Global, Sel, Upd}
 use Rattle.expression_lang.specs.Form.{has, is_part_of_value}
 use Rattle.expression_lang.specs.Sort.{WordSort, NumberSort, TruthSort, Sort, Of, PartsSort, Scope, sort_of, is_width, word_sort, where_holds}
 use Rattle.expression_lang.specs.Signature.{no_env}
 use Rattle.expression_lang.proofs.Fine.{HasSort, fine}
 use Rattle.ac_expr.specs.Step.{is_open, no_state, constant_value, is_wide, AreConstants, constant, IsItsValue}
-use Rattle.program_facts.proofs.Sorts.{none_is}
 use Rattle.ac_expr.specs.CodeConstants.{computed, as_constant}
 use Rattle.ac_expr.proofs.ConstantsSound.{right}
 use Rattle.expression_steps.specs.Rewritten.{nodes}

@@ -1,8 +1,8 @@
 -- What programs are polished to keeps the forms of programs on bytes, on typed heaps and on numbers.
-use Rattle.std.proofs.Common.{◌≡◌, ℕ, zero, suc, Bool, true, false, not, cond, ◌||◌, List, [], ◌∷◌, Option, Some, None, refl, sym, ap, ◌∙◌, subst}
+use Rattle.std.proofs.Common.{◌≡◌, ℕ, zero, suc, Bool, true, false, not, cond, ◌||◌, List, [], ◌∷◌, Option, Some, None, refl, sym, ap, subst}
 use Rattle.std.proofs.lemmas.Bool.{and_parts, and_from, or_parts, or_from, not-true, cond_both}
 use Rattle.c_values.specs.Name.{Name}
-use Rattle.expression_lang.specs.Expression.{Exp, Var, WordLit, NumberLit, TruthLit}
+use Rattle.expression_lang.specs.Expression.{Exp, WordLit, NumberLit, TruthLit}
 use Rattle.expression_lang.specs.Form.{has, is_load, is_read, is_word_arithmetic}
 use Rattle.expression_lang.specs.Sort.{Scope}
 use Rattle.ac_expr.specs.Fact.{Fact, Whole, NotTrue}
@@ -19,6 +19,7 @@ use Rattle.rule_eq.specs.Table.{AreTaken, taken_at, with_values, knowing, behind
 use Rattle.rule_eq.specs.Tidy.{KeepsForms}
 use Rattle.rule_eq.proofs.SimplerForms.{simpler_free}
 use Rattle.rule_eq.proofs.TidyPlaces.{put_stands}
+use Rattle.rule_eq.proofs.FormsKept.{written_head, stored_head, arithmetic_head, read_head, load_head, by_head}
 use Rattle.expression_steps.specs.Rewritten.{Choice, first_step, list_step, start_step, place_step, direct_nodes}
 use Rattle.polish.specs.Direct.{direct_step, more, direct_steps}
 use Rattle.expression_steps.specs.Shortened.{shortened}
@@ -291,33 +292,6 @@ module _ (test : Exp → Bool) (place_test : Place → Bool) (alike : (a b : Exp
     within_keeps (suc k) at m = polished_keeps (polished_within k) (within_keeps k) constants m at
 
 -- The forms
-
-pub load_head : (e : Exp) → is_load (head e) ≡ is_load e
-load_head (Var x) = refl
-load_head e = refl
-
-pub read_head : (e : Exp) → is_read (head e) ≡ is_read e
-read_head (Var x) = refl
-read_head e = refl
-
-pub arithmetic_head : (e : Exp) → is_word_arithmetic (head e) ≡ is_word_arithmetic e
-arithmetic_head (Var x) = refl
-arithmetic_head e = refl
-
-pub stored_head : (q : Place) → is_stored (place_head q) ≡ is_stored q
-stored_head (M.Stored t p path) = refl
-stored_head (M.Written t p path) = refl
-stored_head (M.Global x path) = refl
-
-pub written_head : (q : Place) → is_written (place_head q) ≡ is_written q
-written_head (M.Stored t p path) = refl
-written_head (M.Written t p path) = refl
-written_head (M.Global x path) = refl
-
--- a test of heads is the same for the same heads
-pub by_head : {A : Type 0} (test : A → Bool) (of : A → A) → ((a : A) → test (of a) ≡ test a) → (a b : A) → of b ≡ of a →
-    test b ≡ test a
-by_head test of h a b e = sym (h b) ∙ ap test e ∙ h a
 
 load_constant : (e : Exp) → IsConstant e → has is_load e ≡ false
 load_constant (WordLit w) c = refl

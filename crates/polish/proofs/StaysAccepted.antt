@@ -1,8 +1,8 @@
 -- Balanced, a tree takes a program where it took it.
 use Rattle.std.proofs.Common.{◌≡◌, ℕ, zero, suc, ◌%◌, Bool, true, false, nat_eq, List, [], ◌∷◌, ◌⊎◌, inl, inr, refl, sym, ◌∙◌, subst}
+use Rattle.c_values.proofs.Options.{some_is}
 use Rattle.expression_lang.specs.Sort.{Scalar}
 use Rattle.monad_lang.specs.Program.{Mon}
-use Rattle.program_facts.proofs.Sorts.{some_is}
 use Rattle.rule_trees.specs.RuleTree.{Tree, Trees, node, no_trees, tree, AcceptsAll}
 use Rattle.rule_eq.specs.Rule as R
 use Rattle.rule_eq.specs.Rule.{Rule, Point, Claim, does}

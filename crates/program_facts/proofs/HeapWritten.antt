@@ -1,5 +1,5 @@
 -- A write of a value of the place's shape leaves a heap that can be, at any index, in range or not.
-use Rattle.std.proofs.Common.{◌≡◌, ℕ, ◌*◌, ◌-◌, Bool, true, false, cond, List, [], ◌∷◌, ◌++◌, Option, Some, None, ℤ, pos, refl, sym, ap, ◌∙◌, subst}
+use Rattle.std.proofs.Common.{◌≡◌, ℕ, ◌*◌, ◌-◌, true, List, [], ◌∷◌, ◌++◌, Option, Some, None, ℤ, pos, refl, sym, ap, ◌∙◌, subst}
 use Rattle.std.specs.Prelude.{nat_le}
 use Rattle.c_values.specs.Types.{CType}
 use Rattle.c_values.specs.Value.{Value}
@@ -14,7 +14,7 @@ use Rattle.c_memory.proofs.Loaded.{store_bytes}
 use Rattle.c_memory.proofs.Cells.{tags_written}
 use Rattle.c_memory.proofs.Roots.{found_leads}
 use Rattle.expression_lang.proofs.Sorting.{object_whole}
-use Rattle.expression_lang.proofs.Good.{upd_put}
+use Rattle.expression_lang.proofs.Good.{upd_put, path_when}
 
 further_there : (z : ℤ) (o : Option Spot) (q : Spot) → o ≡ Some q → (f : Spot) × (further z o ≡ Some f) × (f.shape ≡ q.shape)
 further_there z None q e = absurd cc
@@ -35,10 +35,6 @@ spot_after (by_element {e = s} {i} {ps = root} m way) ps q e =
     let f = spot_after way ps q e in
     let g = further_there (pos (i * size s)) (spot s (root ++ ps)) f.0 f.1 in
     (g.0, g.1, g.2 ∙ f.2)
-
-path_when : (b : Bool) (o : Option (List Step)) (root : List Step) → cond b o None ≡ Some root → o ≡ Some root
-path_when true o root e = e
-path_when false o root e = absurd cc
 
 module _ (l : Layout) (h : IsLayout l) (t : CType) (object : is_object l t ≡ true) (a : ℕ) (ps : List Step) (q : Spot) (leads : spot (shape_of l t) ps ≡ Some q) (v : Value) (shaped : HasShape q.shape v) where
   cells_written : (cells : TypedHeap) → AreTags l (tags_of cells) → CellsFit l cells → CellsFit l (write_cells l cells t a ps v)

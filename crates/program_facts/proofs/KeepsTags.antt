@@ -16,7 +16,7 @@ use Rattle.monad_lang.specs.Program.{Place, Stored, Written, Global, Mon, Ret, B
 use Rattle.monad_lang.specs.Run.{Runs, written, runs, function_runs, bodies, functions_below, program_runs}
 use Rattle.program_facts.specs.Lasting.{KeepsTags, FunctionKeepsTags, AllKeepTags}
 
-heap_written : (l : Layout) (h : Heap) (t : CType) (a : ℕ) (path : List Step) (v : Value) → heap_tags (write_heap l h t a path v) ≡ heap_tags h
+pub heap_written : (l : Layout) (h : Heap) (t : CType) (a : ℕ) (path : List Step) (v : Value) → heap_tags (write_heap l h t a path v) ≡ heap_tags h
 heap_written l (OnBytes m) t a path v = refl
 heap_written l (OnTypes cells) t a path v = tags_written l cells t a path v
 

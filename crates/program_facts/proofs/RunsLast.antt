@@ -10,33 +10,25 @@ use Rattle.c_values.specs.Value.{Value, Bits, Number, Truth, Parts}
 use Rattle.c_values.specs.Word.{IsWord}
 use Rattle.c_values.specs.Layout.{Layout, IsLayout, GlobalVar, global_type}
 use Rattle.c_values.specs.Choice.{Choice, Any, Fill, picked}
+use Rattle.c_values.proofs.Options.{some_is}
 use Rattle.expression_lang.specs.Sort.{Scalar, WordSort, NumberSort, TruthSort, Kind, WordKind, NatKind, IntKind, BoolKind, Scope, is_truth, is_kind, are_kinds, sort_of_kind}
 use Rattle.expression_lang.specs.Sorted.{program_sort, scalars_of, same_scalars, fits_place, result_scalars, call_scalars}
 use Rattle.expression_lang.specs.Signature.{Signature, Invocation, names_of, kinds_of, signature, values_of, bound, no_env}
 use Rattle.expression_lang.specs.Evaluation.{Env, State, value, holds}
 use Rattle.expression_lang.specs.States.{IsOfSort, IsEnvironment, IsState}
 use Rattle.expression_lang.specs.View.{IsTruth, picked_at}
-use Rattle.expression_lang.proofs.Good.{is_word}
+use Rattle.expression_lang.proofs.SameScalars.{same_scalars_are}
+use Rattle.expression_lang.proofs.Filled.{word_fits}
 use Rattle.monad_lang.specs.Program.{Mon, Ret, Bind, Guard, If, Write, Loop, Call, Pick, FinalFn, FinalUnit, final_fn}
 use Rattle.monad_lang.specs.Run.{Answer, Failure, Runs, start_names, start_values, runs, function_runs, bodies, functions_below}
-use Rattle.monad_lang.specs.Sorted.{Setting, setting_with, start_scalars, are_scalars, place_sort, where_fits, and_then_scalars, one_for_each, scalars_given, signature_of, has_few, is_fn_sorted, are_fns_sorted, IsWellFormed}
+use Rattle.monad_lang.specs.Sorted.{Setting, setting_with, start_scalars, are_scalars, place_sort, where_fits, one_for_each, scalars_given, signature_of, has_few, is_fn_sorted, are_fns_sorted, IsWellFormed}
+use Rattle.monad_lang.proofs.Given.{then_parts, fits_parts, given_there}
 use Rattle.program_facts.specs.Lasting.{AreOfSorts, Lasts, FunctionLasts, AllLast, setting_in, setting_for, is_sorted_for, are_sorted_for, UnitLasts}
 use Rattle.program_facts.proofs.KeptAlong.{Keeps, loop_keeps, choose_always, done_always}
 use Rattle.program_facts.proofs.KeepsTags.{place_keeps_tags}
-use Rattle.program_facts.proofs.SortedValues.{bound_sorted, same_scalars_are, are_scalars_inv, values_sorted, starts_sorted, place_written}
-
-some_is : {A : Type 0} {a b : A} → ◌≡◌ {A = Option A} (Some a) (Some b) → a ≡ b
-some_is h = cc
+use Rattle.program_facts.proofs.SortedValues.{bound_sorted, values_sorted, starts_sorted, place_written}
 
 -- where a program has scalars
-
-fits_where : (b : Bool) (o : Option (List Scalar)) (cs : List Scalar) → where_fits b o ≡ Some cs → (b ≡ true) × (o ≡ Some cs)
-fits_where true o cs h = (refl, h)
-fits_where false o cs h = absurd cc
-
-and_then_inv : (o : Option (List Scalar)) (f : List Scalar → Option (List Scalar)) (cs : List Scalar) → and_then_scalars o f ≡ Some cs → (ds : List Scalar) × (o ≡ Some ds) × (f ds ≡ Some cs)
-and_then_inv (Some ds) f cs h = (ds, refl, h)
-and_then_inv None f cs h = absurd cc
 
 -- a call that fits its signature
 pub record CallFits (sort_for : Kind → Scalar) (o : Option Signature) (es cs : List Scalar) : Type 0 where
@@ -61,7 +53,7 @@ call_inv sort_for None None cs h = absurd cc
 
 picked_word : (p : Choice) (n : ℕ) → Always {F = Failure} (IsWord n) (picked p n)
 picked_word Any n w h = h
-picked_word (Fill k) n w h = subst (IsWord n) (sym h) (is_word n (pos k))
+picked_word (Fill k) n w h = subst (IsWord n) (sym h) (word_fits n (pos k))
 
 truth_sorted : (v : Value) → IsTruth v → IsOfSort TruthSort v
 truth_sorted (Truth b) h = tt
@@ -100,25 +92,25 @@ module _ (p : Choice) (vs : List GlobalVar) where
   runs_last (Ret es) t cs h known sorted env names depth gs k s state =
       done_always (From t cs s) _ (record { values = values_sorted t.scope h vs known env names s state es cs sorted; state = state; tags = refl })
   runs_last (Bind m xs n) t cs h known sorted env names depth gs k s state =
-      let i = and_then_inv (scalars_given t m) (λ ss. where_fits (one_for_each xs ss && are_distinct xs) (scalars_given (setting_with xs ss t) n)) cs sorted in
-      let j = fits_where (one_for_each xs i.0 && are_distinct xs) (scalars_given (setting_with xs i.0 t) n) cs i.2 in
+      let i = then_parts (scalars_given t m) (λ ss. where_fits (one_for_each xs ss && are_distinct xs) (scalars_given (setting_with xs ss t) n)) cs sorted in
+      let j = fits_parts (one_for_each xs i.0 && are_distinct xs) (scalars_given (setting_with xs i.0 t) n) cs i.2 in
       then_always (From t i.0 s) (From t cs s) _ _ (runs_last m t i.0 h known i.1 env names depth gs k s state)
       (λ a r b e. after t i.0 cs s a b r
       (runs_last n (setting_with xs i.0 t) cs h known j.1 (bound xs a.values env) (bound_sorted t.scope xs i.0 a.values env r.values names) depth gs k a.state r.state b e))
   runs_last (Guard e) t cs h known sorted env names depth gs k s state =
-      let i = fits_where (is_truth (program_sort t.scope e)) (Some []) cs sorted in
+      let i = fits_parts (is_truth (program_sort t.scope e)) (Some []) cs sorted in
       choose_always (From t cs s) (holds t.scope.layout env s e) _ _
       (λ j. done_always (From t cs s) _ (record { values = subst (λ ds. AreOfSorts ds []) (some_is i.1) tt; state = state; tags = refl })) (λ j a r. absurd r)
   runs_last (If e m n) t cs h known sorted env names depth gs k s state =
-      let i = and_then_inv (scalars_given t m) (λ ss. where_fits (is_truth (program_sort t.scope e) && are_scalars ss (scalars_given t n)) (Some ss)) cs sorted in
-      let j = fits_where (is_truth (program_sort t.scope e) && are_scalars i.0 (scalars_given t n)) (Some i.0) cs i.2 in
+      let i = then_parts (scalars_given t m) (λ ss. where_fits (is_truth (program_sort t.scope e) && are_scalars ss (scalars_given t n)) (Some ss)) cs sorted in
+      let j = fits_parts (is_truth (program_sort t.scope e) && are_scalars i.0 (scalars_given t n)) (Some i.0) cs i.2 in
       let same = some_is j.1 in
       let b = and_parts (is_truth (program_sort t.scope e)) (are_scalars i.0 (scalars_given t n)) j.0 in
       choose_always (From t cs s) (holds t.scope.layout env s e) _ _
       (λ q. runs_last m t cs h known (i.1 ∙ ap (λ ds. Some ds) same) env names depth gs k s state)
-      (λ q. runs_last n t cs h known (are_scalars_inv i.0 (scalars_given t n) b.1 ∙ ap (λ ds. Some ds) same) env names depth gs k s state)
+      (λ q. runs_last n t cs h known (given_there i.0 (scalars_given t n) b.1 ∙ ap (λ ds. Some ds) same) env names depth gs k s state)
   runs_last (Write place e) t cs h known sorted env names depth gs k s state =
-      let i = fits_where (fits_place (place_sort t.scope place) (program_sort t.scope e)) (Some []) cs sorted in
+      let i = fits_parts (fits_place (place_sort t.scope place) (program_sort t.scope e)) (Some []) cs sorted in
       done_always (From t cs s) _ (record {
         values = subst (λ ds. AreOfSorts ds []) (some_is i.1) tt;
         state = place_written t.scope h vs known env names s state place e i.0;
@@ -127,12 +119,12 @@ module _ (p : Choice) (vs : List GlobalVar) where
   runs_last (Loop starts guard test m) t cs h known sorted env names depth gs k s state =
       let xs = start_names starts in
       let inner : List Scalar → Setting = λ ss. setting_with xs ss t in
-      let i = and_then_inv (start_scalars t.scope starts)
+      let i = then_parts (start_scalars t.scope starts)
       (λ ss. where_fits (are_distinct xs && is_truth (program_sort (inner ss).scope guard) && is_truth (program_sort (inner ss).scope test) && are_scalars ss (scalars_given (inner ss) m)) (Some ss)) cs sorted in
       let all = are_distinct xs && is_truth (program_sort (inner i.0).scope guard) && is_truth (program_sort (inner i.0).scope test) in
-      let j = fits_where (all && are_scalars i.0 (scalars_given (inner i.0) m)) (Some i.0) cs i.2 in
+      let j = fits_parts (all && are_scalars i.0 (scalars_given (inner i.0) m)) (Some i.0) cs i.2 in
       let same = some_is j.1 in
-      let body = are_scalars_inv i.0 (scalars_given (inner i.0) m) (and_parts all (are_scalars i.0 (scalars_given (inner i.0) m)) j.0).1 in
+      let body = given_there i.0 (scalars_given (inner i.0) m) (and_parts all (are_scalars i.0 (scalars_given (inner i.0) m)) j.0).1 in
       let F : Answer → Type 0 = From t i.0 s in
       let K : Answer ⊎ Answer → Type 0 = Keeps F F in
       subst (λ ds. Always (From t ds s) (runs t.scope.layout p (Loop starts guard test m) env depth gs s)) same
@@ -151,7 +143,7 @@ module _ (p : Choice) (vs : List GlobalVar) where
       subst (λ ds. Always (From t ds s) (runs t.scope.layout p (Call f es) env depth gs s)) fit.result
       (called_lasts t.scope.layout vs t.sort_for t.functions gs k depth (record { name = f; arguments = values_of t.scope.layout env s es; state = s }) fit.found fit.there given state)
   runs_last (Pick q) t cs h known sorted env names depth gs k s state =
-      let i = fits_where (is_kind q) (Some (sort_of_kind q ∷ [])) cs sorted in
+      let i = fits_parts (is_kind q) (Some (sort_of_kind q ∷ [])) cs sorted in
       then_always (IsOfSort (sort_of_kind q)) (From t cs s) _ _ (picked_sorted p q)
       (λ v r. done_always (From t cs s) _ (record { values = subst (λ ds. AreOfSorts ds (v ∷ [])) (some_is i.1) (r, tt); state = state; tags = refl }))
 
@@ -193,7 +185,7 @@ module _ (sort_for : Kind → Scalar) (u : FinalUnit) where
         Always (Lasts u.layout u.globals (result_scalars sort_for (signature_of f).result) c.state) (function_runs u.layout p (Some f) depth gs c)
     body_lasts f k depth gs q c given state =
         let b = and_parts (has_few f.results) (are_scalars (map sort_for f.results) (scalars_given (setting_for sort_for u f) f.body)) k in
-        let gives = are_scalars_inv (map sort_for f.results) (scalars_given (setting_for sort_for u f) f.body) b.1 in
+        let gives = given_there (map sort_for f.results) (scalars_given (setting_for sort_for u f) f.body) b.1 in
         let start : Scope = record { layout = u.layout; names = λ x. None; globals = global_type u.globals } in
         runs_last p u.globals f.body (setting_for sort_for u f) (result_scalars sort_for (signature_of f).result) h refl (gives ∙ ap (λ ds. Some ds) (results_are sort_for f b.0))
         (bound (names_of f.params) c.arguments no_env) (bound_sorted start (names_of f.params) (map sort_for (kinds_of f.params)) c.arguments no_env given (λ x e n. absurd cc)) depth gs q c.state state

@@ -1,32 +1,29 @@
 -- The values of well-sorted expressions are of their sorts, names that are bound to such values have them, and a well-sorted write
 -- leaves a state that can be.
-use Rattle.std.proofs.Common.{◌≡◌, Bool, true, false, cond, ◌&&◌, List, [], ◌∷◌, Option, Some, None, refl, sym, ap, ap₂, ◌∙◌, subst}
-use Rattle.std.proofs.lemmas.Bool.{and_parts, eqb-true, cond_both}
+use Rattle.std.proofs.Common.{◌≡◌, Bool, true, false, cond, ◌&&◌, List, [], ◌∷◌, Option, Some, None, refl, sym, ap, ◌∙◌, subst}
+use Rattle.std.proofs.lemmas.Bool.{and_parts, cond_both}
 use Rattle.c_values.specs.Name.{Name, same_name, with_name}
 use Rattle.c_values.specs.Types.{CType, address_width}
 use Rattle.c_values.specs.Value.{Value, word_in}
-use Rattle.c_values.specs.Layout.{Layout, IsLayout, GlobalVar, Shape, Incomplete, Scalar as WordShape, Record, Row, shape_of, is_object, global_type}
+use Rattle.c_values.specs.Layout.{IsLayout, GlobalVar, Shape, shape_of, is_object, global_type}
 use Rattle.c_values.specs.Path.{Spot, spot, HasShape, upd}
-use Rattle.c_values.proofs.Laid.{structs_of, name_is}
-use Rattle.c_values.proofs.Parts.{laid_shape}
+use Rattle.c_values.proofs.Laid.{name_is}
+use Rattle.c_values.proofs.Options.{some_is}
 use Rattle.expression_lang.specs.Expression.{Exp, Path}
-use Rattle.expression_lang.specs.Sort.{Scalar, WordSort, NumberSort, TruthSort, Sort, Of, PartsSort, Scope, sort_of, sort_at, shape_along, same_scalar, is_word_of}
-use Rattle.expression_lang.specs.Sorted.{names_with, scope_with, program_sort, scalar_in, with_scalar, scalars_of, same_scalars, sort_in, part_place, typed_place, global_place, fits_place}
-use Rattle.expression_lang.specs.Form.{has, path_has, is_part_of_value}
+use Rattle.expression_lang.specs.Sort.{Scalar, Sort, Of, Scope, sort_of, sort_at, shape_along, is_word_of}
+use Rattle.expression_lang.specs.Sorted.{names_with, scope_with, program_sort, scalar_in, scalars_of, sort_in, part_place, typed_place, global_place, fits_place}
+use Rattle.expression_lang.specs.Form.{path_has, is_part_of_value}
 use Rattle.expression_lang.specs.Signature.{values_of, bound}
 use Rattle.expression_lang.specs.Evaluation.{Env, State, value, steps}
 use Rattle.expression_lang.specs.States.{IsOfSort, IsEnvironment, IsState}
 use Rattle.expression_lang.proofs.Good.{Good, good_object, good_spot, upd_put}
-use Rattle.expression_lang.proofs.Inversion.{same_inv}
 use Rattle.expression_lang.proofs.Fine.{HasSort, fine, fine_path}
+use Rattle.expression_lang.proofs.SortParts.{with_scalar_inv, scalar_in_inv, without_parts, program_sort_inv, fits_inv, only_where, sort_in_inv, value_shaped}
 use Rattle.monad_lang.specs.Program.{Place, Stored, Written, Global, Start}
 use Rattle.monad_lang.specs.Run.{start_values, written}
-use Rattle.monad_lang.specs.Sorted.{start_scalars, are_scalars, place_sort}
+use Rattle.monad_lang.specs.Sorted.{start_scalars, place_sort}
 use Rattle.program_facts.specs.Lasting.{AreOfSorts}
 use Rattle.program_facts.proofs.HeapWritten.{heap_written}
-
-some_is : {A : Type 0} {a b : A} → ◌≡◌ {A = Option A} (Some a) (Some b) → a ≡ b
-some_is h = cc
 
 -- names that are bound to values of scalars
 
@@ -47,68 +44,6 @@ pub bound_sorted : (g : Scope) (xs : List Name) (cs : List Scalar) (vs : List Va
 bound_sorted g xs cs vs env h k = names_bound xs cs vs g.names env h k
 
 -- lists of scalars
-
-same_scalar_is : (a b : Scalar) → same_scalar a b ≡ true → a ≡ b
-same_scalar_is (WordSort m) (WordSort n) h = ap (λ k. WordSort k) (eqb-true m n h)
-same_scalar_is NumberSort NumberSort h = refl
-same_scalar_is TruthSort TruthSort h = refl
-same_scalar_is (WordSort m) NumberSort h = absurd cc
-same_scalar_is (WordSort m) TruthSort h = absurd cc
-same_scalar_is NumberSort (WordSort n) h = absurd cc
-same_scalar_is NumberSort TruthSort h = absurd cc
-same_scalar_is TruthSort (WordSort n) h = absurd cc
-same_scalar_is TruthSort NumberSort h = absurd cc
-
-pub same_scalars_are : (as' bs : List Scalar) → same_scalars as' bs ≡ true → as' ≡ bs
-same_scalars_are [] [] h = refl
-same_scalars_are (a ∷ as') (b ∷ bs) h = let p = and_parts (same_scalar a b) (same_scalars as' bs) h in ap₂ (λ c cs. c ∷ cs) (same_scalar_is a b p.0) (same_scalars_are as' bs p.1)
-same_scalars_are [] (b ∷ bs) h = absurd cc
-same_scalars_are (a ∷ as') [] h = absurd cc
-
-pub are_scalars_inv : (cs : List Scalar) (o : Option (List Scalar)) → are_scalars cs o ≡ true → o ≡ Some cs
-are_scalars_inv cs (Some ds) h = ap (λ es. Some es) (sym (same_scalars_are cs ds h))
-are_scalars_inv cs None h = absurd cc
-
-with_scalar_inv : (o : Option Scalar) (p : Option (List Scalar)) (cs : List Scalar) → with_scalar o p ≡ Some cs → (d : Scalar) × (ds : List Scalar) × (o ≡ Some d) × (p ≡ Some ds) × (d ∷ ds ≡ cs)
-with_scalar_inv (Some d) (Some ds) cs h = (d, ds, refl, refl, some_is h)
-with_scalar_inv (Some d) None cs h = absurd cc
-with_scalar_inv None (Some ds) cs h = absurd cc
-with_scalar_inv None None cs h = absurd cc
-
-scalar_in_inv : (o : Option Sort) (c : Scalar) → scalar_in o ≡ Some c → o ≡ Some (Of c)
-scalar_in_inv (Some (Of d)) c h = ap (λ e. Some (Of e)) (some_is h)
-scalar_in_inv (Some (PartsSort t)) c h = absurd cc
-scalar_in_inv None c h = absurd cc
-
-without_parts : (b : Bool) (p : Option Sort) (o : Sort) → cond b None p ≡ Some o → p ≡ Some o
-without_parts true p o h = absurd cc
-without_parts false p o h = h
-
-pub program_sort_inv : (g : Scope) (e : Exp) (o : Sort) → program_sort g e ≡ Some o → sort_of g e ≡ Some o
-program_sort_inv g e o h = without_parts (has is_part_of_value e) (sort_of g e) o h
-
-fits_inv : (a b : Option Sort) → fits_place a b ≡ true → (o : Sort) × (a ≡ Some o) × (b ≡ Some o)
-fits_inv (Some a) (Some b) h = same_inv (Some a) (Some b) h
-fits_inv (Some a) None h = absurd cc
-fits_inv None (Some b) h = absurd cc
-fits_inv None None h = absurd cc
-
-only_where : (b : Bool) (p : Option Sort) (o : Sort) → cond b p None ≡ Some o → (b ≡ true) × (p ≡ Some o)
-only_where true p o h = (refl, h)
-only_where false p o h = absurd cc
-
-sort_in_inv : (o : Option Shape) (r : Sort) → sort_in o ≡ Some r → (q : Shape) × (o ≡ Some q) × (sort_at q ≡ Some r)
-sort_in_inv (Some q) r h = (q, refl, h)
-sort_in_inv None r h = absurd cc
-
--- a value of the sort of a good shape is of the shape
-value_shaped : (l : Layout) (q : Shape) (o : Sort) (v : Value) → Good l q → sort_at q ≡ Some o → HasSort l o v → HasShape q v
-value_shaped l Incomplete o v k e x = absurd cc
-value_shaped l (WordShape t n) o v k e x = subst (λ p. HasSort l p v) (sym (some_is e)) x
-value_shaped l (Record y n align fs) o v k e x =
-    subst (λ r. HasShape r v) (laid_shape l.target (structs_of l) (Record y n align fs) k.laid) (subst (λ p. HasSort l p v) (sym (some_is e)) x)
-value_shaped l (Row r n) o v k e x =
-    subst (λ s. HasShape s v) (laid_shape l.target (structs_of l) (Row r n) k.laid) (subst (λ p. HasSort l p v) (sym (some_is e)) x)
 
 module _ (g : Scope) (h : IsLayout g.layout) (vs : List GlobalVar) (known : g.globals ≡ global_type vs) (env : Env) (names : IsEnvironment g env) (s : State) (state : IsState g.layout vs s) where
   globals_there : (x : Name) (t : CType) → g.globals x ≡ Some t → HasShape (shape_of g.layout t) (s.globals x)

@@ -4,6 +4,7 @@ use Rattle.std.proofs.lemmas.Bool.{and_parts, false≢true}
 use Rattle.std.specs.Prelude.{IsSome, string_bytes}
 use Rattle.c_values.specs.Name.{Name}
 use Rattle.c_values.specs.Value.{Value}
+use Rattle.c_values.proofs.Options.{some_is, none_is}
 use Rattle.expression_lang.specs.declared.signatures.Binder as D
 use Rattle.expression_lang.specs.Expression.{Exp}
 use Rattle.expression_lang.specs.Sort.{Scalar, Kind, sort_of_kind}
@@ -15,8 +16,9 @@ use Rattle.expression_lang.specs.CodeSignature.{binder_of}
 use Rattle.expression_lang.specs.CodeState.{Bindings, env_of}
 use Rattle.monad_lang.specs.Program.{Call, FinalFn, FinalUnit, final_fn}
 use Rattle.monad_lang.specs.Sorted.{IsWellFormed, signature_of, setting_of, scalars_given, are_scalars, has_few}
+use Rattle.monad_lang.proofs.Given.{given_there}
 use Rattle.program_facts.specs.Lasting.{AreOfSorts}
-use Rattle.program_facts.proofs.Sorts.{some_is, none_is, given_there, call_parts}
+use Rattle.program_facts.proofs.Sorts.{call_parts}
 use Rattle.program_facts.proofs.SortedValues.{values_sorted}
 use Rattle.program_facts.proofs.RunsLast.{found, sorted_at_kinds}
 use Rattle.program_runs.specs.declared.machine.Pending as W

@@ -1,8 +1,8 @@
 -- Programs cost something, and a function's program no more than all of them.
 use Rattle.std.proofs.Common.{◌≡◌, ℕ, ◌+◌, ◌<◌, ◌≤◌, Bool, true, false, cond, List, [], ◌∷◌, Some, subst, arith}
 use Rattle.c_values.specs.Name.{Name, same_name}
+use Rattle.c_values.proofs.Options.{some_is, none_is}
 use Rattle.monad_lang.specs.Program.{Mon, Ret, Bind, Guard, If, Write, Loop, Call, Pick, FinalFn, final_fn}
-use Rattle.program_facts.proofs.Sorts.{none_is, some_is}
 use Rattle.program_runs.specs.Machine.{turning, calling, cost, cost_of_all}
 
 pub turning_some : (body : List ℕ → ℕ) (gs : List ℕ) → 0 < turning body gs

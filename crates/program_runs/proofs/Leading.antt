@@ -7,6 +7,8 @@ use Rattle.correspondence.specs.Outcome.{Outcome, Done, Failed, Ends, goes_on, c
 use Rattle.c_values.specs.Value.{Value}
 use Rattle.c_values.specs.Choice.{Fill}
 use Rattle.c_values.specs.Layout.{IsLayout}
+use Rattle.c_values.proofs.Options.{some_is}
+use Rattle.c_memory.proofs.Indexed.{is_some_of}
 use Rattle.expression_lang.specs.Expression.{Exp}
 use Rattle.expression_lang.specs.Sort.{Scalar, Sort, Scope, sort_of, Kind, WordKind, NatKind, IntKind, BoolKind, is_kind, sort_of_kind, is_truth}
 use Rattle.expression_lang.specs.Sorted.{program_sort, fits_place}
@@ -16,19 +18,19 @@ use Rattle.expression_lang.specs.Signature.{values_of}
 use Rattle.expression_lang.specs.Wide.{Operation, wide, or_else}
 use Rattle.expression_lang.specs.View.{picked_at}
 use Rattle.expression_lang.specs.CodeState.{Bindings, env_of, AreScalars}
+use Rattle.expression_lang.proofs.Filled.{word_fits}
+use Rattle.expression_lang.proofs.SortParts.{program_sort_inv}
 use Rattle.monad_lang.specs.Program.{Place, Start, Mon, Ret, Guard, If, Write, Loop, Pick, FinalUnit}
 use Rattle.monad_lang.specs.Run.{Answer, start_names, start_values, written}
 use Rattle.monad_lang.specs.Sorted.{place_sort, where_fits, are_scalars, scalars_given}
 use Rattle.monad_lang.specs.declared.program.Start as S
 use Rattle.monad_lang.specs.CodeProgram.{start_of}
+use Rattle.monad_lang.proofs.Given.{then_parts, fits_parts}
 use Rattle.program_facts.specs.Lasting.{AreOfSorts}
-use Rattle.program_facts.proofs.Sorts.{some_is, then_parts, fits_parts}
-use Rattle.program_facts.proofs.SortedValues.{program_sort_inv, values_sorted, starts_sorted}
+use Rattle.program_facts.proofs.SortedValues.{values_sorted, starts_sorted}
 use Rattle.program_runs.specs.WideRun.{Trouble, Fails, unless, wide_among, wide_at_place, wide_at_starts}
 use Rattle.program_runs.specs.Machine.{Bound, Running, Turning, Gave, runs_at, setting_at, CanRun, Leads, Steps}
 use Rattle.program_runs.specs.CodeRun.{picked_value}
-use Rattle.expression_lang.proofs.Good.{is_word}
-use Rattle.program_runs.proofs.Lists.{some_here}
 use Rattle.program_runs.proofs.Bindings.{environment}
 use Rattle.program_runs.proofs.MachineSteps.{gives, if_not, loop_begins}
 
@@ -53,7 +55,7 @@ sort_there (Some c) h = (c, refl)
 sort_there None h = absurd (false≢true h)
 
 pub truth_sorted : (g : Scope) (e : Exp) → is_truth (program_sort g e) ≡ true → IsSome (sort_of g e)
-truth_sorted g e h = let p = sort_there (program_sort g e) h in some_here (sort_of g e) p.0 (program_sort_inv g e p.0 p.1)
+truth_sorted g e h = let p = sort_there (program_sort g e) h in is_some_of (sort_of g e) p.0 (program_sort_inv g e p.0 p.1)
 
 module _ (u : FinalUnit) (bs : Bindings) where
   pub guard_sorted : (e : Exp) → CanRun u bs (Guard e) → IsSome (sort_of (setting_at u bs).scope e)
@@ -121,7 +123,7 @@ picked_is k (IntKind n) = goes_on refl refl
 picked_is k BoolKind = refl
 
 pub picked_fits : (k : ℕ) (q : Kind) → IsOfSort (sort_of_kind q) (picked_value k q)
-picked_fits k (WordKind n) = is_word n (pos k)
+picked_fits k (WordKind n) = word_fits n (pos k)
 picked_fits k (NatKind n) = tt
 picked_fits k (IntKind n) = tt
 picked_fits k BoolKind = tt

@@ -4,9 +4,11 @@ use Rattle.std.proofs.lemmas.Bool.{and_parts}
 use Rattle.correspondence.specs.Outcome.{Limit, Turns as OutOfTurns, Depth, Outcome, Done, Failed, Stopped, Ends, done, fault, goes_on, fails, stops, Then, choose, continued}
 use Rattle.correspondence.specs.Bound.{called}
 use Rattle.correspondence.specs.Included.{Included}
+use Rattle.correspondence.proofs.Included.{included_itself, then_within, done_within}
 use Rattle.c_values.specs.Name.{Name, are_distinct}
 use Rattle.c_values.specs.Value.{Value}
 use Rattle.c_values.specs.Choice.{Fill}
+use Rattle.c_values.proofs.Options.{some_is}
 use Rattle.expression_lang.specs.Expression.{Exp}
 use Rattle.expression_lang.specs.Sort.{Scalar, is_truth, sort_of_kind}
 use Rattle.expression_lang.specs.Sorted.{program_sort}
@@ -17,32 +19,13 @@ use Rattle.expression_lang.specs.CodeState.{Bindings, env_of}
 use Rattle.monad_lang.specs.Program.{Start, Mon, Bind, If, Loop, Call, FinalFn, FinalUnit, final_fn}
 use Rattle.monad_lang.specs.Run.{Answer, start_names, start_values}
 use Rattle.monad_lang.specs.Sorted.{Setting, setting_with, scalars_given, start_scalars, are_scalars, where_fits, one_for_each, setting_of}
+use Rattle.monad_lang.proofs.Given.{then_parts, fits_parts, given_there}
 use Rattle.program_facts.specs.Lasting.{AreOfSorts}
-use Rattle.program_facts.proofs.Sorts.{some_is, then_parts, fits_parts, given_there}
 use Rattle.program_runs.specs.WideRun.{Trouble, Fails, IsWide, wide_runs, wide_entered, wide_among, wide_at_starts, unless, wide_function_runs, wide_functions_below}
 use Rattle.program_runs.specs.Bound.{Extends}
 use Rattle.program_runs.specs.Machine.{Bound, Turns, Pending, Rest, Turn, Caller, Now, Running, Turning, Gave, Machine, runs_at, turns_at, resumed, whole, cost, costs_below, setting_at, IsLoop, Resumes, IsSorted, Steps}
 use Rattle.program_runs.proofs.Bindings.{env_extended, scalars_extended, setting_extended}
 use Rattle.program_runs.proofs.Costs.{turning_some, cost_some, cost_of_one}
-
-then_within : {A B F : Type 0} (p q : Ends A F) (r : A → Ends B F) → Included p q → Included (Then p r) (Then q r)
-then_within {A} {B} {F} p q r h = record { each = at }
-  where
-    at : (o : Outcome B F) → Then p r o → Then q r o
-    at o (goes_on x y) = goes_on (h.each _ x) y
-    at (Failed f) (fails x) = fails (h.each _ x)
-    at (Stopped w) (stops x) = stops (h.each _ x)
-
-done_within : {A F : Type 0} (a : A) (p : Ends A F) → p (Done a) → Included (done a) p
-done_within {A} {F} a p h = record { each = at }
-  where
-    at : (o : Outcome A F) → done a o → p o
-    at (Done b) e = subst (λ c. p (Done c)) (sym e) h
-    at (Failed f) e = absurd e
-    at (Stopped w) e = absurd e
-
-same_ends : {A F : Type 0} (p : Ends A F) → Included p p
-same_ends p = record { each = λ o e. e }
 
 abbrev machine : List Pending → Now → State → Machine
 machine fs now s = record { stack = fs; now = now; state = s }
@@ -84,7 +67,7 @@ module _ (u : FinalUnit) (k : ℕ) where
         let o = then_parts (scalars_given (setting_at u bs) m) (λ ss. where_fits (one_for_each xs ss && are_distinct xs) (scalars_given (setting_with xs ss (setting_at u bs)) n)) h.here h.now.gives in
         let f = fits_parts (one_for_each xs o.0 && are_distinct xs) (scalars_given (setting_with xs o.0 (setting_at u bs)) n) h.here o.2 in
         record {
-          within = same_ends _;
+          within = included_itself _;
           less = omega arith;
           sorted = record {
             here = o.0;
@@ -137,7 +120,7 @@ module _ (u : FinalUnit) (k : ℕ) where
     }
 
     pub caller_goes_on : (vs : List Value) → IsSorted u (machine (Caller ∷ fs) (Gave vs) s) out → Steps u k out (machine (Caller ∷ fs) (Gave vs) s) (machine fs (Gave vs) s)
-    caller_goes_on vs h = record { within = same_ends _; less = omega arith; sorted = record { here = h.here; now = h.now; rest = h.rest } }
+    caller_goes_on vs h = record { within = included_itself _; less = omega arith; sorted = record { here = h.here; now = h.now; rest = h.rest } }
 
     pub turn_comes : (bs : Bindings) (t : Turns) (vs : List Value) → IsSorted u (machine (Turn bs t ∷ fs) (Gave vs) s) out →
         Steps u k out (machine (Turn bs t ∷ fs) (Gave vs) s) (machine fs (Turning bs t vs) s)

@@ -1,24 +1,12 @@
 -- What stands at a place of a list in which names are distinct is found by its name.
-use Rattle.std.proofs.Common.{◌≡◌, ℕ, zero, suc, ◌<◌, Bool, true, false, not, ◌||◌, List, [], ◌∷◌, length, get_or, map, Some, refl, sym, ap, ◌∙◌, subst, arith}
-use Rattle.std.proofs.lemmas.Bool.{and_parts, or_parts, false≢true, not-true, cond-true, cond-false, or_left as or_first, or_right}
+use Rattle.std.proofs.Common.{◌≡◌, ℕ, zero, suc, ◌<◌, true, not, List, [], ◌∷◌, length, get_or, map, Some, sym, ap, ◌∙◌, subst, arith}
+use Rattle.std.proofs.lemmas.Bool.{and_parts, not-true, cond-true, cond-false, or_second as or_first, or_right}
 use Rattle.std.specs.Prelude.{slice_get}
 use Rattle.std.specs.Option.{IsSomeAnd}
 use Rattle.c_values.specs.Name.{Name, same_name, is_among, are_distinct}
 use Rattle.c_values.specs.Program.{function_named}
-use Rattle.c_values.proofs.Laid.{name_is, same_name-refl}
-use Rattle.global_changes.proofs.Changed.{by_test}
-
-or_left : (a b : Bool) → a ≡ false → (a || b) ≡ true → b ≡ true
-or_left true b h k = absurd (false≢true (sym h))
-or_left false b h k = k
-
-apart : (x y : Name) (ys : List Name) → is_among x ys ≡ false → is_among y ys ≡ true → same_name x y ≡ false
-apart x y [] h k = absurd (false≢true k)
-apart x y (z ∷ ys) h k =
-    let p = or_parts (same_name x z) (is_among x ys) h in
-    by_test (same_name y z)
-    (λ b. subst (λ n. same_name x n ≡ false) (sym (name_is y z b)) p.0)
-    (λ b. apart x y ys p.1 (or_left (same_name y z) (is_among y ys) b k))
+use Rattle.c_values.proofs.Laid.{same_name-refl}
+use Rattle.global_changes.proofs.Indexed.{apart, get_some}
 
 module _ {F : Type 0} (name : F → Name) where
   among_at : (fs : List F) (k : ℕ) (f : F) → k < length fs → f ≡ get_or fs k f → is_among (name f) (map name fs) ≡ true
@@ -40,16 +28,6 @@ module _ {F : Type 0} (name : F → Name) where
       ∙ found_at fs k f p.1 lt' e
 
 -- what is at a place
-
-pub some_below : {X : Type 0} (P : X → Type 0) (xs : List X) (k : ℕ) → IsSomeAnd (slice_get xs k) P → k < length xs
-some_below P [] k h = absurd h
-some_below P (x ∷ xs) zero h = omega arith
-some_below P (x ∷ xs) (suc k) h = let less = some_below P xs k h in omega (arith, less)
-
-get_some : {X : Type 0} (xs : List X) (k : ℕ) (x : X) → k < length xs → x ≡ get_or xs k x → slice_get xs k ≡ Some x
-get_some [] k x lt e = absurd (omega arith)
-get_some (y ∷ xs) zero x lt e = ap Some (sym e)
-get_some (y ∷ xs) (suc k) x lt e = get_some xs k x (omega arith) e
 
 pub at_place : {X : Type 0} (P : X → Type 0) (xs : List X) (k : ℕ) (x : X) → k < length xs → x ≡ get_or xs k x → P x → IsSomeAnd (slice_get xs k) P
 at_place P xs k x lt e h = subst (λ o. IsSomeAnd o P) (sym (get_some xs k x lt e)) h

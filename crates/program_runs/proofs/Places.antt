@@ -1,12 +1,13 @@
 -- Writes: what a place and the expression are, and that the part takes a value of its shape.
-use Rattle.std.proofs.Common.{◌≡◌, ◌<◌, ◌^◌, ◌&&◌, ℕ, Bool, true, false, cond, Option, Some, None, refl}
+use Rattle.std.proofs.Common.{◌≡◌, ◌<◌, ◌&&◌, Bool, true, false, cond, Option, Some, None, refl}
 use Rattle.std.proofs.lemmas.Bool.{and_parts, false≢true, and_from}
 use Rattle.std.specs.Prelude.{IsSome}
 use Rattle.c_values.specs.Name.{Name}
 use Rattle.c_values.specs.Types.{Target, Ilp32, Lp64, CType, address_width}
 use Rattle.c_values.specs.Layout.{Layout, IsLayout, Shape, shape_of, space, is_object, global_type}
-use Rattle.c_values.specs.Path.{Spot, spot, HasShape, IsBits, upd}
-use Rattle.c_values.specs.Value.{Value, Bits, Number, Truth, Parts, word_in}
+use Rattle.c_values.specs.Path.{Spot, spot, HasShape, upd}
+use Rattle.c_values.specs.Value.{Value, word_in}
+use Rattle.c_memory.proofs.Indexed.{is_some_of}
 use Rattle.expression_lang.specs.Expression.{Exp, WordLit, Path}
 use Rattle.expression_lang.specs.Form.{has, path_has, is_part_of_value}
 use Rattle.expression_lang.specs.Sort.{Sort, Of, WordSort, Scope, sort_of, shape_along, is_word_of}
@@ -17,20 +18,15 @@ use Rattle.expression_lang.specs.CodeState.{Bindings, env_of, AreScalars}
 use Rattle.expression_lang.proofs.Good.{upd_put}
 use Rattle.expression_lang.proofs.Inversion.{word_of_inv}
 use Rattle.expression_lang.proofs.Fine.{fine_path}
+use Rattle.expression_lang.proofs.SortParts.{program_sort_inv}
 use Rattle.monad_lang.specs.Program.{Place, Stored, Global, Write, FinalUnit}
 use Rattle.monad_lang.specs.Run.{written}
 use Rattle.monad_lang.specs.Sorted.{place_sort}
-use Rattle.program_facts.proofs.Sorts.{fits_parts}
-use Rattle.program_facts.proofs.SortedValues.{program_sort_inv, value_sorted, written_shaped, place_written}
+use Rattle.monad_lang.proofs.Given.{fits_parts}
+use Rattle.program_facts.proofs.SortedValues.{value_sorted, written_shaped, place_written}
+use Rattle.global_changes.proofs.Indexed.{bits_below}
 use Rattle.program_runs.specs.Machine.{setting_at, CanRun}
 use Rattle.program_runs.proofs.Bindings.{environment}
-use Rattle.program_runs.proofs.Lists.{some_here}
-
-bits_below : (n : ℕ) (v : Value) → IsBits n v → (word_in v).bits < 2 ^ n
-bits_below n (Bits w) h = h.fits
-bits_below n (Number z) h = absurd h
-bits_below n (Truth b) h = absurd h
-bits_below n (Parts vs) h = absurd h
 
 both_fit : (o p : Option Sort) → fits_place o p ≡ true → IsSome o × IsSome p
 both_fit (Some s) (Some t) h = (refl, refl)
@@ -112,7 +108,7 @@ module _ (u : FinalUnit) (layout : IsLayout u.layout) (bs : Bindings) (all : Are
       let word = program_sort_inv g p _ (word_of_inv (address_width l.target) (program_sort g p) b.1) in
       record {
         object = b.0;
-        pointer = some_here (sort_of g p) _ word;
+        pointer = is_some_of (sort_of g p) _ word;
         address = bits_below (address_width l.target) (value l env s p) (value_sorted g layout u.globals refl env (environment u bs all) s state p (Of (WordSort (address_width l.target))) word);
         part = part_of t path e b.0 w.1;
       }

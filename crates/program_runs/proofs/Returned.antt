@@ -9,6 +9,7 @@ use Rattle.c_values.specs.Value.{Value}
 use Rattle.c_values.specs.Choice.{Fill}
 use Rattle.c_values.specs.declared.values.Value as V
 use Rattle.c_values.specs.CodeValue.{value_of}
+use Rattle.c_values.proofs.Options.{some_is, none_is}
 use Rattle.expression_lang.specs.Sort.{Kind, sort_of_kind}
 use Rattle.expression_lang.specs.Evaluation.{State}
 use Rattle.expression_lang.specs.States.{IsState}
@@ -17,8 +18,8 @@ use Rattle.expression_lang.specs.CodeState.{Bindings, env_of}
 use Rattle.monad_lang.specs.Program.{FinalFn, FinalUnit, final_fn}
 use Rattle.monad_lang.specs.Run.{Answer}
 use Rattle.monad_lang.specs.Sorted.{IsWellFormed, signature_of, setting_of, scalars_given, are_scalars, has_few}
+use Rattle.monad_lang.proofs.Given.{given_there}
 use Rattle.program_facts.specs.Lasting.{AreOfSorts, Lasts}
-use Rattle.program_facts.proofs.Sorts.{some_is, none_is, given_there}
 use Rattle.program_facts.proofs.RunsLast.{found, sorted_at_kinds, formed_units_last}
 use Rattle.program_runs.specs.WideRun.{Trouble, wide_function_runs, wide_functions_below, wide_program_runs, wide_runs}
 use Rattle.program_runs.specs.Bound.{Extends}

@@ -1,5 +1,5 @@
 -- Where a part of a machine stops the whole does, and what the whole ends with from step to step.
-use Rattle.std.proofs.Common.{◌≡◌, ℕ, ◌<◌, ◌++◌, List, [], ◌∷◌, length, reverse, refl, ap, ◌∙◌, arith}
+use Rattle.std.proofs.Common.{◌≡◌, ℕ, ◌<◌, ◌++◌, List, [], ◌∷◌, reverse, ap, ◌∙◌}
 use Rattle.std.proofs.lemmas.List.{reverse-append}
 use Rattle.correspondence.specs.Outcome.{Ends}
 use Rattle.correspondence.specs.Included.{Included}

@@ -1,5 +1,5 @@
 -- What a call asks, argument by argument.
-use Rattle.std.proofs.Common.{◌≡◌, Bool, true, false, ◌&&◌, List, [], ◌∷◌, map, Option, Some, None, refl, sym, length, ◌==◌, ◌∙◌, suc, eqb-true, arith}
+use Rattle.std.proofs.Common.{◌≡◌, false, ◌&&◌, List, [], ◌∷◌, map, Option, Some, None, refl, sym, length, ◌==◌, ◌∙◌, suc, eqb-true, arith}
 use Rattle.std.proofs.lemmas.Bool.{false_from_ne_true}
 use Rattle.std.proofs.Math.Bool.{and-false}
 use Rattle.expression_lang.specs.declared.signatures.Binder as B

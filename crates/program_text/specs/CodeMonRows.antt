@@ -3,7 +3,7 @@ use Rattle.std.specs.Prelude.{ℕ, Option, Some, None, Ok, Err, if◌then◌else
 use Rattle.c_values.specs.Name.{Name}
 use Rattle.ac_sx.specs.Tree.{Tree, Trees}
 use Rattle.ac_sx.specs.CodeSx.{one_of, three_of, first_of}
-use Rattle.expression_text.specs.Reading.{Read, next}
+use Rattle.expression_text.specs.Reading.{Read, next, ◌>>=◌}
 use Rattle.expression_text.specs.Words.{looked_up}
 use Rattle.expression_text.specs.ExpReading.{exp_at}
 use Rattle.expression_text.specs.ExpRows.{with_second}

@@ -5,7 +5,7 @@ use Rattle.c_values.specs.Name.{Name, same_name}
 use Rattle.expression_lang.specs.Sort.{Kind, WordKind, NatKind, IntKind, BoolKind}
 use Rattle.ac_sx.specs.Tree.{Tree, Trees, Atom, Node, no_trees, more}
 use Rattle.ac_sx.specs.CodeSx.{word_in, headed_in, one_of}
-use Rattle.expression_text.specs.Reading.{Read, next}
+use Rattle.expression_text.specs.Reading.{Read, next, ◌>>=◌}
 use Rattle.expression_text.specs.Words.{looked_up}
 use Rattle.expression_text.specs.ExpReading.{width_at}
 use Rattle.program_text.specs.declared.kinds.KindHead.{KindHead}

@@ -5,7 +5,7 @@ use Rattle.c_values.specs.Types.{CType}
 use Rattle.expression_lang.specs.Expression.{Exp, Path}
 use Rattle.ac_sx.specs.Tree.{Tree, Trees, Atom, Node, no_trees, more}
 use Rattle.ac_sx.specs.CodeSx.{one_of, two_of, three_of, first_of}
-use Rattle.expression_text.specs.Reading.{Read, next}
+use Rattle.expression_text.specs.Reading.{Read, next, ◌>>=◌}
 use Rattle.expression_text.specs.Names.{name_at}
 use Rattle.expression_text.specs.Words.{looked_up}
 use Rattle.expression_text.specs.TypeReading.{type_at}

@@ -1,19 +1,14 @@
 -- The first node of a checked tree that is no instance of its rule is about some part.
-use Rattle.std.proofs.Common.{◌≡◌, ◌<◌, ℕ, suc, ◌+◌, List, [], ◌∷◌, Option, Result, Ok, Err, inl, inr, refl, arith}
+use Rattle.std.proofs.Common.{◌≡◌, ◌<◌, ℕ, suc, ◌+◌, List, [], ◌∷◌, Option, Ok, Err, inl, inr, refl, arith}
 use Rattle.std.specs.Prelude.{unwrap_or}
 use Rattle.rule_trees.specs.RuleTree.{Tree, Trees, node, no_trees, tree, Table, Checked, AllChecked, next, last_number}
 use Rattle.rule_trees.specs.CodeNodes.{nodes, nodes_in}
+use Rattle.rule_trees.proofs.Checking.{ok_is, err_is}
 use Rattle.refused_parts.specs.About.{IsAbout, IsAboutIn}
 
 -- before the last number, the next is one more
 one_more : (at n k : ℕ) → n ≡ next at + k → n < last_number → n ≡ at + suc k
 one_more at n k e l = omega arith
-
-ok_is : {m n : ℕ} → ◌≡◌ {A = Result ℕ ℕ} (Ok m) (Ok n) → m ≡ n
-ok_is h = cc
-
-err_is : {m n : ℕ} → ◌≡◌ {A = Result ℕ ℕ} (Err m) (Err n) → m ≡ n
-err_is h = cc
 
 module _ {Rule Claim Part : Type 0} (table : Table Rule Claim) (left : Claim → Option Part) where
   mutual

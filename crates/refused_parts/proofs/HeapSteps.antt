@@ -13,6 +13,7 @@ use Rattle.rule_heap.specs.Rule.{Claim, OfProgram, OfExp}
 use Rattle.rule_heap.specs.Table as Heaps
 use Rattle.rule_heap.specs.Table.{each, exp_row}
 use Rattle.rule_parts.specs.Starts.{start_exps}
+use Rattle.rule_word.proofs.AskedPrograms.{start_count}
 use Rattle.refused_parts.specs.CodeInside.{heap_inside}
 use Rattle.refused_parts.specs.Lefts.{heap_left}
 use Rattle.refused_parts.proofs.Positions.{IsAt, AreBare, no_claims, one_more, of_two, behind_one, two_behind, last_of}
@@ -55,10 +56,6 @@ same_lengths (x ∷ xs) (y ∷ ys) h = let e : start_names ys ≡ start_names xs
 same_lengths [] (y ∷ ys) h = absurd cc
 same_lengths (x ∷ xs) [] h = absurd cc
 
-as_many : (xs : List Start) → length (start_exps xs) ≡ length xs
-as_many [] = refl
-as_many (x ∷ xs) = ap suc (as_many xs)
-
 pairs : (fs : List Fact) (as' bs : List Exp) → length bs ≡ length as' → length (each fs as' bs) ≡ length as'
 pairs fs [] [] e = refl
 pairs fs (a ∷ as') (b ∷ bs) e = let s : length bs ≡ length as' = omega arith in ap suc (pairs fs as' bs s)
@@ -73,7 +70,7 @@ heap_row l fs H.If (M.If e m n) (M.If e' m' n') i d h k = two_behind heap_left m
 heap_row l fs H.Global (M.Write (M.Global x path) e) (M.Write (M.Global y way) e') i d h k = (each_exps fs (path_children path) (path_children way) _ (exp_more fs e e' [] no_exps)).none i d k
 heap_row l fs H.Loop (M.Loop starts guard test m) (M.Loop starts' guard' test' m') i d h k =
     last_of heap_left (each fs (start_exps starts) (start_exps starts')) _ _ _ m (length starts) i d (only_each fs (start_exps starts) (start_exps starts'))
-    (pairs fs (start_exps starts) (start_exps starts') (same_lengths starts starts' h) ∙ as_many starts) refl refl refl k
+    (pairs fs (start_exps starts) (start_exps starts') (same_lengths starts starts' h) ∙ start_count starts) refl refl refl k
 heap_row l fs H.Call (M.Call f es) (M.Call g es') i d h k = (only_each fs es es').none i d k
 heap_row l fs H.Pick (M.Pick j) (M.Pick j') i d h k = absurd k
 heap_row l fs H.Write (M.Write (M.Stored t p path) e) (M.Write (M.Written u q way) e') i d h k = (exp_more fs p q _ (each_exps fs (path_children path) (path_children way) _ (exp_more fs e e' [] no_exps))).none i d k

@@ -9,13 +9,14 @@ use Rattle.expression_lang.specs.Signature.{Signature, signature}
 use Rattle.ac_expr.specs.Heads.{children}
 use Rattle.monad_lang.specs.Program as M
 use Rattle.program_facts.specs.Places.{place_children}
-use Rattle.monad_lang.specs.Program.{Mon, Start}
+use Rattle.monad_lang.specs.Program.{Mon}
 use Rattle.rule_word.specs.Rule as W
 use Rattle.rule_word.specs.Rule.{Claim, Context, Point, View, AsIs, Unsigned, Signed, program, expression}
 use Rattle.rule_word.specs.Scopes.{words, width_in}
 use Rattle.rule_word.specs.Table as Words
 use Rattle.rule_word.specs.Table.{each, of_width, expression_row, program_row, call_row, write_row, AreMatched, owns, views_for}
 use Rattle.rule_parts.specs.Starts.{start_exps}
+use Rattle.rule_word.proofs.AskedPrograms.{start_count}
 use Rattle.refused_parts.specs.CodeInside.{word_inside}
 use Rattle.refused_parts.specs.Lefts.{word_left}
 use Rattle.refused_parts.proofs.Positions.{IsAt, AreBare, no_claims, one_more, of_one, of_two, two_behind, last_of}
@@ -77,10 +78,6 @@ expression_exps g at W.Cond (X.If c a b) v (X.If c' a' b') h = three _ _ _ refl 
 expression_exps g at W.Op e (AsIs o) a h = each_exps at (children e) _ (children a)
 expression_exps g at r e v a h = absurd h
 
-as_many : (xs : List Start) → length (start_exps xs) ≡ length xs
-as_many [] = refl
-as_many (x ∷ xs) = ap suc (as_many xs)
-
 -- as many claims as expressions
 matched : (at : Point) (es : List Exp) (ks : List Kind) (as' : List Exp) → AreMatched es ks as' → length (each at es (views_for ks) as') ≡ length es
 matched at [] [] [] h = refl
@@ -107,7 +104,7 @@ word_row ctx at W.PickInt (M.Pick (WordKind n)) (M.Pick j') ks i d h k = absurd 
 word_row ctx at (W.Bind js) (M.Bind m xs n) (M.Bind m' xs' n') ks i d h k = of_two word_left m n _ _ d i refl refl k
 word_row ctx at (W.Loop js) (M.Loop starts guard test m) (M.Loop starts' guard' test' m') ks i d h k =
     last_of word_left (each at (start_exps starts) (views_for js) (start_exps starts')) _ _ _ m (length starts) i d (each_exps at (start_exps starts) (views_for js) (start_exps starts'))
-    (matched at (start_exps starts) js (start_exps starts') h.2 ∙ as_many starts) refl refl refl k
+    (matched at (start_exps starts) js (start_exps starts') h.2 ∙ start_count starts) refl refl refl k
 word_row ctx at W.Call (M.Call f es) (M.Call g es') ks i d h k = (of_call (signature ctx.functions f) at es es' ks h.1).none i d k
 word_row ctx at (W.Recast js) m (M.Bind m' ys (M.Ret es)) ks i d h k = of_one word_left m _ d i refl k
 word_row ctx at r a b ks i d h k = absurd h

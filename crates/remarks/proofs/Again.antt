@@ -1,5 +1,5 @@
 -- What is said of files that are read again, and of what is shown of a refused node.
-use Rattle.std.proofs.Common.{◌≡◌, ℕ, ◌≤◌, List, Option, None, Result, Ok, Err, IfOk, inl, inr, subst, arith}
+use Rattle.std.proofs.Common.{◌≡◌, ℕ, ◌≤◌, List, Option, None, inl, inr, subst, arith}
 use Rattle.c_values.specs.Name.{Name}
 use Rattle.c_values.specs.Types.{Target}
 use Rattle.c_lang.specs.Typed.{TypedUnit}

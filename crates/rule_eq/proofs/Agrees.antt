@@ -6,6 +6,7 @@ use Rattle.c_values.specs.Name.{Name, is_among, are_distinct}
 use Rattle.c_values.specs.Value.{Value, truth_in}
 use Rattle.c_values.specs.Layout.{Layout, IsLayout, GlobalVar, global_type}
 use Rattle.c_values.specs.Choice.{Choice}
+use Rattle.c_values.proofs.Options.{some_is}
 use Rattle.expression_lang.specs.Expression.{Exp, Path, Here, IntoField, IntoElement}
 use Rattle.expression_lang.specs.Evaluation.{Env, State}
 use Rattle.expression_lang.specs.Form.{path_has}
@@ -24,11 +25,12 @@ use Rattle.monad_lang.specs.Program.{Mon, Place, Start}
 use Rattle.monad_lang.specs.Names.{is_free, is_in_start, is_in_place}
 use Rattle.monad_lang.specs.Run.{Answer, Runs, runs, start_names, start_values}
 use Rattle.monad_lang.specs.Sorted.{Setting, scalars_given, start_scalars, one_for_each, are_scalars}
+use Rattle.monad_lang.proofs.Given.{then_parts, fits_parts, given_there}
 use Rattle.program_facts.specs.Places.{place_children}
 use Rattle.program_facts.specs.Lasting.{AreOfSorts, CanBeCalled}
 use Rattle.program_facts.proofs.SortedValues.{bound_sorted, values_sorted, starts_sorted}
 use Rattle.program_facts.proofs.RunsLast.{runs_last}
-use Rattle.program_facts.proofs.Sorts.{some_is, then_parts, fits_parts, given_there, call_parts}
+use Rattle.program_facts.proofs.Sorts.{call_parts}
 use Rattle.rule_eq.proofs.Bound.{AsMany, as_many, bound_alike}
 use Rattle.rule_eq.proofs.Together.{Respects, Pairs, lasts_left, Does, ret_does, guard_does, choice_does, bind_does, write_does, call_does, pick_does, loop_does}
 

@@ -1,6 +1,6 @@
 -- What names are bound to.
-use Rattle.std.proofs.Common.{◌≡◌, ℕ, suc, ◌==◌, length, Bool, true, false, cond, List, [], ◌∷◌, refl, sym, ap, ◌∙◌, arith}
-use Rattle.std.proofs.lemmas.Bool.{or_from, or_parts, cond-false, eqb-true}
+use Rattle.std.proofs.Common.{◌≡◌, ℕ, suc, ◌==◌, length, Bool, true, false, cond, List, [], ◌∷◌, refl, sym, ap, arith}
+use Rattle.std.proofs.lemmas.Bool.{or_from, eqb-true}
 use Rattle.std.proofs.lemmas.Bool.Decides.{Decides-eqb}
 use Rattle.c_values.specs.Name.{Name, same_name, with_name, is_among}
 use Rattle.c_values.specs.Value.{Value}
@@ -9,17 +9,6 @@ use Rattle.expression_lang.specs.Evaluation.{Env}
 use Rattle.expression_lang.specs.Sort.{Scalar}
 use Rattle.expression_lang.specs.Signature.{bound}
 use Rattle.program_facts.specs.Lasting.{AreOfSorts}
-
-pub name_stays : (x y : Name) (v : Value) (env : Env) → same_name y x ≡ false → with_name x v env y ≡ env y
-name_stays x y v env h = cond-false (same_name x y) v (env y) (other_name y x h)
-
--- none of the names
-pub bound_stays : (y : Name) (xs : List Name) (vs : List Value) (env : Env) → is_among y xs ≡ false → bound xs vs env y ≡ env y
-bound_stays y [] vs env h = refl
-bound_stays y (x ∷ xs) [] env h = refl
-bound_stays y (x ∷ xs) (v ∷ vs) env h =
-    let d = or_parts (same_name y x) (is_among y xs) h in
-    bound_stays y xs vs (with_name x v env) d.1 ∙ name_stays x y v env d.0
 
 -- a name that is the same before is the same behind
 pub bound_still : (y : Name) (xs : List Name) (vs : List Value) (env env' : Env) → env' y ≡ env y → bound xs vs env' y ≡ bound xs vs env y

@@ -8,11 +8,11 @@ use Rattle.expression_lang.specs.Form.{path_has, is_part_of_value}
 use Rattle.expression_lang.specs.Sort.{Scalar, Sort, Of, PartsSort, Scope, shape_along, is_truth, is_word_of}
 use Rattle.expression_lang.specs.Sorted.{program_sort, scalar_in, with_scalar, scalars_of, sort_in, part_place, global_place, fits_place}
 use Rattle.expression_lang.proofs.Inversion.{truth_inv, word_of_inv}
+use Rattle.expression_lang.proofs.SortParts.{program_sort_inv}
 use Rattle.ac_expr.specs.Heads.{path_children}
 use Rattle.ac_expr.proofs.PartsSorted.{IsSorted, AreSorted, all_sorted_before, path_sorted}
 use Rattle.monad_lang.specs.Program.{Place, Stored, Written, Global, Start}
 use Rattle.monad_lang.specs.Sorted.{start_scalars, place_sort}
-use Rattle.program_facts.proofs.SortedValues.{program_sort_inv}
 use Rattle.program_facts.specs.Places.{place_children}
 use Rattle.rule_parts.specs.Starts.{start_exps}
 

@@ -11,8 +11,8 @@ use Rattle.ac_expr.proofs.PartsSorted.{IsSorted as HasSort, AreSorted}
 use Rattle.monad_lang.specs.Program as M
 use Rattle.monad_lang.specs.Program.{Mon, Start}
 use Rattle.monad_lang.specs.Sorted.{Setting, place_sort}
+use Rattle.monad_lang.proofs.Given.{fits_parts}
 use Rattle.monad_sorts.specs.CodeTold.{with_names}
-use Rattle.monad_sorts.proofs.ValuesTold.{fits_parts}
 use Rattle.program_facts.proofs.Sorts.{call_parts}
 use Rattle.rule_parts.specs.Starts.{start_exps}
 use Rattle.rule_eq.specs.CodeExps.{write_exps, AreSomewhereSorted}

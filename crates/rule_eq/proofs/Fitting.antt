@@ -10,9 +10,10 @@ use Rattle.monad_lang.specs.Program as M
 use Rattle.monad_lang.specs.Program.{Mon, Start}
 use Rattle.monad_lang.specs.Run.{start_names}
 use Rattle.monad_lang.specs.Sorted.{Setting, setting_with, scalars_given, start_scalars, are_scalars, one_for_each, where_fits}
+use Rattle.monad_lang.proofs.Given.{then_parts, given_there, fits_parts}
 use Rattle.monad_sorts.specs.CodeTold.{starts_told, values_told, with_names, names_into, names_after, part_after}
 use Rattle.monad_sorts.proofs.ToldSorts.{starts_are}
-use Rattle.monad_sorts.proofs.ValuesTold.{then_parts, fits_parts, scalars_are, names_length, somes_length, setting_is, values_are}
+use Rattle.monad_sorts.proofs.ValuesTold.{names_length, somes_length, setting_is, values_are}
 use Rattle.rule_eq.specs.Rule.{Point}
 use Rattle.rule_eq.specs.Table.{behind, within, IsBetween}
 use Rattle.rule_eq.specs.CodeFits.{IsSorted, IsSomewhereSorted, Fits}
@@ -48,7 +49,7 @@ choice_sorted t e m n h =
     (λ ss. where_fits (is_truth (program_sort t.scope e) && are_scalars ss (scalars_given t n)) (Some ss)) h.0 h.1 in
     let f = fits_parts (is_truth (program_sort t.scope e) && are_scalars o.0 (scalars_given t n)) (Some o.0) h.0 o.2 in
     let both = and_parts (is_truth (program_sort t.scope e)) (are_scalars o.0 (scalars_given t n)) f.0 in
-    record { test = both.0; first = (o.0, o.1); second = (o.0, scalars_are o.0 (scalars_given t n) both.1) }
+    record { test = both.0; first = (o.0, o.1); second = (o.0, given_there o.0 (scalars_given t n) both.1) }
 
 pub record TurnSorted (t : Setting) (starts : List Start) (guard test : Exp) (m : Mon) : Type 0 where
   pub given : List Scalar
@@ -77,7 +78,7 @@ turn_sorted t starts guard test m h =
       begin = o.1;
       guard_sorted = r.1;
       test_sorted = q.1;
-      body = (o.0, scalars_are o.0 (scalars_given inner m) p.1);
+      body = (o.0, given_there o.0 (scalars_given inner m) p.1);
     }
 
 given_is : (o : Option (List Scalar)) (ss : List Scalar) → o ≡ Some ss → ss ≡ unwrap_or o []

@@ -12,30 +12,30 @@ use Rattle.rule_eq.specs.Table.{row}
 use Rattle.rule_eq.specs.Tidy.{Simplifies, KeepsForms}
 use Rattle.rule_eq.proofs.SimplerForms.{simpler_free}
 
-load_head : (e : Exp) → is_load (head e) ≡ is_load e
+pub load_head : (e : Exp) → is_load (head e) ≡ is_load e
 load_head (Var x) = refl
 load_head e = refl
 
-read_head : (e : Exp) → is_read (head e) ≡ is_read e
+pub read_head : (e : Exp) → is_read (head e) ≡ is_read e
 read_head (Var x) = refl
 read_head e = refl
 
-arithmetic_head : (e : Exp) → is_word_arithmetic (head e) ≡ is_word_arithmetic e
+pub arithmetic_head : (e : Exp) → is_word_arithmetic (head e) ≡ is_word_arithmetic e
 arithmetic_head (Var x) = refl
 arithmetic_head e = refl
 
-stored_head : (q : Place) → is_stored (place_head q) ≡ is_stored q
+pub stored_head : (q : Place) → is_stored (place_head q) ≡ is_stored q
 stored_head (Stored t p path) = refl
 stored_head (Written t p path) = refl
 stored_head (Global x path) = refl
 
-written_head : (q : Place) → is_written (place_head q) ≡ is_written q
+pub written_head : (q : Place) → is_written (place_head q) ≡ is_written q
 written_head (Stored t p path) = refl
 written_head (Written t p path) = refl
 written_head (Global x path) = refl
 
 -- a test of heads is the same for the same heads
-by_head : {A : Type 0} (test : A → Bool) (of : A → A) → ((a : A) → test (of a) ≡ test a) → (a b : A) → of b ≡ of a → test b ≡ test a
+pub by_head : {A : Type 0} (test : A → Bool) (of : A → A) → ((a : A) → test (of a) ≡ test a) → (a b : A) → of b ≡ of a → test b ≡ test a
 by_head test of h a b e = sym (h b) ∙ ap test e ∙ h a
 
 module _ (at : Point) (rule : Rule) (m m' : Mon) (s : Simplifies rule) (h : (row at rule m m').holds) where

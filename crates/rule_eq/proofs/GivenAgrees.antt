@@ -6,6 +6,7 @@ use Rattle.c_values.specs.Name.{Name, same_name, with_name, is_among, are_distin
 use Rattle.c_values.specs.Types.{CType}
 use Rattle.c_values.specs.Layout.{Layout}
 use Rattle.c_values.proofs.Laid.{other_name}
+use Rattle.c_values.proofs.Options.{none_is}
 use Rattle.expression_lang.specs.Mentions as X
 use Rattle.expression_lang.specs.Sort.{Scalar, Scope, Kind, is_truth}
 use Rattle.expression_lang.specs.Sorted.{names_with, program_sort, scalar_in, with_scalar, fits_place, call_scalars}
@@ -15,7 +16,6 @@ use Rattle.monad_lang.specs.Program.{Mon, Start}
 use Rattle.monad_lang.specs.Names.{is_free, is_in_start, is_in_place}
 use Rattle.monad_lang.specs.Run.{start_names}
 use Rattle.monad_lang.specs.Sorted.{Setting, scalars_given, start_scalars, one_for_each, are_scalars, and_then_scalars, where_fits}
-use Rattle.program_facts.proofs.Sorts.{none_is}
 use Rattle.rule_eq.proofs.Bound.{no_zero, one_less}
 use Rattle.monad_lang.specs.Agree.{AgreeOn}
 use Rattle.monad_lang.proofs.Agreeing.{agree_left, agree_right}

@@ -9,12 +9,13 @@ use Rattle.expression_lang.specs.Expression.{Exp, Var}
 use Rattle.expression_lang.specs.Evaluation.{Env, State, value}
 use Rattle.expression_lang.specs.Mentions as X
 use Rattle.expression_lang.specs.Signature.{values_of, bound}
+use Rattle.expression_lang.proofs.Bound.{bound_stays}
 use Rattle.ac_expr.specs.Lasting.{is_unnamed}
 use Rattle.monad_lang.specs.Program.{Mon}
 use Rattle.monad_lang.specs.Names.{is_free}
 use Rattle.monad_lang.specs.Form.{all_kept}
 use Rattle.rule_eq.specs.Table.{Taken, before, taken_at}
-use Rattle.rule_eq.proofs.Bound.{AsMany, bound_stays, bound_still}
+use Rattle.rule_eq.proofs.Bound.{AsMany, bound_still}
 
 -- what a name that was bound last holds
 pub just_bound : (x : Name) (v : Value) (env : Env) → with_name x v env x ≡ v

@@ -7,6 +7,7 @@ use Rattle.c_values.specs.Name.{Name, same_name, with_name, is_among, are_distin
 use Rattle.c_values.specs.Types.{CType}
 use Rattle.c_values.specs.Layout.{Layout}
 use Rattle.c_values.proofs.Laid.{same_name-refl}
+use Rattle.c_values.proofs.Options.{some_is, none_is}
 use Rattle.expression_lang.specs.Expression.{Exp, Var}
 use Rattle.expression_lang.specs.Form.{has, is_part_of_value}
 use Rattle.expression_lang.specs.Sort.{Scalar, Sort, Of, PartsSort, Kind, is_truth, scalar_sort, sort_of}
@@ -18,10 +19,10 @@ use Rattle.monad_lang.specs.Form.{all_kept}
 use Rattle.program_facts.specs.Substituted.{program_substituted}
 use Rattle.monad_lang.specs.Sorted.{scalars_given, one_for_each, are_scalars, and_then_scalars, where_fits}
 use Rattle.rule_eq.specs.Table.{Taken, before, taken_at, CanStand, with_values}
-use Rattle.program_facts.proofs.Sorts.{none_is, some_is, then_parts, fits_parts, given_there}
 use Rattle.rule_eq.proofs.Bound.{no_zero, one_less}
 use Rattle.rule_eq.proofs.PutIn.{unnamed_apart, kept_names, some_taken}
 use Rattle.monad_lang.proofs.AgreeingSorts.{in_scope, sort_agrees}
+use Rattle.monad_lang.proofs.Given.{then_parts, fits_parts, given_there}
 use Rattle.rule_eq.proofs.GivenAgrees.{names_alike, setting_at, given_agrees}
 use Rattle.rule_eq.proofs.GivenSubstituted.{names_stay, names_still, given_substituted}
 

@@ -1,7 +1,7 @@
 -- The rules are sound: one lemma for each row of the table, and the induction over an accepted tree. Where the facts hold, the right side
 -- does what the left side does. Left and right are well-sorted, each in a scope that the environment fits; the rules speak of the right
 -- side's.
-use Rattle.std.proofs.Common.{◌≡◌, ℕ, Bool, true, false, not, List, [], ◌∷◌, ◌++◌, length, map, Option, Some, None, unwrap_or, ◌⊎◌, inl, inr, refl, sym, ap, ap₂, ◌∙◌, subst}
+use Rattle.std.proofs.Common.{◌≡◌, ℕ, true, false, List, [], ◌∷◌, ◌++◌, length, map, Option, Some, None, unwrap_or, ◌⊎◌, inl, inr, refl, sym, ap, ap₂, ◌∙◌, subst}
 use Rattle.std.proofs.lemmas.Bool.{not_from_false, true≢false}
 use Rattle.correspondence.specs.Outcome.{Done, Ends, done, fault, Then, goes_on, choose}
 use Rattle.correspondence.specs.Corresponds.{Corresponds}
@@ -20,6 +20,7 @@ use Rattle.expression_lang.specs.Sort.{Scalar, is_truth, sort_of_kind}
 use Rattle.expression_lang.specs.Sorted.{names_with, program_sort, scalars_of, fits_place}
 use Rattle.expression_lang.specs.Signature.{Signature, signature, values_of, bound}
 use Rattle.expression_lang.specs.States.{IsEnvironment, IsState}
+use Rattle.expression_lang.proofs.Bound.{bound_stays}
 use Rattle.monad_lang.proofs.AgreeingValues.{value_agrees}
 use Rattle.ac_expr.specs.Fact.{Fact, Whole, NotTrue, AllSay}
 use Rattle.ac_expr.specs.Known.{IsKnown}
@@ -35,6 +36,7 @@ use Rattle.program_facts.specs.Substituted.{program_substituted}
 use Rattle.monad_lang.specs.Reach.{AtEach}
 use Rattle.monad_lang.specs.Run.{Answer, Failure, Runs, runs, start_names, start_values}
 use Rattle.monad_lang.specs.Sorted.{Setting, setting_with, scalars_given, start_scalars, place_sort}
+use Rattle.monad_lang.proofs.Given.{fits_parts}
 use Rattle.program_facts.specs.Flow.{facts_after}
 use Rattle.program_facts.specs.Places.{place_children, place_head}
 use Rattle.program_facts.proofs.FactsAfter.{facts_after_hold}
@@ -46,9 +48,9 @@ use Rattle.rule_eq.specs.Rule as R
 use Rattle.rule_eq.specs.Rule.{Rule, Point, Claim, does}
 use Rattle.rule_eq.specs.Table.{point, within, Taken, taken_at, CanStand, with_values, AreTaken, OneApart, StepApart, ExpApart, row, table, Takes}
 use Rattle.rule_parts.specs.Starts.{start_exps}
-use Rattle.program_facts.proofs.Sorts.{fits_parts, call_parts}
+use Rattle.program_facts.proofs.Sorts.{call_parts}
 use Rattle.program_facts.proofs.PlacesAgree.{place_as_many, first_of, others_of}
-use Rattle.rule_eq.proofs.Bound.{bound_stays, bound_alike, no_zero, one_less}
+use Rattle.rule_eq.proofs.Bound.{bound_alike, no_zero, one_less}
 use Rattle.rule_eq.proofs.Together.{Respects, Pairs, lasts_right, keep_right, with_themselves, Does, ret_does, guard_does, choice_does, bind_does, write_does, call_does, loop_does}
 use Rattle.rule_eq.proofs.Agrees.{NamesInScope, setting, Starts, bind_parts, behind, choice_parts, loop_parts, Turning, turn_starts, next_turn, begun, can_call, agrees}
 use Rattle.rule_eq.proofs.SubstitutedRuns.{HeldAt, substituted_does}

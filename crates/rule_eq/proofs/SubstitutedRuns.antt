@@ -18,6 +18,7 @@ use Rattle.ac_expr.specs.Substituted.{substituted, path_substituted}
 use Rattle.expression_lang.specs.Sort.{Scalar}
 use Rattle.expression_lang.specs.Sorted.{names_with}
 use Rattle.expression_lang.specs.Signature.{Signature, values_of, bound}
+use Rattle.expression_lang.proofs.Bound.{bound_stays}
 use Rattle.monad_lang.specs.Agree.{AgreeOn}
 use Rattle.monad_lang.proofs.AgreeingValues.{value_agrees}
 use Rattle.ac_expr.proofs.SubstitutedValues.{held_left, held_right, value_put}
@@ -31,7 +32,7 @@ use Rattle.monad_lang.specs.Run.{Answer, Runs, runs, start_names, start_values}
 use Rattle.monad_lang.specs.Sorted.{scalars_given}
 use Rattle.program_facts.specs.Places.{place_children, place_head}
 use Rattle.program_facts.proofs.KeepsTags.{runs_keep_tags}
-use Rattle.rule_eq.proofs.Bound.{AsMany, bound_stays, bound_still, bound_alike}
+use Rattle.rule_eq.proofs.Bound.{AsMany, bound_still, bound_alike}
 use Rattle.rule_eq.proofs.Together.{Respects, Pairs, keep_left, Does, ret_does, guard_does, choice_does, bind_does, write_does, call_does, pick_does, loop_does}
 use Rattle.rule_eq.proofs.Agrees.{NamesInScope, scope, setting, Starts, bind_parts, behind, choice_parts, LoopParts, loop_parts, Turning, turn_starts, next_turn, starts_many, begun, can_call, agrees}
 

@@ -6,6 +6,7 @@ use Rattle.correspondence.specs.Related.{Same, BothFail}
 use Rattle.c_values.specs.Name.{Name, same_name}
 use Rattle.c_values.specs.Layout.{Layout, GlobalVar, global_type}
 use Rattle.c_values.specs.Choice.{Choice}
+use Rattle.c_values.proofs.Options.{some_is}
 use Rattle.expression_lang.specs.Evaluation.{Env}
 use Rattle.expression_lang.specs.Sort.{Level, Kind, Scope, sort_of_kind}
 use Rattle.expression_lang.specs.Sorted.{names_with}
@@ -14,13 +15,13 @@ use Rattle.expression_lang.specs.States.{IsEnvironment}
 use Rattle.monad_lang.specs.Program.{Mon, FinalFn, FinalUnit, final_fn}
 use Rattle.monad_lang.specs.Run.{runs, function_runs, functions_below, program_runs}
 use Rattle.monad_lang.specs.Sorted.{Setting, signature_of, scalars_given, are_scalars, has_few, IsWellFormed}
+use Rattle.monad_lang.proofs.Given.{given_there}
 use Rattle.program_facts.specs.Lasting.{AreOfSorts, setting_in, setting_for, is_sorted_for, are_sorted_for, CanBeCalled}
 use Rattle.program_facts.proofs.SortedValues.{bound_sorted}
 use Rattle.program_facts.proofs.RunsLast.{found, sorted_at_kinds}
 use Rattle.rule_eq.specs.Kept.{EqualKept}
 use Rattle.rule_eq.specs.Exact.{AreAlike, DoesSame}
 use Rattle.rule_eq.specs.Units.{parameters_of, IsTakenTo, AreTakenTo, IsUnitTakenTo, UnitsKeepEqual}
-use Rattle.program_facts.proofs.Sorts.{some_is, given_there}
 use Rattle.rule_eq.proofs.Standing.{taken_does_same}
 
 -- what both units have under a name

@@ -8,6 +8,7 @@ use Rattle.c_values.specs.Name.{Name, same_name, with_name, is_among}
 use Rattle.c_values.specs.Value.{Value, Truth}
 use Rattle.c_values.specs.Layout.{Layout}
 use Rattle.c_values.specs.Choice.{Choice}
+use Rattle.c_values.proofs.Options.{some_is, none_is}
 use Rattle.expression_lang.specs.Sort.{Kind, BoolKind}
 use Rattle.expression_lang.specs.Evaluation.{Env, State}
 use Rattle.expression_lang.specs.View.{zero_word_at}
@@ -22,12 +23,6 @@ use Rattle.rule_exn.proofs.KeepsFlag.{flag_stays}
 use Rattle.rule_exn.proofs.SoundParts.{SameKind}
 use Rattle.rule_exn.proofs.Sound.{takes_sound}
 
-some_is : {A : Type 0} {a b : A} → ◌≡◌ {A = Option A} (Some a) (Some b) → a ≡ b
-some_is h = cc
-
-none_is_none : {A P : Type 0} {a : A} → ◌≡◌ {A = Option A} None (Some a) → P
-none_is_none h = cc
-
 -- the flag begins as `#f`
 zero_by_name : (k : Kind) (bs : List Binder) → (kind_of bs thrown_local ≡ Some BoolKind → zero_locals bs thrown_local ≡ Truth false) → (t : Bool) →
     cond t (Some k) (kind_of bs thrown_local) ≡ Some BoolKind → cond t (zero_word_at k) (zero_locals bs thrown_local) ≡ Truth false
@@ -35,7 +30,7 @@ zero_by_name k bs h true e = ap zero_word_at (some_is e)
 zero_by_name k bs h false e = h e
 
 zero_flag : (bs : List Binder) → kind_of bs thrown_local ≡ Some BoolKind → zero_locals bs thrown_local ≡ Truth false
-zero_flag [] h = none_is_none h
+zero_flag [] h = none_is h
 zero_flag (b ∷ bs) h = zero_by_name b.kind bs (zero_flag bs) (same_name b.name thrown_local) h
 
 bound_flag : (xs : List Name) (vs : List Value) (env : Env) → is_among thrown_local xs ≡ false → bound xs vs env thrown_local ≡ env thrown_local

@@ -5,7 +5,7 @@ use Rattle.expression_lang.specs.Expression.{Exp, Var, WordLit, NumberLit, Truth
 use Rattle.expression_lang.specs.Form.{has, path_has, is_load, is_part_of_value}
 use Rattle.rule_heap.specs.ExpLifted.{exp_lifted, path_lifted}
 
-has_some : (x y : Bool) → ((true || x) || y) ≡ false → ⊥
+pub has_some : (x y : Bool) → ((true || x) || y) ≡ false → ⊥
 has_some x y h = absurd (true≢false h)
 
 mutual

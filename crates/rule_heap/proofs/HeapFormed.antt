@@ -73,7 +73,7 @@ exps_sorted : (g : Scope) (es : List Exp) → scalars_of g (exps_lifted es) ≡ 
 exps_sorted g [] = refl
 exps_sorted g (e ∷ es) = ap₂ (λ o p. with_scalar (scalar_in o) p) (program_sort_stays g e) (exps_sorted g es)
 
-starts_sorted : (g : Scope) (xs : List Start) → start_scalars g (starts_lifted xs) ≡ start_scalars g xs
+pub starts_sorted : (g : Scope) (xs : List Start) → start_scalars g (starts_lifted xs) ≡ start_scalars g xs
 starts_sorted g [] = refl
 starts_sorted g (x ∷ xs) = ap₂ (λ o p. with_scalar (scalar_in o) p) (program_sort_stays g x.exp) (starts_sorted g xs)
 

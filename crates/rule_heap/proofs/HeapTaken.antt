@@ -23,7 +23,7 @@ use Rattle.rule_heap.specs.Table.{each, table}
 use Rattle.rule_parts.specs.Starts.{start_exps}
 use Rattle.rule_heap.specs.ExpLifted.{exp_lifted, exp_tree, leaf, over_one, IsReady}
 use Rattle.rule_heap.specs.HeapLifted.{exps_lifted, starts_lifted, place_lifted, is_pair, on_heaps, is_ptrok, is_plain, exp_trees, start_trees, place_tree, bind_tree, same_or, trees_of, AreReady, AreStartsReady, IsPlaceReady, Where, IsHeapReady}
-use Rattle.rule_heap.proofs.ExpForms.{exp_stays, path_stays}
+use Rattle.rule_heap.proofs.ExpForms.{exp_stays, path_stays, has_some}
 use Rattle.rule_heap.proofs.ExpTaken.{exp_taken, path_taken_with, path_head_stays}
 
 -- a plain program is its own lifted one
@@ -39,9 +39,6 @@ starts_stay (x ∷ xs) h =
   where
     start : Name → Exp → Start
     start y e = record { name = y; exp = e }
-
-some_has_it : (x y : Bool) → ((true || x) || y) ≡ false → ⊥
-some_has_it x y h = absurd (true≢false h)
 
 -- a pair has the test of a pointer in it
 no_pair : (m : Mon) (xs : List Name) (n : Mon) → program_has is_ptrok no_place m ≡ false → is_pair m xs n ≡ false
@@ -64,7 +61,7 @@ program_stays (M.If e m n) h k =
     let c = or_parts (has is_load e) (program_has is_load is_stored m) a.0 in
     let d = or_parts (has is_ptrok e) (program_has is_ptrok no_place m) b.0 in
     ap₂ (λ x y. M.If x y (on_heaps n)) (exp_stays e c.0) (program_stays m c.1 d.1) ∙ ap (λ z. M.If e m z) (program_stays n a.1 b.1)
-program_stays (M.Write (M.Stored t p path) e) h k = absurd (some_has_it (has is_load p || path_has is_load path) (has is_load e) h)
+program_stays (M.Write (M.Stored t p path) e) h k = absurd (has_some (has is_load p || path_has is_load path) (has is_load e) h)
 program_stays (M.Write (M.Written t p path) e) h k =
     let a = or_parts (has is_load p || path_has is_load path) (has is_load e) h in
     let b = or_parts (has is_load p) (path_has is_load path) a.0 in

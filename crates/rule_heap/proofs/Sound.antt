@@ -1,7 +1,7 @@
 -- The rules of programs are sound: one lemma for each row of the table, and the induction over an accepted tree. From states that
 -- are alike, where the facts hold on the right, both sides fail alike, give the same values in states that are alike, and stop alike.
 use Rattle.std.proofs.Common.{◌≡◌, ℕ, suc, Bool, true, false, ◌||◌, List, [], ◌∷◌, ◌++◌, length, map, Option, Some, inl, inr, refl, sym, subst, ap, ap₂, ◌∙◌}
-use Rattle.std.proofs.lemmas.Bool.{and_parts, or_parts, not_from_false, true≢false, not-true}
+use Rattle.std.proofs.lemmas.Bool.{and_parts, or_parts, not_from_false, not-true}
 use Rattle.correspondence.specs.Outcome.{Ends, done, fault, Then, choose, loop}
 use Rattle.correspondence.specs.Corresponds.{Corresponds, Either, Paired, SameFunctions}
 use Rattle.correspondence.specs.Related.{BothFail, Same}
@@ -33,6 +33,7 @@ use Rattle.monad_lang.specs.Program.{Mon, Start}
 use Rattle.monad_lang.specs.Form.{some_has, start_has, program_has, is_stored, is_written}
 use Rattle.monad_lang.specs.Run.{Answer, Failure, Runs, runs, start_names, start_values, entered}
 use Rattle.monad_lang.specs.Sorted.{Setting, scalars_given, are_scalars, start_scalars}
+use Rattle.monad_lang.proofs.Given.{then_parts, fits_parts, given_there}
 use Rattle.program_facts.specs.Lasting.{AreOfSorts, FunctionLasts, FunctionKeepsTags, AllLast, AllKeepTags}
 use Rattle.program_facts.proofs.SortedValues.{bound_sorted, values_sorted, written_shaped}
 use Rattle.program_facts.proofs.RunsLast.{runs_last}
@@ -49,13 +50,11 @@ use Rattle.rule_heap.proofs.Alike.{AreAlike}
 use Rattle.rule_heap.proofs.InRange.{Leads, leads_there}
 use Rattle.rule_heap.proofs.SoundValues.{SoundExp, covered_left, covered_ok, tagged, known, each_same, exp_sound}
 use Rattle.rule_heap.proofs.StayingValues.{value_stays, path_stays}
-use Rattle.program_facts.proofs.Sorts.{then_parts, fits_parts, given_there, call_parts, bind_parts}
+use Rattle.program_facts.proofs.Sorts.{call_parts, bind_parts}
+use Rattle.rule_heap.proofs.ExpForms.{has_some}
 
 same_rest : {A : Type 0} {x y : A} {xs ys : List A} → ◌≡◌ {A = List A} (x ∷ xs) (y ∷ ys) → xs ≡ ys
 same_rest h = cc
-
-some_true : (x y : Bool) → ((true || x) || y) ≡ false → ⊥
-some_true x y h = absurd (true≢false h)
 
 abbrev Names : Type 0
 Names = Name → Option Scalar
@@ -419,8 +418,8 @@ module _ (l : Layout) (laid : IsLayout l) (p : Choice) (vs : List GlobalVar) (si
       let a = or_parts (path_has is_load path) (has is_load e) h in
       let b = or_parts (path_has is_read path) (has is_read e) k in
       global fs x path path e e refl (λ env s s' near said. path_stays l env s s' (laws.tags s s' near) (laws.globals s s' near) path (record { loads = a.0; reads = b.0 })) (one_stays fs e a.1 b.1)
-  program_stays fs (M.Write (M.Stored t q path) e) h k = absurd (some_true (has is_load q || path_has is_load path) (has is_load e) h)
-  program_stays fs (M.Write (M.Written t q path) e) h k = absurd (some_true (has is_read q || path_has is_read path) (has is_read e) k)
+  program_stays fs (M.Write (M.Stored t q path) e) h k = absurd (has_some (has is_load q || path_has is_load path) (has is_load e) h)
+  program_stays fs (M.Write (M.Written t q path) e) h k = absurd (has_some (has is_read q || path_has is_read path) (has is_read e) k)
   program_stays fs (M.Loop starts g t m) h k =
       let a = or_parts (start_has is_load starts || has is_load g || has is_load t) (program_has is_load is_stored m) h in
       let b = or_parts (start_has is_read starts || has is_read g || has is_read t) (program_has is_read is_written m) k in

@@ -1,6 +1,6 @@
 -- An expression without a load and without a read has one value in states that are alike.
-use Rattle.std.proofs.Common.{◌≡◌, Bool, true, false, ◌||◌, List, [], ◌∷◌, ◌++◌, refl, ap, ap₂}
-use Rattle.std.proofs.lemmas.Bool.{or_parts, true≢false}
+use Rattle.std.proofs.Common.{◌≡◌, false, ◌||◌, List, [], ◌∷◌, ◌++◌, refl, ap, ap₂}
+use Rattle.std.proofs.lemmas.Bool.{or_parts}
 use Rattle.c_values.specs.Value.{Value}
 use Rattle.c_values.specs.Layout.{Layout}
 use Rattle.c_memory.specs.Heap.{heap_tags}
@@ -9,6 +9,7 @@ use Rattle.expression_lang.specs.Form.{has, path_has, is_load, is_read}
 use Rattle.expression_lang.specs.Evaluation.{Env, State, value}
 use Rattle.ac_expr.specs.Heads.{children, path_children}
 use Rattle.ac_expr.proofs.HeadsAgree.{SameValues, SameValue, LooksAlike, heads_agree}
+use Rattle.rule_heap.proofs.ExpForms.{has_some}
 
 -- neither passes in an expression, in a path
 pub record IsFree (e : Exp) : Type 0 where
@@ -18,9 +19,6 @@ pub record IsFree (e : Exp) : Type 0 where
 pub record IsPathFree (path : Path) : Type 0 where
   pub loads : path_has is_load path ≡ false
   pub reads : path_has is_read path ≡ false
-
-has_one : (x y : Bool) → ((true || x) || y) ≡ false → ⊥
-has_one x y h = absurd (true≢false h)
 
 abbrev first_of : Value → List Value → Value
 first_of u [] = u
@@ -118,8 +116,8 @@ module _ (l : Layout) (env : Env) (s s' : State) (tags : heap_tags s'.heap ≡ h
         let x = or_parts (has is_load p) (path_has is_load path) f.loads in
         let y = or_parts (has is_read p) (path_has is_read path) f.reads in
         from_children (At t p path) tt (more p (path_children path) (value_stays p (record { loads = x.0; reads = y.0 })) (path_stays path (record { loads = x.1; reads = y.1 })))
-    value_stays (Load t p path) f = absurd (has_one (has is_load p) (path_has is_load path) f.loads)
-    value_stays (Read t p path) f = absurd (has_one (has is_read p) (path_has is_read path) f.reads)
+    value_stays (Load t p path) f = absurd (has_some (has is_load p) (path_has is_load path) f.loads)
+    value_stays (Read t p path) f = absurd (has_some (has is_read p) (path_has is_read path) f.reads)
     value_stays (Global x path) f = from_children (Global x path) tt (path_stays path (record { loads = f.loads; reads = f.reads }))
     value_stays (Sel e path) f =
         let x = or_parts (has is_load e) (path_has is_load path) f.loads in

@@ -23,6 +23,7 @@ use Rattle.monad_lang.specs.Program.{FinalFn, FinalUnit, final_fn}
 use Rattle.monad_lang.specs.Run.{Answer, Failure, runs, function_runs, functions_below, program_runs}
 use Rattle.monad_lang.specs.Sorted.{signature_of, scalars_given, are_scalars, has_few, IsWellFormed}
 use Rattle.c_memory.specs.LevelHeap.{heap_for}
+use Rattle.monad_lang.proofs.Given.{given_there}
 use Rattle.program_facts.specs.Lasting.{AreOfSorts, setting_in, setting_for, is_sorted_for, are_sorted_for}
 use Rattle.program_facts.proofs.KeepsTags.{units_keep_tags, calls_keep_tags}
 use Rattle.program_facts.proofs.KeepsBytes.{IsOnBytes, bytes_there, calls_keep_bytes}
@@ -33,7 +34,6 @@ use Rattle.rule_heap.specs.Exact.{AnswersViewed, Place, StandsFor}
 use Rattle.rule_heap.specs.Units.{IsBodyTaken, IsTakenWhere, IsTakenTo, AreTakenTo, IsUnitTakenTo, UnitsKeepHeaps}
 use Rattle.rule_heap.proofs.Viewed.{IsSame, same_alike, heap_placed}
 use Rattle.rule_heap.proofs.Sound.{AlikeAnswers}
-use Rattle.program_facts.proofs.Sorts.{given_there}
 use Rattle.rule_heap.proofs.Itself.{program_itself, calls_any}
 use Rattle.rule_heap.proofs.Standing.{answer, lifted_heap, call_is, same_all, taken_stands}
 

@@ -11,12 +11,14 @@ use Rattle.c_memory.specs.Tags.{AreTags, IsWellTagged, is_covered}
 use Rattle.c_memory.specs.TypedHeap.{view}
 use Rattle.c_memory.specs.Footprint.{InFootprint, KeepsMemory}
 use Rattle.c_memory.specs.Heap.{Heap, OnBytes, OnTypes, heap_tags, is_tagged, read_heap, write_heap, IsHeap}
-use Rattle.c_memory.proofs.Cells.{tags_viewed, tags_written}
+use Rattle.c_memory.proofs.Cells.{tags_viewed}
 use Rattle.c_memory.proofs.Loaded.{store_bytes}
 use Rattle.c_memory.proofs.Views.{cell_at, address, reads_agree, load_here, store_here, writes_agree}
 use Rattle.c_memory.proofs.Places.{store_in_objects}
+use Rattle.c_memory.proofs.Covered.{contains_nothing}
 use Rattle.expression_lang.specs.Evaluation.{State}
 use Rattle.expression_lang.specs.States.{state_with}
+use Rattle.program_facts.proofs.KeepsTags.{heap_written}
 use Rattle.rule_heap.proofs.Alike.{AreAlike}
 
 -- the same
@@ -29,10 +31,6 @@ pub heap_placed : (l : Layout) (h : Heap) → IsHeap l h → AreTags l (heap_tag
 heap_placed l (OnBytes m) h = h.tags
 heap_placed l (OnTypes cells) h = h.0
 
-tags_stay : (l : Layout) (h : Heap) (t : CType) (a : ℕ) (path : List Step) (v : Value) → heap_tags (write_heap l h t a path v) ≡ heap_tags h
-tags_stay l (OnBytes m) t a path v = refl
-tags_stay l (OnTypes cells) t a path v = tags_written l cells t a path v
-
 pub same_alike : (l : Layout) → AreAlike l (IsSame l)
 same_alike l = record {
   globals = λ s s' h. ap (λ x. x.globals) h.same;
@@ -41,19 +39,15 @@ same_alike l = record {
   reads = λ s s' h t a path q covered range leads. ap (λ x. read_heap l x.heap t a path) h.same;
   writes = λ s s' h t a path q v covered range leads shaped. record {
     same = ap (λ x. state_with (write_heap l x.heap t a path v) x.globals) h.same;
-    placed = subst (λ ts. AreTags l ts) (sym (tags_stay l s.heap t a path v)) h.placed;
+    placed = subst (λ ts. AreTags l ts) (sym (heap_written l s.heap t a path v)) h.placed;
   };
   sets = λ s s' h globals. record { same = ap (λ x. state_with x.heap globals) h.same; placed = h.placed };
 }
 
 -- bytes and their view
 
--- outside of all footprints is outside of each
-no_element : {A : Type 0} (x : A) → Contains [] x → ⊥
-no_element x h = omega (arith, h.1)
-
 footprint_of : (l : Layout) (ts : List Tag) (u : Tag) (x : ℕ) → Contains ts u → (u.address ≤ x) × (x < u.address + size_of l u.type) → InFootprint l ts x
-footprint_of l [] u x c h = absurd (no_element u c)
+footprint_of l [] u x c h = absurd (contains_nothing u c)
 footprint_of l (t ∷ ts) u x (zero, lt, e) h = inl (subst (λ (w : Tag). (w.address ≤ x) × (x < w.address + size_of l w.type)) (sym e) h)
 footprint_of l (t ∷ ts) u x (suc k, lt, e) h = inr (footprint_of l ts u x (k, omega arith, e) h)
 

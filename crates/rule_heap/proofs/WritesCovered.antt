@@ -1,6 +1,6 @@
 -- Each write of a right side that a run reaches has a covered root and a path in range, wherever the facts hold: on either heap.
 use Rattle.std.proofs.Common.{◌≡◌, ℕ, Bool, true, false, ◌||◌, List, [], ◌∷◌, ◌++◌, Option, refl, sym, subst}
-use Rattle.std.proofs.lemmas.Bool.{or_parts, not_from_false, true≢false}
+use Rattle.std.proofs.lemmas.Bool.{or_parts, not_from_false}
 use Rattle.correspondence.specs.Outcome.{Done}
 use Rattle.c_values.specs.Name.{Name}
 use Rattle.c_values.specs.Types.{CType}
@@ -29,6 +29,7 @@ use Rattle.rule_heap.specs.Rule.{Rule, Claim, OfProgram, OfExp}
 use Rattle.rule_heap.specs.Table.{each, IsPlace, row, table, Takes}
 use Rattle.rule_parts.specs.Starts.{start_exps}
 use Rattle.rule_heap.proofs.InRange.{leads_there}
+use Rattle.rule_heap.proofs.ExpForms.{has_some}
 
 if_true : (b : Bool) (P : Type 0) → (b ≡ true → P) → IfTrue b P
 if_true true P h = h refl
@@ -43,9 +44,6 @@ turns_have : (K : List Runs → Type 0) → ((f : Runs) (fs : List Runs) → K (
     ((fs : List Runs) → K fs → (a : Answer) → turns a → P fs a) → (fs : List Runs) → K fs → (a : Answer) → EachTurn turns P next fs a
 turns_have K rest turns P next h [] k a = tt
 turns_have K rest turns P next h (f ∷ fs) k a = λ t. (h fs (rest f fs k) a t, λ b e. turns_have K rest turns P next h fs (rest f fs k) b)
-
-is_true : (x y : Bool) → ((true || x) || y) ≡ false → ⊥
-is_true x y h = absurd (true≢false h)
 
 module _ (l : Layout) (p : Choice) where
   abbrev pub AreCovered : Mon → Env → Option ℕ → List Runs → State → Type 0
@@ -84,7 +82,7 @@ module _ (l : Layout) (p : Choice) where
       let o' = or_parts (has is_read e) (program_has is_read is_written m) o.0 in
       (if_true (holds l env s e) _ (λ k. writes_nothing m o'.1 env depth gs s), if_false (holds l env s e) _ (λ k. writes_nothing n o.1 env depth gs s))
   writes_nothing (M.Write (M.Stored t q path) e) h env depth gs s = tt
-  writes_nothing (M.Write (M.Written t q path) e) h env depth gs s = absurd (is_true (has is_read q || path_has is_read path) (has is_read e) h)
+  writes_nothing (M.Write (M.Written t q path) e) h env depth gs s = absurd (has_some (has is_read q || path_has is_read path) (has is_read e) h)
   writes_nothing (M.Write (M.Global x path) e) h env depth gs s = tt
   writes_nothing (M.Loop starts g t m) h env depth gs s =
       let o = or_parts (start_has is_read starts || has is_read g || has is_read t) (program_has is_read is_written m) h in

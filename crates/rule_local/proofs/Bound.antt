@@ -1,6 +1,6 @@
 -- What a name is bound to, and environments that agree.
-use Rattle.std.proofs.Common.{◌≡◌, Bool, true, false, cond, List, [], ◌∷◌, refl, ap, ◌∙◌}
-use Rattle.std.proofs.lemmas.Bool.{or_from, or_parts, cond_both, cond-false}
+use Rattle.std.proofs.Common.{◌≡◌, Bool, true, false, cond, List, [], ◌∷◌, refl, ap}
+use Rattle.std.proofs.lemmas.Bool.{or_from, cond_both}
 use Rattle.c_values.specs.Name.{Name, same_name, with_name, is_among}
 use Rattle.c_values.specs.Value.{Value}
 use Rattle.c_values.proofs.Laid.{name_is, other_name}
@@ -16,16 +16,6 @@ known_or_there t env x y h = cond_both (same_name x y) (t x) (env y) (λ v. v �
 pub bound_is : (t : Env) (y : Name) (xs : List Name) (env : Env) → (is_among y xs ≡ false → env y ≡ t y) → bound xs (held xs t) env y ≡ t y
 bound_is t y [] env h = h refl
 bound_is t y (x ∷ xs) env h = bound_is t y xs (with_name x (t x) env) (λ k. known_or_there t env x y (λ e. h (or_from (same_name y x) (is_among y xs) e k)))
-
-pub name_stays : (x y : Name) (v : Value) (env : Env) → same_name y x ≡ false → with_name x v env y ≡ env y
-name_stays x y v env h = cond-false (same_name x y) v (env y) (other_name y x h)
-
-pub bound_stays : (y : Name) (xs : List Name) (vs : List Value) (env : Env) → is_among y xs ≡ false → bound xs vs env y ≡ env y
-bound_stays y [] vs env h = refl
-bound_stays y (x ∷ xs) [] env h = refl
-bound_stays y (x ∷ xs) (v ∷ vs) env h =
-    let d = or_parts (same_name y x) (is_among y xs) h in
-    bound_stays y xs vs (with_name x v env) d.1 ∙ name_stays x y v env d.0
 
 same_or_there : (x y : Name) (v : Value) (env env' : Env) → (same_name y x ≡ false → env y ≡ env' y) → (b : Bool) → same_name x y ≡ b → cond b v (env y) ≡ cond b v (env' y)
 same_or_there x y v env env' h true e = refl

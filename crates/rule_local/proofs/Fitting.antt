@@ -2,6 +2,7 @@
 use Rattle.std.proofs.Common.{◌≡◌, Bool, true, false, cond, ◌&&◌, List, [], ◌∷◌, map, Option, Some, None, refl, sym, subst}
 use Rattle.std.proofs.lemmas.Bool.{false≢true, and_parts}
 use Rattle.c_values.specs.Name.{Name, are_distinct}
+use Rattle.c_values.proofs.Options.{some_is, none_is}
 use Rattle.expression_lang.specs.Expression.{Exp}
 use Rattle.expression_lang.specs.Sort.{Scalar, Kind, Scope, is_truth, same_scalar, word_sort_of, are_kinds}
 use Rattle.expression_lang.specs.Signature.{Binder, Signature, names_of, kinds_of, signature}
@@ -9,12 +10,6 @@ use Rattle.expression_lang.specs.Sorted.{program_sort, scalar_in, with_scalar, s
 use Rattle.simpl_lang.specs.Command.{Simpl, Skip, Throw, Set, SetGlobal, Store, Pick, Seq, Cond, Guard, Catch, While, Call, SimplFn, SimplUnit}
 use Rattle.simpl_lang.specs.Sorted.{is_sorted, are_conditions, fits_target, scope_of, are_fns_sorted}
 use Rattle.rule_local.specs.Kept.{HasEach, FitsTarget, FitsCall, CallsFit}
-
-some_is : {A : Type 0} {a b : A} → ◌≡◌ {A = Option A} (Some a) (Some b) → a ≡ b
-some_is h = cc
-
-none_is_none : {A : Type 0} {P : Type 0} {a : A} → ◌≡◌ {A = Option A} None (Some a) → P
-none_is_none h = cc
 
 each_scalar : (bs : List Binder) (ss : List Scalar) → same_scalars (map word_sort_of (kinds_of bs)) ss ≡ true → HasEach bs ss
 each_scalar [] ss h = tt
@@ -25,8 +20,8 @@ module _ (g : Scope) where
   one_more : (b : Binder) (bs : List Binder) (e : Exp) (es : List Exp) (o : Option Scalar) (r : Option (List Scalar)) (ss : List Scalar) → with_scalar o r ≡ Some ss → HasEach (b ∷ bs) ss →
       ((ss : List Scalar) → r ≡ Some ss → HasEach bs ss → HasEach bs es) → HasEach bs es
   one_more b bs e es (Some s) (Some ts) ss h k j = j ts refl (subst (λ us. HasEach (b ∷ bs) us) (sym (some_is h)) k)
-  one_more b bs e es None r ss h k j = none_is_none h
-  one_more b bs e es (Some s) None ss h k j = none_is_none h
+  one_more b bs e es None r ss h k j = none_is h
+  one_more b bs e es (Some s) None ss h k j = none_is h
 
   each_expression : (bs : List Binder) (es : List Exp) (ss : List Scalar) → scalars_of g es ≡ Some ss → HasEach bs ss → HasEach bs es
   each_expression [] es ss h k = tt

@@ -9,10 +9,11 @@ use Rattle.c_values.proofs.Laid.{name_is, other_name, same_name-refl}
 use Rattle.expression_lang.specs.Expression.{Exp, Var, And}
 use Rattle.expression_lang.specs.Mentions.{names}
 use Rattle.expression_lang.specs.Form.{has, is_part_of_value}
-use Rattle.expression_lang.specs.Sort.{Scalar, WordSort, NumberSort, TruthSort, Sort, Of, PartsSort, Kind, WordKind, NatKind, IntKind, BoolKind, Scope, same_scalar, is_truth, truth_sort, where_holds, scalar_sort, sort_of, is_kind, is_width, word_sort_of, sort_of_kind}
+use Rattle.expression_lang.specs.Sort.{Scalar, WordSort, TruthSort, Sort, Of, PartsSort, Kind, WordKind, NatKind, IntKind, BoolKind, Scope, is_truth, truth_sort, where_holds, scalar_sort, sort_of, is_kind, is_width, word_sort_of, sort_of_kind}
 use Rattle.expression_lang.specs.Signature.{Binder, Signature, names_of, signature}
-use Rattle.expression_lang.specs.Sorted.{names_with, program_sort, scalar_in, with_scalar, scalars_of, same_scalars, fits_place, call_scalars}
+use Rattle.expression_lang.specs.Sorted.{names_with, program_sort, scalar_in, with_scalar, scalars_of, fits_place, call_scalars}
 use Rattle.expression_lang.proofs.Inversion.{same_inv}
+use Rattle.expression_lang.proofs.SameScalars.{same_scalars-refl}
 use Rattle.simpl_lang.specs.Command.{Condition, Simpl, Skip, Throw, Set, SetGlobal, Store, Pick, Seq, Cond, Guard, Catch, While, Call, kind_of}
 use Rattle.simpl_lang.specs.Names.{command_names}
 use Rattle.program_sorts.specs.Sorts.{is_scalar_of}
@@ -69,15 +70,6 @@ there_is None h = absurd (false≢true h)
 pub there_in : (o : Option Scalar) → is_some o ≡ true → scalar_in (scalar_sort o) ≡ Some (scalar_there o)
 there_in (Some s) h = refl
 there_in None h = absurd (false≢true h)
-
-pub same_scalars-refl : (ss : List Scalar) → same_scalars ss ss ≡ true
-same_scalars-refl [] = refl
-same_scalars-refl (s ∷ ss) = and_from (same_scalar s s) (same_scalars ss ss) (own s) (same_scalars-refl ss)
-  where
-    own : (s : Scalar) → same_scalar s s ≡ true
-    own (WordSort n) = eq-eqb n n refl
-    own NumberSort = refl
-    own TruthSort = refl
 
 -- the scalar of what fits
 fitting : (o : Option Scalar) (p : Option Sort) → is_scalar_of o p ≡ true → scalar_in p ≡ Some (scalar_there o)

@@ -12,6 +12,7 @@ use Rattle.c_values.specs.Value.{Value, Bits}
 use Rattle.c_values.specs.Word.{IsWord}
 use Rattle.c_values.specs.Layout.{Layout}
 use Rattle.c_values.proofs.Laid.{same_name-refl}
+use Rattle.c_values.proofs.Options.{some_is, none_is}
 use Rattle.expression_lang.specs.Expression.{Exp}
 use Rattle.expression_lang.specs.Evaluation.{Env, State, value}
 use Rattle.expression_lang.specs.GuardKind.{GuardKind}
@@ -78,14 +79,8 @@ kind_alike p (NatKind n) = words_alike p n
 kind_alike p (IntKind n) = words_alike p n
 kind_alike p BoolKind = truths_alike p
 
-some_is : {A : Type 0} {a b : A} → ◌≡◌ {A = Option A} (Some a) (Some b) → a ≡ b
-some_is h = cc
-
-none_is_none : {A : Type 0} {P : Type 0} {a : A} → ◌≡◌ {A = Option A} None (Some a) → P
-none_is_none h = cc
-
 pub picks_alike : (p : Choice) (o : Option Kind) (k : Kind) → picked_kind o ≡ Some k → Corresponds {F = GuardKind} {G = Failure} Same BothFail (picked_local p o) (picked_at p k)
-picks_alike p None k h = none_is_none h
+picks_alike p None k h = none_is h
 picks_alike p (Some j) k h = subst (λ i. Corresponds {F = GuardKind} {G = Failure} Same BothFail (picked_word_at p j) (picked_at p i)) (some_is h) (kind_alike p j)
 
 -- guards
@@ -154,8 +149,8 @@ module _ (l : Layout) (s : State) (env locals : Env) where
       ((k : Kind) → o ≡ Some k → locals x ≡ zero_word_at k) → ((es : List Exp) → r ≡ Some es → values_of l env s es ≡ held xs locals) → values_of l env s zs ≡ held (x ∷ xs) locals
   one_more x xs (Some k) (Some es) zs e h j =
       subst (λ z. values_of l env s z ≡ held (x ∷ xs) locals) (some_is e) (ap₂ (λ v vs. v ∷ vs) (zero_is k ∙ sym (h k refl)) (j es refl))
-  one_more x xs None r zs e h j = none_is_none e
-  one_more x xs (Some k) None zs e h j = none_is_none e
+  one_more x xs None r zs e h j = none_is e
+  one_more x xs (Some k) None zs e h j = none_is e
 
   pub zeros_held : (bs : List Binder) (xs : List Name) (zs : List Exp) → zeros bs xs ≡ Some zs → ((x : Name) (k : Kind) → is_among x xs ≡ true → kind_of bs x ≡ Some k → locals x ≡ zero_word_at k) →
       values_of l env s zs ≡ held xs locals

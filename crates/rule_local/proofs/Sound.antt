@@ -19,6 +19,7 @@ use Rattle.expression_lang.specs.GuardKind.{GuardKind}
 use Rattle.expression_lang.specs.Sort.{Kind}
 use Rattle.expression_lang.specs.Machine.{Machine, machine_with, with_local, Returned}
 use Rattle.expression_lang.specs.Signature.{Signature, Invocation, values_of, bound, signature}
+use Rattle.expression_lang.proofs.Bound.{name_stays}
 use Rattle.simpl_lang.specs.Command as C
 use Rattle.simpl_lang.specs.Command.{Condition, Simpl, kind_of}
 use Rattle.simpl_lang.specs.Exec as Simpl
@@ -41,7 +42,6 @@ use Rattle.rule_local.specs.Agree.{held, Gives, GivesAt, Begins}
 use Rattle.rule_local.specs.Kept.{BothFail, SameResult, SameFilled, CallsFit, as_values}
 use Rattle.rule_local.proofs.Signed.{SameSigned, KeptAsSigned, also}
 use Rattle.monad_lang.proofs.Agreeing.{agree_left, agree_right}
-use Rattle.rule_local.proofs.Bound.{name_stays}
 use Rattle.monad_lang.proofs.AgreeingValues.{value_agrees, holds_agrees, steps_agree, values_agree}
 use Rattle.rule_local.proofs.Values.{vars_held, vars_with_held, others_held, held_alike}
 use Rattle.rule_local.proofs.Stays.{unassigned_stays}

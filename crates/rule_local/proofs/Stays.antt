@@ -12,11 +12,11 @@ use Rattle.expression_lang.specs.Expression.{Exp}
 use Rattle.expression_lang.specs.GuardKind.{GuardKind}
 use Rattle.expression_lang.specs.Machine.{Machine, Returned}
 use Rattle.expression_lang.specs.Signature.{Binder}
+use Rattle.expression_lang.proofs.Bound.{name_stays}
 use Rattle.simpl_lang.specs.Command.{Condition, Simpl, Skip, Throw, Set, SetGlobal, Store, Pick, Seq, Cond, Guard, Catch, While, Call}
 use Rattle.simpl_lang.specs.Exec.{Flow, Normal, Abrupt, Runs, holds_on, normally, handled, turned, checked, entered, execs, result_into}
 use Rattle.simpl_lang.specs.Names.{is_target}
 use Rattle.rule_local.specs.Assigned.{assigns}
-use Rattle.rule_local.proofs.Bound.{name_stays}
 
 -- from where a loop goes on, and its end
 abbrev pub EndsIn : {X A : Type 0} → (X → Type 0) → (A → Type 0) → X ⊎ A → Type 0

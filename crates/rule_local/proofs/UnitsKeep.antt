@@ -9,11 +9,13 @@ use Rattle.c_values.specs.Name.{Name, same_name}
 use Rattle.c_values.specs.Value.{Value}
 use Rattle.c_values.specs.Layout.{Layout}
 use Rattle.c_values.specs.Choice.{Choice}
+use Rattle.c_values.proofs.Options.{some_is, none_is}
 use Rattle.expression_lang.specs.Sort.{Kind}
 use Rattle.expression_lang.specs.GuardKind.{GuardKind}
 use Rattle.expression_lang.specs.View.{zero_word_at}
 use Rattle.expression_lang.specs.Machine.{Returned, machine_with}
 use Rattle.expression_lang.specs.Signature.{Binder, Signature, Invocation, names_of, signature, bound, no_env}
+use Rattle.expression_lang.proofs.Bound.{bound_stays}
 use Rattle.simpl_lang.specs.Command.{SimplFn, SimplUnit, simpl_fn, kind_of}
 use Rattle.simpl_lang.specs.Exec as Simpl
 use Rattle.simpl_lang.specs.Exec.{Flow, Normal, Abrupt, zero_locals, ended}
@@ -25,16 +27,10 @@ use Rattle.rule_local.specs.Agree.{GivesAt, Begins}
 use Rattle.rule_local.specs.Kept.{BothFail, SameResult, IsFilled, HasEach, SameFilled, LocalsKept, CallsFit}
 use Rattle.rule_local.proofs.Signed.{HasResult, IsSigned, SameSigned, KeptAsSigned, kept}
 use Rattle.rule_local.specs.Units.{outputs_of, context_of, IsLiftedTo, AreLiftedTo, IsUnitLiftedTo, UnitsKeepLocals}
-use Rattle.rule_local.proofs.Bound.{bound_stays, bound_alike}
+use Rattle.rule_local.proofs.Bound.{bound_alike}
 use Rattle.rule_local.proofs.Parts.{below_related}
 use Rattle.rule_local.proofs.Sound.{takes_whole_sound}
 use Rattle.rule_local.proofs.Fitting.{AllFit, all_fit}
-
-some_is : {A : Type 0} {a b : A} → ◌≡◌ {A = Option A} (Some a) (Some b) → a ≡ b
-some_is h = cc
-
-none_is_none : {A : Type 0} {P : Type 0} {a : A} → ◌≡◌ {A = Option A} None (Some a) → P
-none_is_none h = cc
 
 -- a local begins with the zero of its kind
 zero_by_name : (x : Name) (j k : Kind) (bs : List Binder) → (kind_of bs x ≡ Some k → zero_locals bs x ≡ zero_word_at k) → (t : Bool) →
@@ -43,7 +39,7 @@ zero_by_name x j k bs h true e = ap zero_word_at (some_is e)
 zero_by_name x j k bs h false e = h e
 
 zero_local : (bs : List Binder) (x : Name) (k : Kind) → kind_of bs x ≡ Some k → zero_locals bs x ≡ zero_word_at k
-zero_local [] x k h = none_is_none h
+zero_local [] x k h = none_is h
 zero_local (b ∷ bs) x k h = zero_by_name x b.kind k bs (zero_local bs x k) (same_name b.name x) h
 
 begins : (f : SimplFn) (s : Signature) (vs : List Value) → HasEach s.params vs → Begins (context_of f s) (bound (names_of s.params) vs no_env) (bound (names_of s.params) vs (zero_locals f.locals))

@@ -1,13 +1,15 @@
 -- What a well-formed unit is lifted to is well-formed.
 use Rattle.std.proofs.Common.{◌≡◌, Bool, true, false, not, cond, ◌&&◌, List, [], ◌∷◌, map, Option, Some, None, ◌⊎◌, inl, inr, refl, sym, subst, ap, ap₂, ◌∙◌}
 use Rattle.std.specs.Option.{is_some}
-use Rattle.std.proofs.lemmas.Bool.{false≢true, true≢false, and_parts, and_from, or_left, or_right, or_parts, cond_both, cond-true, not-true, not_from_false, false_from_ne_true, eqb-true}
+use Rattle.std.proofs.lemmas.Bool.{false≢true, true≢false, and_parts, and_from, or_left, or_right, or_parts, cond_both, cond-true, not-true, not_from_false, false_from_ne_true}
 use Rattle.c_values.specs.Name.{Name, same_name, with_name, is_among, are_distinct}
 use Rattle.c_values.specs.Layout.{global_type}
 use Rattle.c_values.proofs.Laid.{name_is, same_name-refl}
-use Rattle.expression_lang.specs.Sort.{Scalar, Kind, WordKind, NatKind, IntKind, BoolKind, is_kind, are_kinds, word_sort_of, sort_of_kind}
+use Rattle.c_values.proofs.Options.{some_is, none_is}
+use Rattle.expression_lang.specs.Sort.{Scalar, Kind, is_kind, are_kinds, word_sort_of, sort_of_kind}
 use Rattle.expression_lang.specs.Signature.{Binder, Signature, names_of, kinds_of, signature}
 use Rattle.expression_lang.specs.Sorted.{names_with, same_scalars, result_scalars, call_scalars}
+use Rattle.expression_lang.proofs.SameScalars.{same_scalars-refl}
 use Rattle.simpl_lang.specs.Command.{SimplFn, SimplUnit, kind_of}
 use Rattle.simpl_lang.specs.Exec.{result_local}
 use Rattle.simpl_lang.specs.Sorted as C
@@ -16,6 +18,7 @@ use Rattle.monad_lang.specs.Program.{FinalUnit}
 use Rattle.monad_lang.specs.Sorted as M
 use Rattle.monad_lang.specs.Sorted.{are_scalars, signature_of, has_few, setting_of, is_fn_sorted, scalars_given}
 use Rattle.monad_lang.specs.Agree.{AgreeOn}
+use Rattle.simpl_lang.proofs.SameKinds.{local_is_kind, same_kind_is}
 use Rattle.rule_local.specs.Table.{word_kind}
 use Rattle.rule_local.specs.Units.{outputs_of}
 use Rattle.rule_local.specs.Lifted.{in_words, result_in_words, function_lifted, functions_lifted, unit_lifted}
@@ -23,31 +26,7 @@ use Rattle.rule_local.proofs.LiftedTaken.{local_kind}
 use Rattle.rule_local.proofs.LiftedNames.{either}
 use Rattle.rule_local.proofs.InScope.{local_in_scope}
 use Rattle.rule_local.proofs.UnitsLifted.{outputs_local, words_named}
-use Rattle.rule_local.proofs.LiftedSorted.{AllThere, scalar_there, scalars_at, same_scalars-refl, word_sort_is, word_kind_is, Known, locals_lifted_sorted}
-
-some_is : {A : Type 0} {a b : A} → ◌≡◌ {A = Option A} (Some a) (Some b) → a ≡ b
-some_is h = cc
-
-none_is_none : {A : Type 0} {P : Type 0} {a : A} → ◌≡◌ {A = Option A} None (Some a) → P
-none_is_none h = cc
-
-same_kind_is : (k j : Kind) → same_kind k j ≡ true → k ≡ j
-same_kind_is (WordKind m) (WordKind n) h = ap (λ i. WordKind i) (eqb-true m n h)
-same_kind_is (NatKind m) (NatKind n) h = ap (λ i. NatKind i) (eqb-true m n h)
-same_kind_is (IntKind m) (IntKind n) h = ap (λ i. IntKind i) (eqb-true m n h)
-same_kind_is BoolKind BoolKind h = refl
-same_kind_is (WordKind m) (NatKind n) h = absurd (false≢true h)
-same_kind_is (WordKind m) (IntKind n) h = absurd (false≢true h)
-same_kind_is (WordKind m) BoolKind h = absurd (false≢true h)
-same_kind_is (NatKind m) (WordKind n) h = absurd (false≢true h)
-same_kind_is (NatKind m) (IntKind n) h = absurd (false≢true h)
-same_kind_is (NatKind m) BoolKind h = absurd (false≢true h)
-same_kind_is (IntKind m) (WordKind n) h = absurd (false≢true h)
-same_kind_is (IntKind m) (NatKind n) h = absurd (false≢true h)
-same_kind_is (IntKind m) BoolKind h = absurd (false≢true h)
-same_kind_is BoolKind (WordKind n) h = absurd (false≢true h)
-same_kind_is BoolKind (NatKind n) h = absurd (false≢true h)
-same_kind_is BoolKind (IntKind n) h = absurd (false≢true h)
+use Rattle.rule_local.proofs.LiftedSorted.{AllThere, scalar_there, scalars_at, word_sort_is, word_kind_is, Known, locals_lifted_sorted}
 
 -- scopes of locals
 
@@ -62,7 +41,7 @@ others_stay y (b ∷ bs) ms h =
 
 -- a local has the sort of its kind
 pub local_scalar : (bs : List Binder) (ms : Name → Option Scalar) (x : Name) (k : Kind) → are_distinct (names_of bs) ≡ true → kind_of bs x ≡ Some k → names_with (names_of bs) (map word_sort_of (kinds_of bs)) ms x ≡ Some (word_sort_of k)
-local_scalar [] ms x k d h = none_is_none h
+local_scalar [] ms x k d h = none_is h
 local_scalar (b ∷ bs) ms x k d h =
     let p = and_parts (not (is_among b.name (names_of bs))) (are_distinct (names_of bs)) d in
     by_test (same_name b.name x) refl h (not-true (is_among b.name (names_of bs)) p.0) (λ e. local_scalar bs (with_name b.name (Some (word_sort_of b.kind)) ms) x k p.1 e)
@@ -75,14 +54,6 @@ local_scalar (b ∷ bs) ms x k d h =
         ∙ ap (λ k. Some (word_sort_of k)) (some_is j)
     by_test false e j n r = r j
 
-pub local_is_kind : (bs : List Binder) (x : Name) (k : Kind) → are_kinds (kinds_of bs) ≡ true → kind_of bs x ≡ Some k → is_kind k ≡ true
-local_is_kind [] x k h e = none_is_none e
-local_is_kind (b ∷ bs) x k h e = let p = and_parts (is_kind b.kind) (are_kinds (kinds_of bs)) h in by_test (same_name b.name x) e p.0 (local_is_kind bs x k p.1)
-  where
-    by_test : (t : Bool) → cond t (Some b.kind) (kind_of bs x) ≡ Some k → is_kind b.kind ≡ true → (kind_of bs x ≡ Some k → is_kind k ≡ true) → is_kind k ≡ true
-    by_test true j h r = subst (λ i. is_kind i ≡ true) (some_is j) h
-    by_test false j h r = r j
-
 -- the parameters come first
 
 module _ (p b : Binder) (ps bs : List Binder) where
@@ -92,7 +63,7 @@ module _ (p b : Binder) (ps bs : List Binder) where
       let r = and_parts (same_name p.name b.name) (same_kind p.kind b.kind) q.0 in (name_is p.name b.name r.0, same_kind_is p.kind b.kind r.1, q.1)
 
 first_kind : (ps bs : List Binder) (y : Name) (k : Kind) → come_first ps bs ≡ true → kind_of ps y ≡ Some k → kind_of bs y ≡ Some k
-first_kind [] bs y k h e = none_is_none e
+first_kind [] bs y k h e = none_is e
 first_kind (p ∷ ps) [] y k h e = absurd (false≢true h)
 first_kind (p ∷ ps) (b ∷ bs) y k h e =
     let q = first_parts p b ps bs h in
@@ -131,7 +102,7 @@ first_kinds (p ∷ ps) (b ∷ bs) h k =
     let r = and_parts (is_kind b.kind) (are_kinds (kinds_of bs)) k in
     and_from (is_kind (word_kind p.kind)) (are_kinds (kinds_of (in_words ps))) (word_kind_is p.kind (subst (λ j. is_kind j ≡ true) (sym q.1) r.0)) (first_kinds ps bs q.2 r.1)
 
-sorts_in_words : (bs : List Binder) → map sort_of_kind (kinds_of (in_words bs)) ≡ map word_sort_of (kinds_of bs)
+pub sorts_in_words : (bs : List Binder) → map sort_of_kind (kinds_of (in_words bs)) ≡ map word_sort_of (kinds_of bs)
 sorts_in_words [] = refl
 sorts_in_words (b ∷ bs) = ap₂ (λ s ss. s ∷ ss) (word_sort_is b.kind) (sorts_in_words bs)
 
@@ -185,7 +156,7 @@ kind_held : (bs : List Binder) (k : Kind) (o : Option Kind) → kind_of bs resul
 kind_held bs k (Some j) e h = e ∙ ap (λ i. Some i) (sym (same_kind_is k j h))
 kind_held bs k None e h = absurd (false≢true h)
 
-few_results : (r : Option Kind) → has_few (result_in_words r) ≡ true
+pub few_results : (r : Option Kind) → has_few (result_in_words r) ≡ true
 few_results None = refl
 few_results (Some k) = refl
 

@@ -19,7 +19,7 @@ made l a f = record { lost = l; assigned = a; free = f }
 same_made : (l l' a a' f f' : Bool) → l ≡ l' → a ≡ a' → f ≡ f' → made l a f ≡ made l' a' f'
 same_made l l' a a' f f' e g h = cc
 
-either : (a b c : Bool) → ((a || b) || c) ≡ (a || (b || c))
+pub either : (a b c : Bool) → ((a || b) || c) ≡ (a || (b || c))
 either true b c = refl
 either false b c = refl
 

@@ -9,7 +9,7 @@ use Rattle.rule_text.specs.declared.arity.Arity.{Arity}
 use Rattle.rule_text.specs.RuleReading.{Given, Words}
 use Rattle.rule_text.proofs.RuleLaws.{IsGiven, IsOf}
 
-made_ok : {A B : Type 0} (f : A → B) (q : Read A) (y : B) (n : ℕ) → made f q ≡ Ok (y, n) → (x : A) × (q ≡ Ok (x, n)) × (f x ≡ y)
+pub made_ok : {A B : Type 0} (f : A → B) (q : Read A) (y : B) (n : ℕ) → made f q ≡ Ok (y, n) → (x : A) × (q ≡ Ok (x, n)) × (f x ≡ y)
 made_ok {A} {B} f (Ok (x, m)) y n e =
     let h : ◌≡◌ {A = B × ℕ} (f x, m) (y, n) = cc in
     (x, ap (λ (p : B × ℕ). Ok (x, p.1)) h, ap (λ (p : B × ℕ). p.0) h)

@@ -2,7 +2,7 @@
 use Rattle.std.specs.Prelude.{ℕ, Option, Some, None, Ok, Err, if◌then◌else◌}
 use Rattle.ac_sx.specs.Tree.{Trees, more}
 use Rattle.c_values.specs.Name.{Name}
-use Rattle.expression_text.specs.Reading.{Read, next}
+use Rattle.expression_text.specs.Reading.{Read, next, ◌>>=◌}
 use Rattle.rule_trees.specs.RuleTree as rules
 use Rattle.rule_text.specs.Arities.{fits}
 use Rattle.rule_text.specs.RuleReading.{Given, Words, count, leaf_at, trees_at}

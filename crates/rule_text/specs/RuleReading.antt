@@ -3,7 +3,7 @@
 use Rattle.std.specs.Prelude.{ℕ, suc, Option, Some, None, Ok, Err, if◌then◌else◌}
 use Rattle.ac_sx.specs.Tree.{Tree, Trees, Atom, Node, no_trees, more}
 use Rattle.c_values.specs.Name.{Name}
-use Rattle.expression_text.specs.Reading.{Read, next}
+use Rattle.expression_text.specs.Reading.{Read, next, ◌>>=◌}
 use Rattle.rule_trees.specs.RuleTree as rules
 use Rattle.rule_text.specs.declared.arity.Arity.{Arity}
 use Rattle.rule_text.specs.Arities.{fits}

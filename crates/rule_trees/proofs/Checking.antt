@@ -5,10 +5,10 @@ use Rattle.rule_trees.specs.RuleTree.{Tree, node, Trees, no_trees, tree, count, 
 ok_err : {A : Type 0} {m n : ℕ} → ◌≡◌ {A = Result ℕ ℕ} (Ok m) (Err n) → A
 ok_err h = cc
 
-ok_is : {m n : ℕ} → ◌≡◌ {A = Result ℕ ℕ} (Ok m) (Ok n) → m ≡ n
+pub ok_is : {m n : ℕ} → ◌≡◌ {A = Result ℕ ℕ} (Ok m) (Ok n) → m ≡ n
 ok_is h = cc
 
-err_is : {m n : ℕ} → ◌≡◌ {A = Result ℕ ℕ} (Err m) (Err n) → m ≡ n
+pub err_is : {m n : ℕ} → ◌≡◌ {A = Result ℕ ℕ} (Err m) (Err n) → m ≡ n
 err_is h = cc
 
 module _ {Rule Claim : Type 0} (table : Table Rule Claim) where

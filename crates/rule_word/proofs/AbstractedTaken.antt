@@ -23,9 +23,6 @@ use Rattle.rule_word.specs.Bases.{Surroundings, under, known_there, Base, Words,
 use Rattle.rule_word.specs.WordsAbstracted.{Abstracted, made, one, two, as_word, seen_from, by_head, or_zero, Operands, words_of, binary_base, binary_at, negation_base, unary_at, view_of_test, equality_kind, constant_at, var_at, Indices, extended, extended_signed, operands, compared, cast_at, equal, abstracted, indices, base_of}
 use Rattle.rule_word.proofs.BasesKnown.{base_known, signed_known}
 
-some_is : {A : Type 0} {a b : A} → ◌≡◌ {A = Option A} (Some a) (Some b) → a ≡ b
-some_is h = cc
-
 same_width : (m n : ℕ) → word_sort m ≡ word_sort n → m ≡ n
 same_width m n h = cc
 
@@ -34,11 +31,11 @@ abbrev there : {A : Type 0} → (Kind → A) → Option Kind → Option A
 there f None = None
 there f (Some k) = Some (f k)
 
-by_names : {A : Type 0} (f : Kind → A) (b : Bool) (k : Kind) (o : Option A) (q : Option Kind) → o ≡ there f q → cond b (Some (f k)) o ≡ there f (cond b (Some k) q)
+pub by_names : {A : Type 0} (f : Kind → A) (b : Bool) (k : Kind) (o : Option A) (q : Option Kind) → o ≡ there f q → cond b (Some (f k)) o ≡ there f (cond b (Some k) q)
 by_names f true k o q h = refl
 by_names f false k o q h = h
 
-names_there : {A : Type 0} (f : Kind → A) (bs : List Binder) (x : Name) → names_in f bs x ≡ there f (names_in (λ k. k) bs x)
+pub names_there : {A : Type 0} (f : Kind → A) (bs : List Binder) (x : Name) → names_in f bs x ≡ there f (names_in (λ k. k) bs x)
 names_there f [] x = refl
 names_there f (b ∷ bs) x = by_names f (same_name b.name x) b.kind (names_in f bs x) (names_in (λ k. k) bs x) (names_there f bs x)
 

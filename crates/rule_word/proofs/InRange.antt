@@ -1,11 +1,11 @@
 -- What stands for words is in the range of its kind.
-use Rattle.std.proofs.Common.{◌≡◌, ℕ, zero, suc, ◌<◌, ◌≤◌, ◌^◌, ◌-◌, true, false, List, [], ◌∷◌, map, ℤ, pos, negsuc, refl, ◌+◌, arith}
+use Rattle.std.proofs.Common.{◌≡◌, ℕ, zero, suc, ◌<◌, ◌≤◌, ◌^◌, ◌-◌, true, false, List, [], ◌∷◌, map, ℤ, pos, refl, arith}
 use Rattle.std.proofs.lemmas.Int.{ints}
-use Rattle.std.specs.Prelude.{neg_ℤ}
 use Rattle.c_values.specs.Word.{Word, IsWord, unsigned, signed}
 use Rattle.c_values.specs.Number.{is_between}
 use Rattle.c_values.specs.Value.{Value, Bits, Number, Truth, Parts}
-use Rattle.c_values.proofs.WordValues.{IsSigned, low, high, signed_of, halves}
+use Rattle.c_values.proofs.WordValues.{IsSigned, low, high, signed_of}
+use Rattle.c_values.proofs.WordResults.{positive_between, negative_between, high_below}
 use Rattle.expression_lang.specs.Sort.{Kind, WordKind, NatKind, IntKind, BoolKind, word_sort_of}
 use Rattle.expression_lang.specs.States.{IsOfSort}
 use Rattle.expression_lang.specs.View.{view_at, views_at, IsOfKind, AreOfKinds}
@@ -17,15 +17,6 @@ below_fits m bits h = grind (arith, ints)
 
 unsigned_fits : (n : ℕ) (w : Word) → IsWord n w → Fits false n (unsigned w)
 unsigned_fits n w h = below_fits (2 ^ n) w.bits h.fits
-
-positive_between : (half m : ℕ) → m < half → is_between (neg_ℤ (pos half)) (pos m) (pos (half - 1)) ≡ true
-positive_between half m h = grind (arith, ints)
-
-negative_between : (half m : ℕ) → m < half → is_between (neg_ℤ (pos half)) (negsuc m) (pos (half - 1)) ≡ true
-negative_between half m h = grind (arith, ints)
-
-high_below : (width bits c : ℕ) → 1 ≤ width → 2 ^ (width - 1) ≤ bits → bits + suc c ≡ 2 ^ width → c < 2 ^ (width - 1)
-high_below width bits c some h e = omega (arith, halves width some)
 
 by_sign : (width bits : ℕ) (m : ℤ) → 1 ≤ width → IsSigned width bits m → Fits true width m
 by_sign width bits m some (low p) = positive_between (2 ^ (width - 1)) bits p

@@ -26,13 +26,13 @@ use Rattle.rule_word.proofs.Widths.{IsWide, expression_wide, has_widths}
 use Rattle.rule_word.proofs.ProgramWidths.{AllWide, WideNames, WideCalls, given_wide}
 
 -- a word's kind is of its width
-word_kind : (k : Kind) → IsWide (Some (Of (word_sort_of k))) → is_kind k ≡ true
+pub word_kind : (k : Kind) → IsWide (Some (Of (word_sort_of k))) → is_kind k ≡ true
 word_kind (WordKind n) h = h
 word_kind (NatKind n) h = h
 word_kind (IntKind n) h = h
 word_kind BoolKind h = refl
 
-kind_word : (k : Kind) (n : ℕ) → is_kind k ≡ true → word_sort_of k ≡ WordSort n → is_width n ≡ true
+pub kind_word : (k : Kind) (n : ℕ) → is_kind k ≡ true → word_sort_of k ≡ WordSort n → is_width n ≡ true
 kind_word (WordKind m) n h q = let e : m ≡ n = cc in subst (λ j. is_width j ≡ true) e h
 kind_word (NatKind m) n h q = let e : m ≡ n = cc in subst (λ j. is_width j ≡ true) e h
 kind_word (IntKind m) n h q = let e : m ≡ n = cc in subst (λ j. is_width j ≡ true) e h

@@ -14,9 +14,6 @@ use Rattle.rule_word.specs.CodeSorts.{left_truth, left_kind, is_this}
 use Rattle.rule_word.specs.LeftWidth.{left_width}
 use Rattle.rule_word.proofs.LeftWidths.{left_width_is}
 
-some_is : {A : Type 0} {a b : A} → ◌≡◌ {A = Option A} (Some a) (Some b) → a ≡ b
-some_is h = cc
-
 at_never : (r : Shape) (s : Sort) → sort_at r ≡ Some s → is_truth (Some s) ≡ false
 at_never Incomplete s h = absurd cc
 at_never (WordShape t n) s h = ap is_truth (sym h)

@@ -1,5 +1,5 @@
 -- The form of a level's programs after the phase, where they had the form before it.
-use Rattle.std.proofs.Common.{◌≡◌, Bool, true, false, not, List, [], Option, refl, ap}
+use Rattle.std.proofs.Common.{◌≡◌, Bool, true, false, not, List, [], Option, refl}
 use Rattle.std.proofs.lemmas.Bool.{and_from, not-true, not_from_false}
 use Rattle.c_values.specs.Name.{Name}
 use Rattle.expression_lang.specs.Expression as X

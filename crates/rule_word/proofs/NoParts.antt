@@ -3,6 +3,7 @@ use Rattle.std.proofs.Common.{◌≡◌, Bool, true, false, ◌||◌, List, [], 
 use Rattle.std.proofs.lemmas.Bool.{or_parts, or_from}
 use Rattle.c_values.specs.Word.{Wadd, Wsub, Wmul, Wudiv, Wumod, Wsdiv, Wsmod, Wneg, Wult, Wule, Wslt, Wsle}
 use Rattle.c_values.specs.Number as N
+use Rattle.c_values.proofs.Options.{some_is}
 use Rattle.expression_lang.specs.Expression as X
 use Rattle.expression_lang.specs.Expression.{Exp, Path}
 use Rattle.expression_lang.specs.Form.{has, path_has, is_part_of_value}
@@ -14,9 +15,6 @@ use Rattle.rule_word.specs.Rule.{Rule, Context, Point, View, AsIs, Unsigned, Sig
 use Rattle.rule_word.specs.Scopes.{words, width_in}
 use Rattle.rule_word.specs.Table.{constant, of_width, each, owns, expression_row, table}
 use Rattle.rule_word.proofs.SoundExpressions.{one_less}
-
-some_is : {A : Type 0} {a b : A} → ◌≡◌ {A = Option A} (Some a) (Some b) → a ≡ b
-some_is h = cc
 
 abbrev pub IsPlain : Exp → Type 0
 IsPlain e = has is_part_of_value e ≡ false

@@ -5,6 +5,7 @@ use Rattle.std.proofs.Common.{◌≡◌, ℕ, ◌&&◌, List, [], ◌∷◌, Opt
 use Rattle.std.proofs.lemmas.Bool.{and_parts}
 use Rattle.c_values.specs.Word.{Wadd, Wsub, Wmul, Wudiv, Wumod, Wsdiv, Wsmod, Wneg, WordOp, WordTest, Wult, Wule, Wslt, Wsle}
 use Rattle.c_values.specs.Number as N
+use Rattle.c_values.proofs.Options.{some_is}
 use Rattle.expression_lang.specs.Expression as X
 use Rattle.expression_lang.specs.Expression.{Exp}
 use Rattle.expression_lang.specs.Sort.{Sort, Of, WordSort, TruthSort, Kind, WordKind, NatKind, IntKind, BoolKind, Scope, sort_of, word_sort, truth_sort, word_width, is_truth, are_same, where_holds}
@@ -16,9 +17,6 @@ use Rattle.rule_word.specs.Scopes.{words, sort_seen, view_for, width_in}
 use Rattle.rule_word.specs.Table.{number_width, of_width, each, owns, expression_row}
 use Rattle.rule_word.specs.CodeFits as fits
 use Rattle.rule_word.proofs.ChildrenSorted.{AreSorted, children_sorted}
-
-some_is : {A : Type 0} {a b : A} → ◌≡◌ {A = Option A} (Some a) (Some b) → a ≡ b
-some_is h = cc
 
 module _ (ctx : Context) where
   -- well-sorted, of the sort that is seen

@@ -3,6 +3,7 @@ use Rattle.std.proofs.Common.{◌≡◌, ◌+◌, ℕ, suc, false, List, [], ◌
 use Rattle.std.specs.Option.{option_map}
 use Rattle.std.proofs.lemmas.Bool.{false≢true}
 use Rattle.c_values.specs.Name.{Name}
+use Rattle.c_values.proofs.Options.{some_is}
 use Rattle.expression_lang.specs.Sort.{Kind, word_sort_of, scalar_sort}
 use Rattle.expression_lang.specs.Signature.{Binder}
 use Rattle.monad_lang.specs.Program as M
@@ -42,10 +43,6 @@ module _ (t : T.Tree C.Rule) (n : ℕ) (m : Mon) (y : Name) (found : Option Kind
 
     pub goes_on : (l r : Mon) (xs : List Name) → m ≡ M.Bind l xs r → kind_passed (n + 1) (tree_of t) m y found ≡ kind_passed n (tree_of b) r y (kind_among xs js y found)
     goes_on l r xs e = let one : n + 1 ≡ suc n = omega arith in ap₂ (λ u q. kind_passed (n + 1) u q y found) tree_is e ∙ ap (λ k. kind_passed k (node (R.Bind js) (tree (tree_of a) (tree (tree_of b) no_trees))) (M.Bind l xs r) y found) one
-
--- how a name is seen
-some_is : {A : Type 0} {a b : A} → ◌≡◌ {A = Option A} (Some a) (Some b) → a ≡ b
-some_is h = cc
 
 module _ (bs : List Binder) (x : Name) (v : V.View) where
   abbrev seen : Option View

@@ -10,12 +10,12 @@ use Rattle.expression_lang.specs.Sort.{WordSort, Sort, Of, Scope, sort_of, sort_
 use Rattle.expression_lang.specs.Sorted.{program_sort, typed_place, global_place, part_place, sort_in}
 use Rattle.expression_lang.proofs.Inversion.{word_of_inv}
 use Rattle.ac_expr.specs.Heads.{head, children}
+use Rattle.ac_expr.proofs.ConstantsSound.{if_inv}
 use Rattle.monad_lang.specs.Program as M
 use Rattle.monad_lang.specs.Program.{Place}
 use Rattle.monad_lang.specs.Sorted.{place_sort}
 use Rattle.program_facts.specs.Places.{place_children, place_head}
 use Rattle.rule_word.proofs.NoParts.{IsPlain}
-use Rattle.rule_word.proofs.ProgramSorts.{if_there}
 
 abbrev pub looking_at : Place → Exp
 looking_at (M.Stored t p path) = X.Load t p path
@@ -79,7 +79,7 @@ plain_there true o a h = absurd cc
 typed_there : (g : Scope) (t : CType) (p : Exp) (path : Path) (s : Sort) → typed_place g t p path ≡ Some s → (has is_part_of_value p || path_has is_part_of_value path) ≡ false
 typed_there g t p path s h =
     let w = address_width g.layout.target in
-    let r = if_there (is_object g.layout t && is_word_of w (program_sort g p)) (part_place g t path) s h in
+    let r = if_inv (is_object g.layout t && is_word_of w (program_sort g p)) (part_place g t path) s h in
     let d = and_parts (is_object g.layout t) (is_word_of w (program_sort g p)) r.0 in
     or_from _ _ (plain_there (has is_part_of_value p) (sort_of g p) (Of (WordSort w)) (word_of_inv w (program_sort g p) d.1))
     (plain_there (path_has is_part_of_value path) (sort_in (shape_along g path (shape_of g.layout t))) s r.1)
@@ -87,7 +87,7 @@ typed_there g t p path s h =
 global_there : (g : Scope) (o : Option CType) (path : Path) (s : Sort) → global_place g o path ≡ Some s → path_has is_part_of_value path ≡ false
 global_there g None path s h = absurd cc
 global_there g (Some t) path s h =
-    let r = if_there (is_object g.layout t) (part_place g t path) s h in plain_there (path_has is_part_of_value path) (sort_in (shape_along g path (shape_of g.layout t))) s r.1
+    let r = if_inv (is_object g.layout t) (part_place g t path) s h in plain_there (path_has is_part_of_value path) (sort_in (shape_along g path (shape_of g.layout t))) s r.1
 
 pub place_plain : (g : Scope) (p : Place) (s : Sort) → place_sort g p ≡ Some s → IsPlain (looking_at p)
 place_plain g (M.Stored t p path) s h = typed_there g t p path s h

@@ -10,7 +10,9 @@ use Rattle.expression_lang.specs.Sort.{Scalar, Sort, Of, WordSort, TruthSort, Ki
 use Rattle.expression_lang.specs.Sorted.{program_sort, scalar_in, scalars_of, typed_place, global_place, part_place, fits_place, call_scalars}
 use Rattle.expression_lang.specs.Signature.{Signature, signature, kinds_of}
 use Rattle.expression_lang.proofs.Inversion.{truth_inv, word_of_inv}
+use Rattle.expression_lang.proofs.SortParts.{program_sort_inv, fits_inv as fits_there, scalar_in_inv}
 use Rattle.ac_expr.specs.Heads.{path_children}
+use Rattle.ac_expr.proofs.ConstantsSound.{if_inv}
 use Rattle.monad_lang.specs.Program as M
 use Rattle.monad_lang.specs.Program.{Mon, Place}
 use Rattle.monad_lang.specs.Run.{start_names}
@@ -25,7 +27,7 @@ use Rattle.rule_parts.specs.Starts.{start_exps}
 use Rattle.rule_word.proofs.ChildrenSorted.{AreSorted, path_sorted, and_one}
 use Rattle.rule_word.proofs.PartsFit.{Fits, ClaimFits, AllFit, FitInTurn, all_in_turn, looked_at, owns_fit, children_fit}
 use Rattle.rule_word.proofs.ProgramsGive.{GivesThere, each_gives, starts_given, accepted_gives}
-use Rattle.rule_word.proofs.ProgramSorts.{then_inv, fits_inv, are_inv, scalar_first, scalar_there, program_sorted, part_there, if_there, fits_there, call_inv}
+use Rattle.rule_word.proofs.ProgramSorts.{then_inv, fits_inv, are_inv, scalar_first, part_there, call_inv}
 use Rattle.rule_word.proofs.ScopesAfter.{sort_of_view, setting_after}
 
 module _ (ctx : Context) where
@@ -39,7 +41,7 @@ module _ (ctx : Context) where
   g_at at = (words ctx at.names).scope
 
   pub test_fits : (at : Point) (e : Exp) → is_truth (program_sort (g_at at) e) ≡ true → Fits ctx at e (view_for BoolKind)
-  test_fits at e h = (Of TruthSort, program_sorted (g_at at) e (Of TruthSort) (truth_inv (program_sort (g_at at) e) h), refl)
+  test_fits at e h = (Of TruthSort, program_sort_inv (g_at at) e (Of TruthSort) (truth_inv (program_sort (g_at at) e) h), refl)
 
   -- arguments
   each_fits : (at : Point) (es : List Exp) (ks : List Kind) (es' : List Exp) → scalars_of (g_at at) es ≡ Some (map word_sort_of ks) → AllFit ctx (each at es (views_for ks) es')
@@ -50,7 +52,7 @@ module _ (ctx : Context) where
       let g = g_at at in
       let r = scalar_first (scalar_in (program_sort g e)) (scalars_of g es) (word_sort_of k ∷ map word_sort_of ks) h in
       let same : word_sort_of k ≡ r.0 = first_is r.2 in (
-        (Of (word_sort_of k), program_sorted g e (Of r.0) (scalar_there (program_sort g e) r.0 r.4) ∙ ap (λ c. Some (Of c)) (sym same), sort_of_view k),
+        (Of (word_sort_of k), program_sort_inv g e (Of r.0) (scalar_in_inv (program_sort g e) r.0 r.4) ∙ ap (λ c. Some (Of c)) (sym same), sort_of_view k),
         each_fits at es ks as' (r.3 ∙ ap (λ cs. Some cs) (sym (others_are r.2))),
       )
     where
@@ -69,15 +71,15 @@ module _ (ctx : Context) where
   typed_sorted at t p path s h =
       let g = g_at at in
       let w = address_width ctx.layout.target in
-      let r = if_there (is_object ctx.layout t && is_word_of w (program_sort g p)) (part_place g t path) s h in
+      let r = if_inv (is_object ctx.layout t && is_word_of w (program_sort g p)) (part_place g t path) s h in
       let d = and_parts (is_object ctx.layout t) (is_word_of w (program_sort g p)) r.0 in
       let q = part_there g t path s r.1 in
-      ((Of (WordSort w), program_sorted g p (Of (WordSort w)) (word_of_inv w (program_sort g p) d.1)), path_sorted g path (shape_of ctx.layout t) q.0 q.1)
+      ((Of (WordSort w), program_sort_inv g p (Of (WordSort w)) (word_of_inv w (program_sort g p) d.1)), path_sorted g path (shape_of ctx.layout t) q.0 q.1)
 
   global_sorted : (at : Point) (o : Option CType) (path : Path) (s : Sort) → global_place (g_at at) o path ≡ Some s → AreSorted (g_at at) (path_children path)
   global_sorted at None path s h = absurd cc
   global_sorted at (Some t) path s h =
-      let r = if_there (is_object ctx.layout t) (part_place (g_at at) t path) s h in
+      let r = if_inv (is_object ctx.layout t) (part_place (g_at at) t path) s h in
       let q = part_there (g_at at) t path s r.1 in path_sorted (g_at at) path (shape_of ctx.layout t) q.0 q.1
 
   place_sorted : (at : Point) (place : Place) (s : Sort) → place_sort (g_at at) place ≡ Some s → AreSorted (g_at at) (place_children place)
@@ -91,7 +93,7 @@ module _ (ctx : Context) where
       let g = g_at at in
       let f = fits_inv (fits_place (place_sort g place) (program_sort g e)) (Some []) cs q in
       let r = fits_there (place_sort g place) (program_sort g e) f.0 in
-      owns_fit ctx at (place_children place ++ (e ∷ [])) as' (and_one g (place_children place) e (place_sorted at place r.0 r.1) (r.0, program_sorted g e r.0 r.2))
+      owns_fit ctx at (place_children place ++ (e ∷ [])) as' (and_one g (place_children place) e (place_sorted at place r.0 r.1) (r.0, program_sort_inv g e r.0 r.2))
 
   -- the starts of a loop say its sorts
   sorts_there : (at : Point) (es : List Exp) (ks : List Kind) (es' : List Exp) → AllFit ctx (each at es (views_for ks) es') → AllHold (GivesThere ctx) (each at es (views_for ks) es')

@@ -4,6 +4,7 @@ use Rattle.expression_lang.specs.Expression.{Exp}
 use Rattle.expression_lang.specs.Sort.{Scalar, Of, Kind, WordKind, Scope, truth_sort, word_sort_of}
 use Rattle.expression_lang.specs.Sorted.{program_sort, scalar_in, scalars_of, call_scalars}
 use Rattle.expression_lang.specs.Signature.{Signature, signature}
+use Rattle.expression_lang.proofs.SortParts.{program_sort_inv, scalar_in_inv}
 use Rattle.monad_lang.specs.Program as M
 use Rattle.monad_lang.specs.Program.{Mon, Start}
 use Rattle.monad_lang.specs.Sorted.{scalars_given, start_scalars}
@@ -17,7 +18,7 @@ use Rattle.rule_word.specs.CodeFits.{AreSorted, ClaimFits, AllFit, FitInTurn}
 use Rattle.rule_word.specs.CodeClaims.{program_exps, program_looks, program_pairs, inside, program_thens, kinds_taken, is_flat}
 use Rattle.rule_word.proofs.ProgramPartsFit.{parts_fit, looked_at_in, write_fits}
 use Rattle.rule_word.proofs.ProgramsGive.{starts_given}
-use Rattle.rule_word.proofs.ProgramSorts.{call_inv, loop_parts, scalar_first, scalar_there, program_sorted}
+use Rattle.rule_word.proofs.ProgramSorts.{call_inv, loop_parts, scalar_first}
 use Rattle.rule_word.proofs.Rows.{no_more, owns_map, own_is, AreReady}
 
 module _ (ctx : Context) (at : Point) where
@@ -62,7 +63,7 @@ module _ (ctx : Context) (at : Point) where
   each_sorted [] cs h = tt
   each_sorted (e ∷ es) cs h =
       let r = scalar_first (scalar_in (program_sort g e)) (scalars_of g es) cs h in
-      ((Of r.0, program_sorted g e (Of r.0) (scalar_there (program_sort g e) r.0 r.4)), each_sorted es r.1 r.3)
+      ((Of r.0, program_sort_inv g e (Of r.0) (scalar_in_inv (program_sort g e) r.0 r.4)), each_sorted es r.1 r.3)
 
   call_sorted : (o : Option Signature) (es : List Exp) (cs : List Scalar) → call_scalars word_sort_of o (scalars_of g es) ≡ Some cs → AreSorted g es
   call_sorted None es cs q = absurd cc

@@ -1,37 +1,19 @@
 -- What is known of a program's parts where it gives scalars.
-use Rattle.std.proofs.Common.{◌≡◌, Bool, true, false, cond, ◌&&◌, List, [], ◌∷◌, map, Option, Some, None, refl, sym, subst, ap, ap₂, ◌∙◌}
-use Rattle.std.proofs.lemmas.Bool.{eqb-true, and_parts}
+use Rattle.std.proofs.Common.{◌≡◌, Bool, true, false, cond, ◌&&◌, List, ◌∷◌, map, Option, Some, None, refl, sym, subst, ap, ◌∙◌}
+use Rattle.std.proofs.lemmas.Bool.{and_parts}
 use Rattle.c_values.specs.Types.{CType}
 use Rattle.c_values.specs.Layout.{Shape, shape_of}
-use Rattle.expression_lang.specs.Expression.{Exp, Path}
-use Rattle.expression_lang.specs.Form.{has, path_has, is_part_of_value}
+use Rattle.expression_lang.specs.Expression.{Path}
+use Rattle.expression_lang.specs.Form.{path_has, is_part_of_value}
 use Rattle.expression_lang.specs.Signature.{Signature, kinds_of}
-use Rattle.expression_lang.specs.Sort.{Scalar, WordSort, NumberSort, TruthSort, Sort, Of, PartsSort, Kind, Scope, sort_of, shape_along, same_scalar, word_sort_of}
-use Rattle.expression_lang.specs.Sorted.{same_scalars, with_scalar, scalar_in, program_sort, part_place, sort_in, fits_place, call_scalars, result_scalars}
-use Rattle.expression_lang.proofs.Inversion.{same_inv}
+use Rattle.expression_lang.specs.Sort.{Scalar, Sort, Kind, Scope, shape_along, word_sort_of}
+use Rattle.expression_lang.specs.Sorted.{same_scalars, with_scalar, part_place, sort_in, call_scalars, result_scalars}
+use Rattle.expression_lang.proofs.SameScalars.{same_scalars_are}
 use Rattle.monad_lang.specs.Sorted.{are_scalars, where_fits, and_then_scalars}
 use Rattle.rule_word.specs.Scopes.{result_as_list}
 
 pub some_is : {A : Type 0} {a b : A} → ◌≡◌ {A = Option A} (Some a) (Some b) → a ≡ b
 some_is h = cc
-
-pub same_scalar_is : (a b : Scalar) → same_scalar a b ≡ true → a ≡ b
-same_scalar_is (WordSort m) (WordSort n) h = ap (λ k. WordSort k) (eqb-true m n h)
-same_scalar_is (WordSort m) NumberSort h = absurd cc
-same_scalar_is (WordSort m) TruthSort h = absurd cc
-same_scalar_is NumberSort (WordSort n) h = absurd cc
-same_scalar_is NumberSort NumberSort h = refl
-same_scalar_is NumberSort TruthSort h = absurd cc
-same_scalar_is TruthSort (WordSort n) h = absurd cc
-same_scalar_is TruthSort NumberSort h = absurd cc
-same_scalar_is TruthSort TruthSort h = refl
-
-same_scalars_are : (as' bs : List Scalar) → same_scalars as' bs ≡ true → as' ≡ bs
-same_scalars_are [] [] h = refl
-same_scalars_are [] (b ∷ bs) h = absurd cc
-same_scalars_are (a ∷ as') [] h = absurd cc
-same_scalars_are (a ∷ as') (b ∷ bs) h =
-    let r = and_parts (same_scalar a b) (same_scalars as' bs) h in ap₂ (λ x xs. x ∷ xs) (same_scalar_is a b r.0) (same_scalars_are as' bs r.1)
 
 pub are_inv : (cs : List Scalar) (o : Option (List Scalar)) → are_scalars cs o ≡ true → o ≡ Some cs
 are_inv cs (Some ts) h = ap (λ x. Some x) (sym (same_scalars_are cs ts h))
@@ -62,19 +44,6 @@ scalar_first (Some c) (Some ds) cs h = (c, ds, sym (some_is h), refl, refl)
 scalar_first None r cs h = absurd cc
 scalar_first (Some c) None cs h = absurd cc
 
--- expressions of programs
-pub program_sorted : (g : Scope) (e : Exp) (s : Sort) → program_sort g e ≡ Some s → sort_of g e ≡ Some s
-program_sorted g e s h = by_test (has is_part_of_value e) h
-  where
-    by_test : (b : Bool) → cond b None (sort_of g e) ≡ Some s → sort_of g e ≡ Some s
-    by_test false k = k
-    by_test true k = absurd cc
-
-pub scalar_there : (o : Option Sort) (c : Scalar) → scalar_in o ≡ Some c → o ≡ Some (Of c)
-scalar_there (Some (Of d)) c h = ap (λ x. Some (Of x)) (some_is h)
-scalar_there (Some (PartsSort t)) c h = absurd cc
-scalar_there None c h = absurd cc
-
 -- places
 pub part_there : (g : Scope) (t : CType) (path : Path) (s : Sort) → part_place g t path ≡ Some s → (q : Shape) × (shape_along g path (shape_of g.layout t) ≡ Some q)
 part_there g t path s h = by_test (path_has is_part_of_value path) h
@@ -86,15 +55,6 @@ part_there g t path s h = by_test (path_has is_part_of_value path) h
     by_test : (b : Bool) → cond b None (sort_in (shape_along g path (shape_of g.layout t))) ≡ Some s → (q : Shape) × (shape_along g path (shape_of g.layout t) ≡ Some q)
     by_test true k = absurd cc
     by_test false k = by_shape (shape_along g path (shape_of g.layout t)) k
-
-pub if_there : {A : Type 0} (b : Bool) (o : Option A) (a : A) → cond b o None ≡ Some a → (b ≡ true) × (o ≡ Some a)
-if_there true o a h = (refl, h)
-if_there false o a h = absurd cc
-
-pub fits_there : (o p : Option Sort) → fits_place o p ≡ true → (s : Sort) × (o ≡ Some s) × (p ≡ Some s)
-fits_there (Some s) (Some t) h = same_inv (Some s) (Some t) h
-fits_there None p h = absurd cc
-fits_there (Some s) None h = absurd cc
 
 -- calls
 pub call_inv : (g : Signature) (o : Option (List Scalar)) (cs : List Scalar) → call_scalars word_sort_of (Some g) o ≡ Some cs → (o ≡ Some (map word_sort_of (kinds_of g.params))) × (result_scalars word_sort_of g.result ≡ cs)

@@ -6,11 +6,12 @@ use Rattle.expression_lang.specs.Expression.{Exp}
 use Rattle.expression_lang.specs.Sort.{Scalar, WordSort, Of, Kind, WordKind, NatKind, IntKind, BoolKind, Scope, is_width, is_truth, is_kind, sort_of_kind}
 use Rattle.expression_lang.specs.Sorted.{names_with, scope_with, program_sort, scalar_in, scalars_of, fits_place, call_scalars}
 use Rattle.expression_lang.specs.Signature.{Signature, signature}
+use Rattle.expression_lang.proofs.SortParts.{program_sort_inv, scalar_in_inv}
 use Rattle.monad_lang.specs.Program as M
 use Rattle.monad_lang.specs.Program.{Mon, Start}
 use Rattle.monad_lang.specs.Run.{start_names}
 use Rattle.monad_lang.specs.Sorted.{Setting, setting_with, scalars_given, start_scalars, place_sort, one_for_each, where_fits}
-use Rattle.rule_word.proofs.ProgramSorts.{some_is, then_inv, fits_inv, if_inv, scalar_first, scalar_there, program_sorted, loop_parts}
+use Rattle.rule_word.proofs.ProgramSorts.{some_is, then_inv, fits_inv, if_inv, scalar_first, loop_parts}
 use Rattle.rule_word.proofs.Widths.{IsWide, expression_wide}
 
 abbrev pub AllWide : List Scalar → Type 0
@@ -41,7 +42,7 @@ module _ (f : Kind → Scalar) (fs : List Signature) (calls : WideCalls f fs) wh
   each_wide g lay w (e ∷ es) cs h =
       let r = scalar_first (scalar_in (program_sort g e)) (scalars_of g es) cs h in
       subst AllWide (sym r.2) (
-        subst IsWide (program_sorted g e (Of r.0) (scalar_there (program_sort g e) r.0 r.4)) (expression_wide g lay w e),
+        subst IsWide (program_sort_inv g e (Of r.0) (scalar_in_inv (program_sort g e) r.0 r.4)) (expression_wide g lay w e),
         each_wide g lay w es r.1 r.3,
       )
 
@@ -50,7 +51,7 @@ module _ (f : Kind → Scalar) (fs : List Signature) (calls : WideCalls f fs) wh
   starts_wide g lay w (x ∷ xs) cs h =
       let r = scalar_first (scalar_in (program_sort g x.exp)) (start_scalars g xs) cs h in
       subst AllWide (sym r.2) (
-        subst IsWide (program_sorted g x.exp (Of r.0) (scalar_there (program_sort g x.exp) r.0 r.4)) (expression_wide g lay w x.exp),
+        subst IsWide (program_sort_inv g x.exp (Of r.0) (scalar_in_inv (program_sort g x.exp) r.0 r.4)) (expression_wide g lay w x.exp),
         starts_wide g lay w xs r.1 r.3,
       )
 

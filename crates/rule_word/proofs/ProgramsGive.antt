@@ -5,6 +5,7 @@ use Rattle.expression_lang.specs.Expression.{Exp}
 use Rattle.expression_lang.specs.Sort.{Scalar, Of, Kind, WordKind, NatKind, IntKind, Scope, sort_of, is_truth, is_kind, sort_of_kind, word_sort_of}
 use Rattle.expression_lang.specs.Sorted.{program_sort, scalar_in, with_scalar, scalars_of, fits_place, call_scalars}
 use Rattle.expression_lang.specs.Signature.{Signature, signature}
+use Rattle.expression_lang.proofs.SortParts.{program_sort_inv, scalar_in_inv}
 use Rattle.monad_lang.specs.Program as M
 use Rattle.monad_lang.specs.Program.{Mon, Place, Start}
 use Rattle.monad_lang.specs.Run.{start_names}
@@ -16,7 +17,7 @@ use Rattle.rule_word.specs.Rule.{Rule, Context, Point, View, Claim, expression, 
 use Rattle.rule_word.specs.Scopes.{words, sort_seen, view_for}
 use Rattle.rule_word.specs.Table.{each, AreMatched, views_for, call_row, program_row, table}
 use Rattle.rule_parts.specs.Starts.{start_exps}
-use Rattle.rule_word.proofs.ProgramSorts.{some_is, then_inv, fits_inv, if_inv, call_inv, result_sorts, scalar_first, scalar_there, program_sorted, loop_parts}
+use Rattle.rule_word.proofs.ProgramSorts.{some_is, then_inv, fits_inv, if_inv, call_inv, result_sorts, scalar_first, loop_parts}
 use Rattle.rule_word.proofs.Recasts.{recast_sorts}
 use Rattle.rule_word.proofs.ScopesAfter.{sort_of_view, setting_after}
 
@@ -49,7 +50,7 @@ module _ (ctx : Context) where
       let g = (words ctx at.names).scope in
       let r = scalar_first (scalar_in (program_sort g e)) (scalars_of g es) cs h in
       r.2 ∙ ap₂ (λ d ds. d ∷ ds)
-      (same_sort r.0 k g e (program_sorted g e (Of r.0) (scalar_there (program_sort g e) r.0 r.4)) s.0.sort)
+      (same_sort r.0 k g e (program_sort_inv g e (Of r.0) (scalar_in_inv (program_sort g e) r.0 r.4)) s.0.sort)
       (each_gives at es ks as' n s.1 r.1 r.3)
   each_gives at _ _ _ n s cs h = absurd n
 

@@ -4,14 +4,18 @@ use Rattle.std.proofs.lemmas.Bool.{and_parts}
 use Rattle.c_values.specs.Name.{Name, are_distinct}
 use Rattle.c_values.specs.Types.{CType, address_width}
 use Rattle.c_values.specs.Layout.{shape_of, is_object, global_type}
+use Rattle.c_values.proofs.Options.{some_is}
 use Rattle.expression_lang.specs.Expression as X
 use Rattle.expression_lang.specs.Expression.{Exp, Path}
 use Rattle.expression_lang.specs.Sort.{Scalar, WordSort, NumberSort, TruthSort, Sort, Of, Kind, WordKind, NatKind, IntKind, BoolKind, Scope, sort_of, is_truth, is_word_of, same_scalar, word_sort_of, sort_of_kind, is_kind, truth_sort}
 use Rattle.expression_lang.specs.Sorted.{program_sort, scalar_in, with_scalar, scalars_of, typed_place, global_place, part_place, fits_place, call_scalars}
 use Rattle.expression_lang.specs.Signature.{Binder, Signature, kinds_of, signature}
 use Rattle.expression_lang.proofs.Inversion.{where_inv, truth_inv, word_of_inv}
+use Rattle.expression_lang.proofs.SameScalars.{same_scalar_is}
+use Rattle.expression_lang.proofs.SortParts.{program_sort_inv, fits_inv as fits_there, scalar_in_inv}
 use Rattle.ac_expr.specs.Fact.{Fact, Whole, NotTrue}
 use Rattle.ac_expr.specs.Heads.{hole}
+use Rattle.ac_expr.proofs.ConstantsSound.{if_inv}
 use Rattle.monad_lang.specs.Program as M
 use Rattle.monad_lang.specs.Program.{Mon, Place, Start}
 use Rattle.monad_lang.specs.Run.{start_names}
@@ -28,20 +32,17 @@ use Rattle.rule_word.specs.Bases.{among}
 use Rattle.rule_word.specs.WordsAbstracted.{Abstracted, one}
 use Rattle.rule_word.specs.ProgramsAbstracted.{AbstractedProgram, rights, trees_before, restarted, word_kind_of, kind_for, kinds_for, scalars_there, same_kinds, recast_to, exp_at, guard_at, all_at, program_abstracted, is_word_or_truth, are_words_or_truths, binds_words}
 use Rattle.rule_word.proofs.AbstractedTaken.{taken, indices_before, AllNumbers, all_numbers, path_head_kept}
-use Rattle.rule_word.proofs.ProgramSorts.{same_scalar_is, then_inv, fits_inv, are_inv, program_sorted, scalar_there, part_there, if_there, fits_there, call_inv, result_sorts}
+use Rattle.rule_word.proofs.ProgramSorts.{then_inv, fits_inv, are_inv, part_there, call_inv, result_sorts}
 use Rattle.rule_word.proofs.RecastsTaken.{recast_taken}
 use Rattle.rule_word.proofs.ScopesAfter.{sort_of_view, setting_after}
 
-some_is : {A : Type 0} {a b : A} → ◌≡◌ {A = Option A} (Some a) (Some b) → a ≡ b
-some_is h = cc
-
 -- kinds for scalars
-word_kind_sort : (c : Scalar) → is_word_or_truth c ≡ true → word_sort_of (word_kind_of c) ≡ c
+pub word_kind_sort : (c : Scalar) → is_word_or_truth c ≡ true → word_sort_of (word_kind_of c) ≡ c
 word_kind_sort (WordSort n) h = refl
 word_kind_sort NumberSort h = absurd cc
 word_kind_sort TruthSort h = refl
 
-kind_for_sort : (o : Option Kind) (c : Scalar) → is_word_or_truth c ≡ true → word_sort_of (kind_for o c) ≡ c
+pub kind_for_sort : (o : Option Kind) (c : Scalar) → is_word_or_truth c ≡ true → word_sort_of (kind_for o c) ≡ c
 kind_for_sort None c h = word_kind_sort c h
 kind_for_sort (Some k) c h = by_test (same_scalar (word_sort_of k) c) refl
   where
@@ -49,7 +50,7 @@ kind_for_sort (Some k) c h = by_test (same_scalar (word_sort_of k) c) refl
     by_test true e = same_scalar_is (word_sort_of k) c e
     by_test false e = word_kind_sort c h
 
-kinds_for_sorts : (table : Name → Option Kind) (xs : List Name) (cs : List Scalar) → are_words_or_truths cs ≡ true → map word_sort_of (kinds_for table xs cs) ≡ cs
+pub kinds_for_sorts : (table : Name → Option Kind) (xs : List Name) (cs : List Scalar) → are_words_or_truths cs ≡ true → map word_sort_of (kinds_for table xs cs) ≡ cs
 kinds_for_sorts table xs [] h = refl
 kinds_for_sorts table [] (c ∷ cs) h = let r = and_parts (is_word_or_truth c) (are_words_or_truths cs) h in ap₂ (λ d ds. d ∷ ds) (word_kind_sort c r.0) (kinds_for_sorts table [] cs r.1)
 kinds_for_sorts table (x ∷ xs) (c ∷ cs) h =
@@ -89,7 +90,7 @@ module _ (ctx : Context) (same : Exp → Exp → Bool) (is_same : (a b : Exp) �
   all_sorted g (e ∷ es) [] h = absurd (no_scalars (scalar_in (program_sort g e)) (scalars_of g es) h)
   all_sorted g (e ∷ es) (k ∷ ks) h =
       let r = scalars_first (scalar_in (program_sort g e)) (scalars_of g es) (word_sort_of k) (map word_sort_of ks) h in
-      (program_sorted g e (Of (word_sort_of k)) (scalar_there (program_sort g e) (word_sort_of k) r.0), all_sorted g es ks r.1)
+      (program_sort_inv g e (Of (word_sort_of k)) (scalar_in_inv (program_sort g e) (word_sort_of k) r.0), all_sorted g es ks r.1)
 
   starts_sorted : (g : Scope) (xs : List Start) (ks : List Kind) → start_scalars g xs ≡ Some (map word_sort_of ks) → AllSorted g (start_exps xs) ks
   starts_sorted g [] [] h = tt
@@ -97,7 +98,7 @@ module _ (ctx : Context) (same : Exp → Exp → Bool) (is_same : (a b : Exp) �
   starts_sorted g (x ∷ xs) [] h = absurd (no_scalars (scalar_in (program_sort g x.exp)) (start_scalars g xs) h)
   starts_sorted g (x ∷ xs) (k ∷ ks) h =
       let r = scalars_first (scalar_in (program_sort g x.exp)) (start_scalars g xs) (word_sort_of k) (map word_sort_of ks) h in
-      (program_sorted g x.exp (Of (word_sort_of k)) (scalar_there (program_sort g x.exp) (word_sort_of k) r.0), starts_sorted g xs ks r.1)
+      (program_sort_inv g x.exp (Of (word_sort_of k)) (scalar_in_inv (program_sort g x.exp) (word_sort_of k) r.0), starts_sorted g xs ks r.1)
 
   abbrev at_point : List Fact → List Binder → Point
   at_point fs names = record { facts = fs; names = names }
@@ -133,7 +134,7 @@ module _ (ctx : Context) (same : Exp → Exp → Bool) (is_same : (a b : Exp) �
 
   -- tests
   truth_there : (names : List Binder) (e : Exp) → is_truth (program_sort (g_in names) e) ≡ true → sort_of (g_in names) e ≡ truth_sort
-  truth_there names e h = program_sorted (g_in names) e (Of TruthSort) (truth_inv (program_sort (g_in names) e) h)
+  truth_there names e h = program_sort_inv (g_in names) e (Of TruthSort) (truth_inv (program_sort (g_in names) e) h)
 
   test_taken : (names : List Binder) (fs : List Fact) (e : Exp) → is_truth (program_sort (g_in names) e) ≡ true → Accepts (table ctx) (E names fs e truth).tree (expression (at_point fs names) e truth (E names fs e truth).right)
   test_taken names fs e h = exp_taken names fs e (Of TruthSort) (truth_there names e h) truth refl
@@ -189,17 +190,17 @@ module _ (ctx : Context) (same : Exp → Exp → Bool) (is_same : (a b : Exp) �
   root_sorted : (names : List Binder) (t : CType) (p : Exp) (path : Path) (s : Sort) → typed_place (g_in names) t p path ≡ Some s →
       (sort_of (g_in names) p ≡ Some (Of (WordSort (address_width ctx.layout.target)))) × AllNumbers ctx names same is_same numbers path
   root_sorted names t p path s h =
-      let r = if_there (is_object ctx.layout t && is_word_of (address_width ctx.layout.target) (program_sort (g_in names) p)) (part_place (g_in names) t path) s h in
+      let r = if_inv (is_object ctx.layout t && is_word_of (address_width ctx.layout.target) (program_sort (g_in names) p)) (part_place (g_in names) t path) s h in
       let d = and_parts (is_object ctx.layout t) (is_word_of (address_width ctx.layout.target) (program_sort (g_in names) p)) r.0 in
       let w = part_there (g_in names) t path s r.1 in (
-        program_sorted (g_in names) p (Of (WordSort (address_width ctx.layout.target))) (word_of_inv (address_width ctx.layout.target) (program_sort (g_in names) p) d.1),
+        program_sort_inv (g_in names) p (Of (WordSort (address_width ctx.layout.target))) (word_of_inv (address_width ctx.layout.target) (program_sort (g_in names) p) d.1),
         all_numbers ctx names same is_same numbers path (shape_of ctx.layout t) w.0 w.1,
       )
 
   global_sorted : (names : List Binder) (o : Option CType) (path : Path) (s : Sort) → global_place (g_in names) o path ≡ Some s → AllNumbers ctx names same is_same numbers path
   global_sorted names None path s h = absurd cc
   global_sorted names (Some t) path s h =
-      let r = if_there (is_object ctx.layout t) (part_place (g_in names) t path) s h in
+      let r = if_inv (is_object ctx.layout t) (part_place (g_in names) t path) s h in
       let w = part_there (g_in names) t path s r.1 in all_numbers ctx names same is_same numbers path (shape_of ctx.layout t) w.0 w.1
 
   write_taken : (fs : List Fact) (names : List Binder) (place : Place) (e : Exp) → (s : Sort) → place_sort (g_in names) place ≡ Some s → sort_of (g_in names) e ≡ Some s → IsTaken fs names (M.Write place e) []
@@ -231,7 +232,7 @@ module _ (ctx : Context) (same : Exp → Exp → Bool) (is_same : (a b : Exp) �
   place_written fs names place e ks q =
       let r = none_given (fits_place (place_sort (g_in names) place) (program_sort (g_in names) e)) ks q in
       let f = fits_there (place_sort (g_in names) place) (program_sort (g_in names) e) r.0 in
-      subst (λ z. IsTaken fs names (M.Write place e) z) (sym r.1) (write_taken fs names place e f.0 f.1 (program_sorted (g_in names) e f.0 f.2))
+      subst (λ z. IsTaken fs names (M.Write place e) z) (sym r.1) (write_taken fs names place e f.0 f.1 (program_sort_inv (g_in names) e f.0 f.2))
 
   one_given : (b : Bool) (c : Scalar) (ks : List Kind) → where_fits b (Some (c ∷ [])) ≡ Some (map word_sort_of ks) → (k : Kind) × (ks ≡ k ∷ []) × (c ≡ word_sort_of k)
   one_given true c (k ∷ []) h = (k, refl, ap (first_of c) (some_is h))

@@ -1,12 +1,13 @@
 -- Values that are bound at some kinds, at other kinds of the same words.
 use Rattle.std.proofs.Common.{◌≡◌, ℕ, ◌==◌, Bool, true, false, cond, not, List, [], ◌∷◌, map, Option, Some, None, refl, sym, ap, ap₂, ◌∙◌}
-use Rattle.std.proofs.lemmas.Bool.{and_parts, or_parts, cond-true, cond-false, eqb-true, not-true}
+use Rattle.std.proofs.lemmas.Bool.{and_parts, cond-true, eqb-true, not-true}
 use Rattle.c_values.specs.Name.{Name, same_name, with_name, is_among, are_distinct}
 use Rattle.c_values.specs.Word.{IsWord, word, unsigned, signed}
 use Rattle.c_values.specs.Value.{Value, Bits, Number, Truth, Parts, word_in, number_in}
 use Rattle.c_values.specs.Layout.{Layout}
-use Rattle.c_values.proofs.Laid.{same_name-refl, other_name}
+use Rattle.c_values.proofs.Laid.{same_name-refl}
 use Rattle.c_values.proofs.WordValues.{word-unsigned, word-signed}
+use Rattle.c_values.proofs.Options.{some_is}
 use Rattle.expression_lang.specs.Expression as X
 use Rattle.expression_lang.specs.Expression.{Exp}
 use Rattle.expression_lang.specs.Evaluation.{Env, State, value}
@@ -14,11 +15,9 @@ use Rattle.expression_lang.specs.Sort.{Kind, WordKind, NatKind, IntKind, BoolKin
 use Rattle.expression_lang.specs.States.{IsOfSort}
 use Rattle.expression_lang.specs.Signature.{bound, values_of}
 use Rattle.expression_lang.specs.View.{view_at, views_at}
+use Rattle.expression_lang.proofs.Bound.{bound_stays}
 use Rattle.program_facts.specs.Lasting.{AreOfSorts}
 use Rattle.rule_word.specs.Table.{recast, recast_first, recasts}
-
-some_is : {A : Type 0} {a b : A} → ◌≡◌ {A = Option A} (Some a) (Some b) → a ≡ b
-some_is h = cc
 
 -- where a test gives an answer, it holds, and that is the answer
 tested : (b : Bool) (e a : Exp) → cond b (Some e) None ≡ Some a → (b ≡ true) × (e ≡ a)
@@ -99,18 +98,11 @@ Holds env [] [] [] = Unit {0}
 Holds env (y ∷ ys) (j ∷ js) (u ∷ us) = (env y ≡ view_at j u) × Holds env ys js us
 Holds env _ _ _ = Unit {0}
 
-stays : (y : Name) (xs : List Name) (vs : List Value) (env : Env) → is_among y xs ≡ false → bound xs vs env y ≡ env y
-stays y [] vs env h = refl
-stays y (x ∷ xs) [] env h = refl
-stays y (x ∷ xs) (v ∷ vs) env h =
-    let d = or_parts (same_name y x) (is_among y xs) h in
-    stays y xs vs (with_name x v env) d.1 ∙ cond-false (same_name x y) v (env y) (other_name y x d.0)
-
 bound_holds : (ys : List Name) (js : List Kind) (us : List Value) (env : Env) → are_distinct ys ≡ true → Holds (bound ys (views_at js us) env) ys js us
 bound_holds [] [] [] env h = tt
 bound_holds (y ∷ ys) (j ∷ js) (u ∷ us) env h =
     let d = and_parts (not (is_among y ys)) (are_distinct ys) h in (
-      stays y ys (views_at js us) (with_name y (view_at j u) env) (not-true (is_among y ys) d.0) ∙ cond-true (same_name y y) (view_at j u) (env y) (same_name-refl y),
+      bound_stays y ys (views_at js us) (with_name y (view_at j u) env) (not-true (is_among y ys) d.0) ∙ cond-true (same_name y y) (view_at j u) (env y) (same_name-refl y),
       bound_holds ys js us (with_name y (view_at j u) env) d.1,
     )
 bound_holds _ _ _ env h = tt

@@ -8,10 +8,12 @@ use Rattle.c_values.proofs.Laid.{same_name-refl, other_name}
 use Rattle.expression_lang.specs.Expression as X
 use Rattle.expression_lang.specs.Expression.{Exp}
 use Rattle.expression_lang.specs.Form.{has, is_part_of_value}
-use Rattle.expression_lang.specs.Sort.{Scalar, WordSort, NumberSort, TruthSort, Sort, Of, Kind, WordKind, NatKind, IntKind, BoolKind, Scope, sort_of, sort_of_kind, word_sort_of, is_width, is_kind, is_truth, is_number, word_width, of_word, number_sort, same_scalar, where_holds, word_sort, scalar_sort}
+use Rattle.expression_lang.specs.Sort.{Scalar, WordSort, NumberSort, TruthSort, Sort, Of, Kind, WordKind, NatKind, IntKind, BoolKind, Scope, sort_of, sort_of_kind, word_sort_of, is_width, is_kind, is_truth, is_number, word_width, of_word, number_sort, where_holds, word_sort, scalar_sort}
 use Rattle.expression_lang.specs.Sorted.{names_with, scope_with, program_sort, scalar_in, with_scalar, scalars_of, same_scalars, fits_place, call_scalars, result_scalars}
 use Rattle.expression_lang.specs.Signature.{Signature, kinds_of, signature}
 use Rattle.expression_lang.proofs.Inversion.{truth_inv}
+use Rattle.expression_lang.proofs.SameScalars.{same_scalars-refl}
+use Rattle.expression_lang.proofs.SortParts.{fits_inv as fits_there, scalar_in_inv}
 use Rattle.ac_expr.specs.Fact.{Fact, Whole}
 use Rattle.program_facts.specs.Flow.{facts_after}
 use Rattle.monad_lang.specs.Program as M
@@ -30,7 +32,7 @@ use Rattle.rule_word.proofs.HeadSorts.{heads_sorted, sorts_in, IsNoName}
 use Rattle.rule_word.proofs.NoParts.{ArePlain, StaysPlain, PlainThere, claim_plain, plain_children, heads_plain}
 use Rattle.rule_word.proofs.PlaceSorts.{looking_at, same_children, heads_looking, place_looked_at, place_plain, plain_there, program_sort_plain}
 use Rattle.program_facts.proofs.PlacesAgree.{place_as_many}
-use Rattle.rule_word.proofs.ProgramSorts.{some_is, then_inv, fits_inv, are_inv, scalar_first, scalar_there, fits_there, call_inv}
+use Rattle.rule_word.proofs.ProgramSorts.{some_is, then_inv, fits_inv, are_inv, scalar_first, call_inv}
 use Rattle.rule_word.proofs.ProgramsGive.{Gives, GivesThere, claim_gives, starts_given}
 use Rattle.rule_word.proofs.ProgramWidths.{AllWide, WideNames, WideCalls, wide_after, given_wide}
 use Rattle.rule_word.proofs.Recasts.{same_widths, first_inv, recast_sorts}
@@ -45,17 +47,8 @@ then_is o f cs ds h k = ap (λ z. and_then_scalars z f) h ∙ k
 fits_is : (b : Bool) (o : Option (List Scalar)) (cs : List Scalar) → b ≡ true → o ≡ Some cs → where_fits b o ≡ Some cs
 fits_is b o cs h k = ap (λ c. where_fits c o) h ∙ k
 
-same_scalar_refl : (c : Scalar) → same_scalar c c ≡ true
-same_scalar_refl (WordSort n) = (Decides-eqb n n).1 refl
-same_scalar_refl NumberSort = refl
-same_scalar_refl TruthSort = refl
-
-same_refl : (cs : List Scalar) → same_scalars cs cs ≡ true
-same_refl [] = refl
-same_refl (c ∷ cs) = and_from (same_scalar c c) (same_scalars cs cs) (same_scalar_refl c) (same_refl cs)
-
 pub are_there : (o : Option (List Scalar)) (cs : List Scalar) → o ≡ Some cs → are_scalars cs o ≡ true
-are_there o cs h = ap (are_scalars cs) h ∙ same_refl cs
+are_there o cs h = ap (are_scalars cs) h ∙ same_scalars-refl cs
 
 same_length : (f g : Kind → Scalar) (ks : List Kind) → length (map f ks) ≡ length (map g ks)
 same_length f g [] = refl
@@ -197,7 +190,7 @@ module _ (ctx : Context) (lay : IsLayout ctx.layout) (calls : WideCalls word_sor
   each_right at (e ∷ es) (k ∷ ks) (a ∷ as') w n s q =
       let r = scalar_first (scalar_in (program_sort (G at) e)) (scalars_of (G at) es) (word_sort_of k ∷ map word_sort_of ks) q in
       ap₂ (λ o z. with_scalar (scalar_in o) z)
-      (exp_right at e (view_for k) a (Of r.0) w s.0 (scalar_there (program_sort (G at) e) r.0 r.4) ∙ sym (given_kind k))
+      (exp_right at e (view_for k) a (Of r.0) w s.0 (scalar_in_inv (program_sort (G at) e) r.0 r.4) ∙ sym (given_kind k))
       (each_right at es ks as' w n s.1 (r.3 ∙ ap (λ cs. Some cs) (sym (ap tail_of r.2))))
   each_right at _ _ _ w n s q = absurd n
 
@@ -274,7 +267,7 @@ module _ (ctx : Context) (lay : IsLayout ctx.layout) (calls : WideCalls word_sor
   call_right at (Some f) es es' ks w h s q =
       let c = call_inv f (scalars_of (G at) es) (map word_sort_of ks) q in
       ap (call_scalars sort_of_kind (Some f)) (each_right at es (kinds_of f.params) es' w h.1 s c.0)
-      ∙ cond-true (same_scalars (map sort_of_kind (kinds_of f.params)) (map sort_of_kind (kinds_of f.params))) (Some (result_scalars sort_of_kind f.result)) None (same_refl (map sort_of_kind (kinds_of f.params)))
+      ∙ cond-true (same_scalars (map sort_of_kind (kinds_of f.params)) (map sort_of_kind (kinds_of f.params))) (Some (result_scalars sort_of_kind f.result)) None (same_scalars-refl (map sort_of_kind (kinds_of f.params)))
       ∙ ap (λ cs. Some cs) (result_kinds f.result ∙ ap (map sort_of_kind) (sym h.0))
 
   -- names that are bound have words of the four widths

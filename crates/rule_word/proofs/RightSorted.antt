@@ -1,15 +1,15 @@
 -- What the rules take a well-sorted expression to is well-sorted, where names have what stands for their words: numbers where the view
 -- is of numbers, else the sort that the left side has.
-use Rattle.std.proofs.Common.{◌≡◌, ◌==◌, ℕ, suc, Bool, true, false, not, cond, ◌&&◌, List, [], ◌∷◌, length, Option, Some, None, refl, sym, subst, ap, ap₂, ◌∙◌}
+use Rattle.std.proofs.Common.{◌≡◌, ◌==◌, ℕ, true, false, not, ◌&&◌, List, [], ◌∷◌, length, Option, Some, None, refl, sym, subst, ap, ap₂, ◌∙◌}
 use Rattle.std.proofs.lemmas.Bool.Decides.{Decides-eqb}
-use Rattle.c_values.specs.Name.{Name, same_name}
+use Rattle.c_values.specs.Name.{Name}
 use Rattle.c_values.specs.Layout.{global_type}
 use Rattle.c_values.specs.Word.{Wadd, Wsub, Wmul, Wudiv, Wumod, Wsdiv, Wsmod, Wneg, WordTest, Wult, Wule, Wslt, Wsle}
 use Rattle.c_values.specs.Number as N
+use Rattle.c_values.proofs.Options.{some_is, none_is}
 use Rattle.expression_lang.specs.Expression as X
 use Rattle.expression_lang.specs.Expression.{Exp}
 use Rattle.expression_lang.specs.Sort.{Kind, WordKind, NatKind, IntKind, BoolKind, Sort, Of, Scope, sort_of, sort_of_kind, word_sort_of, word_sort, number_sort, truth_sort, word_width, is_width, is_number, is_truth, is_unary, are_same, where_holds, of_word, of_words, scalar_sort}
-use Rattle.expression_lang.specs.Signature.{Binder}
 use Rattle.ac_expr.specs.Fact.{Fact}
 use Rattle.ac_expr.specs.Heads.{children}
 use Rattle.ac_expr.proofs.HeadsAgree.{as_many}
@@ -20,6 +20,8 @@ use Rattle.rule_word.specs.Rule.{Rule, Context, Point, View, AsIs, Unsigned, Sig
 use Rattle.rule_word.specs.Scopes.{names_in, words, numbers, sort_seen, view_for, width_in}
 use Rattle.rule_word.specs.Table.{constant, number_width, IsInRange, of_width, each, owns, is_operator, expression_row, table}
 use Rattle.rule_word.proofs.HeadSorts.{heads_sorted, sorts_in, IsNoName}
+use Rattle.rule_word.proofs.SoundExpressions.{one_less}
+use Rattle.rule_word.proofs.AbstractedTaken.{names_there}
 
 -- what the right side has
 abbrev pub sort_given : View → Option Sort
@@ -31,26 +33,9 @@ sort_given (Signed n) = number_sort
 abbrev pub HasWidths : Scope → Type 0
 HasWidths g = (e : Exp) (n : ℕ) → sort_of g e ≡ word_sort n → is_width n ≡ true
 
-some_is : {A : Type 0} {a b : A} → ◌≡◌ {A = Option A} (Some a) (Some b) → a ≡ b
-some_is h = cc
-
-none_is : {A : Type 0} {P : Type 0} {a : A} → ◌≡◌ {A = Option A} None (Some a) → P
-none_is h = cc
-
-one_less : (m n : ℕ) → suc m ≡ suc n → m ≡ n
-one_less m n h = cc
-
 abbrev there : {A : Type 0} → (Kind → A) → Option Kind → Option A
 there f None = None
 there f (Some k) = Some (f k)
-
-by_names : {A : Type 0} (f : Kind → A) (b : Bool) (k : Kind) (o : Option A) (q : Option Kind) → o ≡ there f q → cond b (Some (f k)) o ≡ there f (cond b (Some k) q)
-by_names f true k o q h = refl
-by_names f false k o q h = h
-
-names_there : {A : Type 0} (f : Kind → A) (bs : List Binder) (x : Name) → names_in f bs x ≡ there f (names_in (λ k. k) bs x)
-names_there f [] x = refl
-names_there f (b ∷ bs) x = by_names f (same_name b.name x) b.kind (names_in f bs x) (names_in (λ k. k) bs x) (names_there f bs x)
 
 pub given_kind : (k : Kind) → ◌≡◌ {A = Option Sort} (Some (Of (sort_of_kind k))) (sort_given (view_for k))
 given_kind (WordKind n) = refl

@@ -2,6 +2,7 @@
 use Rattle.std.proofs.Common.{◌≡◌, Bool, true, false, cond, List, [], ◌∷◌, map, Option, Some, refl, sym, subst, ap}
 use Rattle.c_values.specs.Name.{Name, same_name, with_name}
 use Rattle.c_values.specs.Value.{Value}
+use Rattle.c_values.proofs.Options.{some_is}
 use Rattle.expression_lang.specs.Evaluation.{Env}
 use Rattle.expression_lang.specs.Sort.{Scalar, Sort, Of, Kind, WordKind, NatKind, IntKind, BoolKind, word_sort_of}
 use Rattle.expression_lang.specs.Sorted.{names_with}
@@ -34,9 +35,6 @@ sort_of_view (WordKind n) = refl
 sort_of_view (NatKind n) = refl
 sort_of_view (IntKind n) = refl
 sort_of_view BoolKind = refl
-
-some_is : {A : Type 0} {a b : A} → ◌≡◌ {A = Option A} (Some a) (Some b) → a ≡ b
-some_is h = cc
 
 one_seen : (k : Kind) (u u' w : Value) (o : Option View) (v : View) (b : Bool) → (o ≡ Some v → u' ≡ seen v u) → cond b (Some (view_for k)) o ≡ Some v → cond b (view_at k w) u' ≡ seen v (cond b w u)
 one_seen k u u' w o v true h e = subst (λ x. view_at k w ≡ seen x w) (some_is e) (sym (seen_kind k w))

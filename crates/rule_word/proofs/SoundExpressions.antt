@@ -11,6 +11,7 @@ use Rattle.c_values.specs.Layout.{Layout, IsLayout, GlobalVar, global_type}
 use Rattle.c_values.specs.Path.{IsBits}
 use Rattle.c_values.proofs.WordResults.{unsigned_quotient, unsigned_remainder, positive_cast}
 use Rattle.c_values.proofs.WordValues.{word-unsigned, word-signed}
+use Rattle.c_values.proofs.Options.{some_is, none_is}
 use Rattle.expression_lang.specs.Expression as X
 use Rattle.expression_lang.specs.Expression.{Exp}
 use Rattle.expression_lang.specs.Evaluation.{Env, State, value, if_truth}
@@ -34,12 +35,6 @@ use Rattle.program_facts.proofs.SortedValues.{value_sorted}
 use Rattle.rule_word.proofs.WordViews as W
 use Rattle.rule_word.proofs.WordViews.{Fits}
 use Rattle.rule_word.proofs.SameWords.{unsigned_same, signed_same}
-
-some_is : {A : Type 0} {a b : A} → ◌≡◌ {A = Option A} (Some a) (Some b) → a ≡ b
-some_is h = cc
-
-none_is : {A : Type 0} {P : Type 0} {a : A} → ◌≡◌ {A = Option A} None (Some a) → P
-none_is h = cc
 
 is_bits : (n : ℕ) (v : Value) → IsBits n v → (v ≡ Bits (word_in v)) × IsWord n (word_in v)
 is_bits n (Bits w) h = (refl, h)

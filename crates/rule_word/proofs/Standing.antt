@@ -9,6 +9,7 @@ use Rattle.c_values.specs.Choice.{Choice}
 use Rattle.c_values.specs.Value.{Value, word_in}
 use Rattle.c_values.specs.Layout.{Layout, IsLayout, shape_of}
 use Rattle.c_values.specs.Path.{in_range}
+use Rattle.c_values.proofs.Options.{some_is}
 use Rattle.c_memory.specs.TypedHeap.{view}
 use Rattle.c_memory.specs.Heap.{OnBytes, OnTypes, is_tagged}
 use Rattle.expression_lang.specs.Expression.{Exp}
@@ -66,10 +67,6 @@ everywhere l p (M.Write place e) env depth fs s = tt
 everywhere l p (M.Loop starts guard test m) env depth fs s = each_turn _ _ _ (λ gs a. everywhere l p m (bound (start_names starts) a.values env) depth gs a.state) fs _
 everywhere l p (M.Call f es) env depth fs s = tt
 everywhere l p (M.Pick k) env depth fs s = tt
-
--- the function that has a signature
-some_is : {A : Type 0} {a b : A} → ◌≡◌ {A = Option A} (Some a) (Some b) → a ≡ b
-some_is h = cc
 
 taken_by_name : (f : FinalFn) (o : Option FinalFn) (q : Option Signature) (g : Signature) (vs : List Value) → AreOfKinds (kinds_of g.params) vs → (b : Bool) → (q ≡ Some g → TakesThem o vs) → cond b (Some (signature_of f)) q ≡ Some g → TakesThem (cond b (Some f) o) vs
 taken_by_name f o q g vs h true k e = subst (λ (s : Signature). AreOfKinds (kinds_of s.params) vs) (sym (some_is e)) h

@@ -1,5 +1,5 @@
 -- The rules take each body of a well-formed unit to that of the unit that it is abstracted to.
-use Rattle.std.proofs.Common.{◌≡◌, Bool, true, false, cond, List, [], ◌∷◌, map, Option, Some, None, refl, sym, subst, ap, ap₂, ◌∙◌}
+use Rattle.std.proofs.Common.{◌≡◌, Bool, true, List, [], ◌∷◌, map, Option, Some, None, refl, sym, subst, ap, ap₂, ◌∙◌}
 use Rattle.std.proofs.lemmas.Bool.{and_parts}
 use Rattle.c_values.specs.Name.{Name, same_name}
 use Rattle.c_values.specs.Layout.{Layout, global_type}
@@ -19,8 +19,8 @@ use Rattle.rule_word.specs.UnitAbstracted.{FunctionKinds, right_signature, right
 use Rattle.rule_word.specs.Units.{AreAbstractedTo, IsUnitAbstractedTo}
 use Rattle.rule_word.proofs.ProgramsTaken.{program_taken}
 use Rattle.rule_word.proofs.ScopesAfter.{names_after}
-use Rattle.rule_word.proofs.SettingsAlike.{TakesAlike, SignedAlike, given_alike}
-use Rattle.rule_word.proofs.UnitsKeep.{fn_sorted}
+use Rattle.rule_word.proofs.SettingsAlike.{SignedAlike, given_alike}
+use Rattle.rule_word.proofs.UnitsKeep.{fn_sorted, by_name}
 
 -- signatures on the right
 result_back : (g : FinalFn) (r : Option Kind) → (signature_of (record g { results = result_as_list r })).result ≡ r
@@ -46,10 +46,6 @@ gives_alike f [] None h = refl
 gives_alike f (k ∷ ks) (Some j) h = let e : sort_of_kind k ≡ word_sort_of j = cc in ap (λ c. c ∷ []) e
 gives_alike f [] (Some j) h = absurd cc
 gives_alike f (k ∷ ks) None h = absurd cc
-
-by_name : (a b : Signature) (o q : Option Signature) → TakesAlike sort_of_kind word_sort_of a b → SignedAlike sort_of_kind word_sort_of o q → (t : Bool) → SignedAlike sort_of_kind word_sort_of (cond t (Some a) o) (cond t (Some b) q)
-by_name a b o q h k true = h
-by_name a b o q h k false = k
 
 signed_for : (ctx : Context) (fs : List FinalFn) (ks : List FunctionKinds) → AreFor ctx fs ks → (x : Name) → SignedAlike sort_of_kind word_sort_of (signature (map signature_of fs) x) (signature (right_signatures fs ks) x)
 signed_for ctx [] [] h x = tt

@@ -18,6 +18,7 @@ use Rattle.rule_word.proofs.RightPrograms.{program_sorted_right, are_there}
 use Rattle.rule_word.proofs.ScopesAfter.{names_after, setting_after}
 use Rattle.rule_word.proofs.UnitsKeep.{body_sorted}
 use Rattle.rule_word.proofs.Widths.{IsWide}
+use Rattle.rule_word.proofs.KindsStay.{word_kind}
 
 kind_wide : (k : Kind) → is_kind k ≡ true → IsWide (Some (Of (sort_of_kind k)))
 kind_wide (WordKind n) h = h
@@ -29,15 +30,9 @@ kinds_wide : (ks : List Kind) → are_kinds ks ≡ true → AllWide (map sort_of
 kinds_wide [] h = tt
 kinds_wide (k ∷ ks) h = let r = and_parts (is_kind k) (are_kinds ks) h in (kind_wide k r.0, kinds_wide ks r.1)
 
-wide_kind : (k : Kind) → IsWide (Some (Of (word_sort_of k))) → is_kind k ≡ true
-wide_kind (WordKind n) h = h
-wide_kind (NatKind n) h = h
-wide_kind (IntKind n) h = h
-wide_kind BoolKind h = refl
-
 wide_kinds : (ks : List Kind) → AllWide (map word_sort_of ks) → are_kinds ks ≡ true
 wide_kinds [] h = refl
-wide_kinds (k ∷ ks) h = and_from (is_kind k) (are_kinds ks) (wide_kind k h.0) (wide_kinds ks h.1)
+wide_kinds (k ∷ ks) h = and_from (is_kind k) (are_kinds ks) (word_kind k h.0) (wide_kinds ks h.1)
 
 few_too : (rs qs : List Kind) → map sort_of_kind rs ≡ map word_sort_of qs → has_few rs ≡ true → has_few qs ≡ true
 few_too rs [] h k = refl

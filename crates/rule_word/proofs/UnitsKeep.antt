@@ -10,6 +10,7 @@ use Rattle.c_values.specs.Choice.{Choice}
 use Rattle.c_values.specs.Layout.{Layout, IsLayout, GlobalVar, global_type}
 use Rattle.c_values.specs.Types.{CType}
 use Rattle.c_values.specs.Value.{Value}
+use Rattle.c_values.proofs.Options.{none_is}
 use Rattle.expression_lang.specs.Evaluation.{State}
 use Rattle.expression_lang.specs.Sort.{Scalar, Kind, Scope, sort_of_kind, word_sort_of, are_kinds}
 use Rattle.expression_lang.specs.Sorted.{scope_with, result_scalars}
@@ -34,9 +35,6 @@ use Rattle.rule_word.proofs.SettingsAlike.{TakesAlike, SignedAlike, given_alike}
 use Rattle.rule_word.proofs.SoundPrograms.{Function, taken_does}
 use Rattle.rule_word.proofs.Standing.{Nothing}
 
-none_is : {A : Type 0} {P : Type 0} {a : A} → ◌≡◌ {A = Option A} None (Some a) → P
-none_is h = cc
-
 -- what functions take and give in words, and as words of kinds
 
 first_alike : (f g : FinalFn) (rs qs : List Kind) → map sort_of_kind rs ≡ map word_sort_of qs → result_scalars sort_of_kind (signature_of (record f { results = rs })).result ≡ result_scalars word_sort_of (signature_of (record g { results = qs })).result
@@ -45,7 +43,7 @@ first_alike f g (r ∷ rs) (q ∷ qs) h = let e : sort_of_kind r ≡ word_sort_o
 first_alike f g [] (q ∷ qs) h = absurd cc
 first_alike f g (r ∷ rs) [] h = absurd cc
 
-by_name : (a b : Signature) (o q : Option Signature) → TakesAlike sort_of_kind word_sort_of a b → SignedAlike sort_of_kind word_sort_of o q → (t : Bool) → SignedAlike sort_of_kind word_sort_of (cond t (Some a) o) (cond t (Some b) q)
+pub by_name : (a b : Signature) (o q : Option Signature) → TakesAlike sort_of_kind word_sort_of a b → SignedAlike sort_of_kind word_sort_of o q → (t : Bool) → SignedAlike sort_of_kind word_sort_of (cond t (Some a) o) (cond t (Some b) q)
 by_name a b o q h k true = h
 by_name a b o q h k false = k
 

@@ -1,5 +1,5 @@
 -- Values that are made words one after the other.
-use Rattle.std.proofs.Common.{◌≡◌, ℕ, zero, suc, ◌+◌, ◌<◌, ◌≤◌, List, [], ◌∷◌, ◌++◌, length, get_or, drop, map, Some, None, refl, ap, ap₂, sym, ◌∙◌, arith}
+use Rattle.std.proofs.Common.{◌≡◌, ℕ, ◌+◌, ◌<◌, ◌≤◌, List, [], ◌∷◌, ◌++◌, length, get_or, drop, map, Some, None, refl, ap, ap₂, sym, ◌∙◌, arith}
 use Rattle.std.specs.Prelude.{slice_get, unwrap_or}
 use Rattle.std.proofs.Math.ListN.{drop_of_length-le}
 use Rattle.std.proofs.lemmas.List.{at_drop_more, length-map}
@@ -8,16 +8,11 @@ use Rattle.c_values.specs.Layout.{Layout, Shape, shape_of}
 use Rattle.c_values.specs.declared.values.Value as V
 use Rattle.c_values.specs.Value.{Value, Values, Parts, no_values, more}
 use Rattle.c_values.specs.CodeValue.{value_of}
-use Rattle.c_values.specs.CodeParts.{values_in, joined, rank, ranks}
+use Rattle.c_values.specs.CodeParts.{values_in, joined}
 use Rattle.c_values.proofs.Joined.{joined-push, joined-no_values}
 use Rattle.memory_text.specs.ValueText.{parts_of}
 use Rattle.memory_text.proofs.ValuesRead.{shape_at}
 use Rattle.run_start.specs.Start.{as_words, all_as_words}
-
-pub rank_in : (vs : List V.Value) (k : ℕ) (v : V.Value) → k < length vs → v ≡ get_or vs k v → rank (value_of v) < ranks (values_in vs)
-rank_in [] k v lt e = absurd (omega arith)
-rank_in (w ∷ ws) zero v lt e = let same = ap (λ z. rank (value_of z)) e in omega (arith, same)
-rank_in (w ∷ ws) (suc k) v lt e = let h = rank_in ws k v (omega arith) e in omega (arith, h)
 
 -- one value more
 pub words_more : (l : Layout) (types : List CType) (t : CType) (before now : List V.Value) (w : V.Value) (vs : List V.Value) (k : ℕ) (v : V.Value) (whole : Values) →

@@ -6,13 +6,13 @@ use Rattle.c_values.specs.Types.{Target}
 use Rattle.c_values.specs.Layout.{Shape, Incomplete, Scalar, Record, Row, Fields, no_fields, field}
 use Rattle.c_values.specs.Path.{HasShape, AreMembers, AreElements}
 use Rattle.c_values.specs.Value.{Value, Values, Bits, Number, Truth, Parts, no_values, more}
-use Rattle.expression_lang.proofs.Good.{is_word}
+use Rattle.expression_lang.proofs.Filled.{word_fits}
 use Rattle.memory_text.specs.ValueText.{shapes_in, is_value, are_values}
 use Rattle.run_start.specs.Start.{as_words, all_as_words}
 
 mutual
   pub value_shaped : (g : Target) (s : Shape) (v : Value) → is_value g s v ≡ true → HasShape s (as_words s v)
-  value_shaped g (Scalar t width) (Number n) is = is_word width n
+  value_shaped g (Scalar t width) (Number n) is = word_fits width n
   value_shaped g (Record x bytes align fs) (Parts vs) is = members_shaped g fs vs is
   value_shaped g (Row e n) (Parts vs) is = elements_shaped g e n vs is
   value_shaped g Incomplete (Number n) is = absurd cc

@@ -6,3 +6,4 @@ pub mod LocalNames
 pub mod Filled
 pub mod Unnamed
 pub mod WithFronts
+pub mod SameKinds

@@ -7,7 +7,7 @@ use Rattle.c_values.proofs.WordValues.{unsigned-word, signed-word}
 use Rattle.expression_lang.specs.Sort.{Kind, WordKind, NatKind, IntKind, BoolKind, is_width, is_kind, are_kinds, word_sort_of}
 use Rattle.expression_lang.specs.States.{IsOfSort}
 use Rattle.expression_lang.specs.View.{view_at, views_at, IsOfKind, AreOfKinds}
-use Rattle.expression_lang.proofs.Good.{is_word}
+use Rattle.expression_lang.proofs.Filled.{word_fits}
 use Rattle.program_facts.specs.Lasting.{AreOfSorts}
 
 -- the word that the value stands for
@@ -19,8 +19,8 @@ word_for BoolKind v = v
 
 word_sorted : (k : Kind) (v : Value) → IsOfKind k v → IsOfSort (word_sort_of k) (word_for k v)
 word_sorted (WordKind n) (Bits w) h = h
-word_sorted (NatKind n) (Number z) h = is_word n z
-word_sorted (IntKind n) (Number z) h = is_word n z
+word_sorted (NatKind n) (Number z) h = word_fits n z
+word_sorted (IntKind n) (Number z) h = word_fits n z
 word_sorted BoolKind (Truth b) h = tt
 word_sorted (WordKind n) (Number z) h = absurd h
 word_sorted (WordKind n) (Truth b) h = absurd h

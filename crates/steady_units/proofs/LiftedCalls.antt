@@ -1,6 +1,7 @@
 -- A lifted function of an accepted certificate's last programs calls lifted ones alone.
 use Rattle.std.proofs.Common.{◌≡◌, Bool, true, false, cond, List, [], ◌∷◌, Option, Some, None, subst, ap, ◌∙◌}
 use Rattle.c_values.specs.Name.{Name, same_name}
+use Rattle.c_values.proofs.Options.{none_some, some_is}
 use Rattle.expression_lang.specs.Sort.{Level, is_lifted, sort_of_kind}
 use Rattle.expression_lang.specs.Signature.{Signature, signature}
 use Rattle.simpl_lang.specs.Command.{SimplFn, SimplUnit}
@@ -14,7 +15,6 @@ use Rattle.rule_eq.specs.Table.{point}
 use Rattle.monad_lang.specs.Sorted.{setting_signed}
 use Rattle.c_lang.specs.Typed.{TypedFn, TypedUnit}
 use Rattle.generation.specs.Generate.{function_of, signature_of, generated}
-use Rattle.generation.proofs.ExactTests.{same_some, none_is_none}
 use Rattle.acceptance.specs.Certificate.{Step, Steps, before_words}
 use Rattle.acceptance.specs.Accepted.{calls_only, is_lifted_there, word_context, IsHeapStep, IsFunctionAccepted, AreFunctionsAccepted, IsAccepted}
 use Rattle.acceptance_laws.specs.Units.{on_numbers, functions_with, last_unit}
@@ -109,14 +109,14 @@ module _ (u : TypedUnit) (levels : Name → Level) (passes : Name → Bool)
       (o ≡ Some f → is_lifted f.level ≡ true → CallsPass f.body) → (b : Bool) →
       cond b (Some (on_numbers s m)) o ≡ Some f → is_lifted f.level ≡ true → CallsPass f.body
   by_test s m f o one rest true e k =
-      subst (λ (h : FinalFn). is_lifted h.level ≡ true → CallsPass h.body) (same_some e) one k
+      subst (λ (h : FinalFn). is_lifted h.level ≡ true → CallsPass h.body) (some_is e) one k
   by_test s m f o one rest false e k = rest e k
 
   functions_pass : (fs : List TypedFn) (cs : List Steps) →
       AreFunctionsAccepted unit (commands fs) (signatures fs) cs → (x : Name) (f : FinalFn) →
       final_fn (last_functions (signatures fs) cs) x ≡ Some f → is_lifted f.level ≡ true →
       CallsPass f.body
-  functions_pass [] [] a x f e = absurd (none_is_none e)
+  functions_pass [] [] a x f e = absurd (none_some e)
   functions_pass (t ∷ fs) (c ∷ cs) a x f e =
       let command = function_of u.layout (levels t.name) t in
       let s = signature_of u.layout (levels t.name) t in

@@ -6,6 +6,7 @@ use Rattle.c_values.specs.Name.{Name, same_name, are_distinct}
 use Rattle.c_values.specs.Value.{Value}
 use Rattle.c_values.specs.Choice.{Choice}
 use Rattle.c_values.specs.Layout.{Layout, IsLayout, GlobalVar, global_type}
+use Rattle.c_values.proofs.Options.{none_some, some_is}
 use Rattle.c_memory.specs.Memory.{Memory}
 use Rattle.c_memory.specs.TypedHeap.{view}
 use Rattle.c_memory.specs.Heap.{OnBytes, OnTypes}
@@ -40,7 +41,6 @@ use Rattle.rule_eq.specs.Units as Equality
 use Rattle.rule_eq.specs.Units.{parameters_of}
 use Rattle.rule_eq.proofs.UnitsKeep.{units_keep}
 use Rattle.c_lang.specs.Typed.{TypedUnit}
-use Rattle.generation.proofs.ExactTests.{same_some, none_is_none}
 use Rattle.pipeline.specs.Taken.{AreTaken}
 use Rattle.pipeline.proofs.Begins.{kinds_sorted, heap_can_be}
 use Rattle.steady_units.specs.SteadyUnits.{begins}
@@ -65,7 +65,7 @@ module _ (levels : Name → Level) (local heap word last : FinalUnit) where
   by_test : (w g f : FinalFn) (o o' : Option FinalFn) → Taken g (Some w) →
       (o' ≡ Some f → Taken f o) → (b : Bool) → cond b (Some g) o' ≡ Some f →
       Taken f (cond b (Some w) o)
-  by_test w g f o o' one rest true e = subst (λ k. Taken k (Some w)) (same_some e) one
+  by_test w g f o o' one rest true e = subst (λ k. Taken k (Some w)) (some_is e) one
   by_test w g f o o' one rest false e = rest e
 
   taken_there : (ls hs ws gs : List FinalFn) → Heaps.AreTakenTo local.layout levels ls hs →
@@ -73,7 +73,7 @@ module _ (levels : Name → Level) (local heap word last : FinalUnit) where
       are_fns_sorted local ls ≡ true → are_fns_sorted heap hs ≡ true →
       are_fns_sorted last gs ≡ true → (x : Name) (f : FinalFn) → final_fn gs x ≡ Some f →
       Taken f (final_fn ws x)
-  taken_there [] [] [] [] a b c i j k x f e = absurd (none_is_none e)
+  taken_there [] [] [] [] a b c i j k x f e = absurd (none_some e)
   taken_there (l ∷ ls) (h ∷ hs) (w ∷ ws) (g ∷ gs) a b c i j k x f e =
       let i' = and_parts (is_fn_sorted local l) (are_fns_sorted local ls) i in
       let j' = and_parts (is_fn_sorted heap h) (are_fns_sorted heap hs) j in
@@ -127,7 +127,7 @@ parameters_sorted u f vs h =
       globals = global_type u.globals;
     } in
     bound_sorted start (names_of f.params) (map sort_of_kind (kinds_of f.params)) vs no_env h
-    (λ x c e. absurd (none_is_none e))
+    (λ x c e. absurd (none_some e))
 
 -- with words on the left, and with their views on the right
 abbrev point_of : FinalFn → Point
@@ -142,9 +142,9 @@ meets u f ws s h state =
     record {
       environment = λ x c e.
           bound_sorted (words (context_of u) []).scope xs (map word_sort_of ks) ws no_env h
-          (λ y d q. absurd (none_is_none q)) x c
+          (λ y d q. absurd (none_some q)) x c
           (ap (λ t. t x) (names_after word_sort_of xs ks []) ∙ e);
-      names = seen_after xs ks ws [] no_env no_env h (λ x v q. absurd (none_is_none q));
+      names = seen_after xs ks ws [] no_env no_env h (λ x v q. absurd (none_some q));
       facts = tt;
       state = state;
     }

@@ -1,7 +1,6 @@
 -- Answers to the tokens of a text, of their tree or of the place where no tree goes on; and to a tree, of its typed unit or of
 -- its first bad node.
 use Rattle.std.proofs.Common.{ℕ, List, inl, inr, sym, subst}
-use Rattle.std.specs.Prelude.{Result, Ok, Err, IfOk}
 use Rattle.c_values.specs.Types.{Target}
 use Rattle.c_lex.specs.Lexeme.{Lexeme}
 use Rattle.c_grammar.specs.Tree.{External}

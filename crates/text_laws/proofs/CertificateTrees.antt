@@ -8,6 +8,7 @@ use Rattle.ac_sx.proofs.Built.{one_file}
 use Rattle.expression_text.specs.Names.{is_name}
 use Rattle.expression_text.specs.Lists.{trees_for}
 use Rattle.expression_text.proofs.Behind.{behind, value_ok}
+use Rattle.expression_text.proofs.Atoms.{name_atom}
 use Rattle.monad_lang.specs.Program.{Mon}
 use Rattle.program_text.specs.MonText.{is_mon}
 use Rattle.command_text.specs.CommandText.{is_command}
@@ -22,7 +23,6 @@ use Rattle.certificate_text.specs.CertificateText.{target_word, level_word, heap
 use Rattle.certificate_text.specs.CertificateReading.{certificate_at}
 use Rattle.certificate_text.specs.Answer.{IsCertificateText}
 use Rattle.certificate_text.proofs.CertificateLaws.{certificate_reads}
-use Rattle.text_laws.proofs.Atoms.{name_atom}
 use Rattle.text_laws.proofs.ExpTrees.{each_is_tree}
 use Rattle.text_laws.proofs.ProgramTrees.{mon_is_tree, command_is_tree}
 use Rattle.text_laws.proofs.RuleTrees.{exception_is_tree, local_is_tree, heap_is_tree, word_is_tree, equality_is_tree}

@@ -1,7 +1,7 @@
 -- The trees of expressions that have texts are trees of atoms.
-use Rattle.std.proofs.Common.{◌≡◌, ℕ, ◌==◌, ◌^◌, ◌≤◌, nat_lt, Bool, true, false, ◌&&◌, ◌||◌, List, [], ◌∷◌, ◌⊎◌, inl, inr, refl, arith, eqb-true}
+use Rattle.std.proofs.Common.{◌≡◌, ℕ, ◌^◌, ◌≤◌, nat_lt, Bool, true, false, ◌&&◌, List, [], ◌∷◌, refl, arith}
 use Rattle.std.specs.Fmt.{decimal}
-use Rattle.std.proofs.lemmas.Bool.{and_parts, or_cases, ltb-true}
+use Rattle.std.proofs.lemmas.Bool.{and_parts, ltb-true}
 use Rattle.std.proofs.Math.Nat.{pow-le-pow_right}
 use Rattle.c_values.specs.Types as T
 use Rattle.c_values.specs.Word.{WordOp, Wadd, Wsub, Wmul, Wand, Wor, Wxor, Wudiv, Wumod, Wsdiv, Wsmod, ShiftOp, Wshl, Wushr, Wsshr, UnaryOp, Wneg, Wnot, WordTest, Wult, Wule, Wslt, Wsle}
@@ -10,33 +10,14 @@ use Rattle.expression_lang.specs.Expression.{Exp, CastOp, Zext, Sext, Trunc, Var
 use Rattle.ac_sx.specs.Tree.{Tree, IsTree, AreTrees, is_atom}
 use Rattle.expression_text.specs.Names.{is_name}
 use Rattle.expression_text.specs.Numbers.{is_number}
-use Rattle.expression_text.specs.Words.{int_type_word}
-use Rattle.expression_text.specs.TypeText.{type_tree, is_type}
+use Rattle.expression_text.specs.TypeText.{is_type}
 use Rattle.expression_text.specs.Head.{head_word}
 use Rattle.expression_text.specs.Row.{word_op_head, shift_head, word_test_head, number_op_head, unary_op_head, cast_head}
 use Rattle.expression_text.specs.ExpText.{truth_word, exp_tree, step_trees, is_width, is_of_two, is_one_step, is_exp, is_path}
 use Rattle.expression_text.specs.Lists.{each, trees_for, exp_trees}
-use Rattle.text_laws.proofs.Atoms.{name_atom, decimal_atom, number_atom}
+use Rattle.expression_text.proofs.Atoms.{name_atom, decimal_atom, number_atom, width_small, short_atom, type_is_tree}
 
 -- Widths and numbers of words
-
-pub width_small : (n : ℕ) → is_width n ≡ true → n ≤ 64
-width_small n h = by_last (or_cases (n == 8 || n == 16 || n == 32) (n == 64) h)
-  where
-    is_at_most : (m : ℕ) → m ≤ 64 → (n == m) ≡ true → n ≤ 64
-    is_at_most m l e = let i : n ≡ m = eqb-true n m e in omega arith
-
-    by_first : ((n == 8) ≡ true) ⊎ ((n == 16) ≡ true) → n ≤ 64
-    by_first (inl e) = is_at_most 8 (omega arith) e
-    by_first (inr e) = is_at_most 16 (omega arith) e
-
-    by_third : ((n == 8 || n == 16) ≡ true) ⊎ ((n == 32) ≡ true) → n ≤ 64
-    by_third (inl e) = by_first (or_cases (n == 8) (n == 16) e)
-    by_third (inr e) = is_at_most 32 (omega arith) e
-
-    by_last : ((n == 8 || n == 16 || n == 32) ≡ true) ⊎ ((n == 64) ≡ true) → n ≤ 64
-    by_last (inl e) = by_third (or_cases (n == 8 || n == 16) (n == 32) e)
-    by_last (inr e) = is_at_most 64 (omega arith) e
 
 pub atom_width : (n : ℕ) → is_width n ≡ true → is_atom (decimal n) ≡ true
 atom_width n h = let s = width_small n h in decimal_atom n (omega (arith, s))
@@ -47,23 +28,7 @@ bits_atom n k h l =
     let b = ltb-true k (2 ^ n) l in
     decimal_atom k (omega (arith, a, b))
 
-pub short_atom : (n : ℕ) → nat_lt n (2 ^ 32) ≡ true → is_atom (decimal n) ≡ true
-short_atom n h = let l = ltb-true n (2 ^ 32) h in decimal_atom n (omega (arith, l))
-
 -- Words
-
-int_type_atom : (i : T.IntType) → is_atom (int_type_word i) ≡ true
-int_type_atom T.Char = refl
-int_type_atom T.SChar = refl
-int_type_atom T.UChar = refl
-int_type_atom T.Short = refl
-int_type_atom T.UShort = refl
-int_type_atom T.Int = refl
-int_type_atom T.UInt = refl
-int_type_atom T.Long = refl
-int_type_atom T.ULong = refl
-int_type_atom T.LLong = refl
-int_type_atom T.ULLong = refl
 
 word_op_atom : (op : WordOp) → is_atom (head_word (word_op_head op)) ≡ true
 word_op_atom Wadd = refl
@@ -110,14 +75,6 @@ truth_atom true = refl
 truth_atom false = refl
 
 -- Types
-
-pub type_is_tree : (t : T.CType) → is_type t ≡ true → IsTree (type_tree t)
-type_is_tree (T.Integer i) h = int_type_atom i
-type_is_tree T.Void h = refl
-type_is_tree (T.Ptr t) h = (refl, (type_is_tree t h, tt))
-type_is_tree (T.Struct x) h = (refl, (name_atom x h, tt))
-type_is_tree (T.Array t n) h =
-    let p = and_parts (is_type t) (nat_lt n (2 ^ 32)) h in (refl, (type_is_tree t p.0, (short_atom n p.1, tt)))
 
 -- Expressions
 

@@ -10,6 +10,7 @@ use Rattle.expression_text.specs.Names.{is_name}
 use Rattle.expression_text.specs.TypeText.{is_type}
 use Rattle.expression_text.specs.ExpText.{is_exp, is_path}
 use Rattle.expression_text.specs.Lists.{each, names_tree}
+use Rattle.expression_text.proofs.Atoms.{name_atom, type_is_tree}
 use Rattle.monad_lang.specs.Program as M
 use Rattle.monad_lang.specs.Program.{Mon, Start}
 use Rattle.monad_lang.specs.Run.{start_names}
@@ -20,8 +21,7 @@ use Rattle.simpl_lang.specs.Command as S
 use Rattle.simpl_lang.specs.Command.{Simpl, Condition}
 use Rattle.command_text.specs.CommandText as C
 use Rattle.command_text.specs.CommandText.{guard_word, condition_tree, target_tree, command_tree, is_condition, is_target, is_command}
-use Rattle.text_laws.proofs.Atoms.{name_atom}
-use Rattle.text_laws.proofs.ExpTrees.{atom_width, type_is_tree, exp_is_tree, path_are_trees, each_is_tree, exps_are_trees}
+use Rattle.text_laws.proofs.ExpTrees.{atom_width, exp_is_tree, path_are_trees, each_is_tree, exps_are_trees}
 
 -- Programs
 

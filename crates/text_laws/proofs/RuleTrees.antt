@@ -5,6 +5,7 @@ use Rattle.c_values.specs.Name.{Name}
 use Rattle.expression_lang.specs.Sort.{is_kind}
 use Rattle.ac_sx.specs.Tree.{Trees, no_trees, more, IsTree, AreTrees, is_atom}
 use Rattle.expression_text.specs.Lists.{joined}
+use Rattle.expression_text.proofs.Atoms.{short_atom}
 use Rattle.program_text.specs.Kinds.{kind_tree}
 use Rattle.rule_trees.specs.RuleTree as rules
 use Rattle.rule_exn.specs.Rule as X
@@ -19,7 +20,7 @@ use Rattle.rule_text.specs.LocalText as locals
 use Rattle.rule_text.specs.HeapText as heaps
 use Rattle.rule_text.specs.WordText as words
 use Rattle.rule_text.specs.EqualityText as equality
-use Rattle.text_laws.proofs.ExpTrees.{exp_is_tree, each_is_tree, short_atom}
+use Rattle.text_laws.proofs.ExpTrees.{exp_is_tree, each_is_tree}
 use Rattle.text_laws.proofs.ProgramTrees.{mon_is_tree, kind_is_tree}
 
 with_are_trees : (word : Name) (ts : Trees) → is_atom word ≡ true → AreTrees ts → IsTree (word_with word ts)

@@ -1,5 +1,5 @@
 -- The one cell whose tag covers a root.
-use Rattle.std.proofs.Common.{◌≡◌, ℕ, zero, suc, ◌+◌, ◌<◌, ◌≤◌, inl, inr, true, false, ◌||◌, List, [], ◌∷◌, ◌++◌, length, get_or, slice_get, slice_set, Option, Some, None, is_some, IsSome, refl, sym, ap, ◌∙◌, subst, arith}
+use Rattle.std.proofs.Common.{◌≡◌, ℕ, zero, suc, ◌+◌, ◌<◌, ◌≤◌, true, false, ◌||◌, List, [], ◌∷◌, ◌++◌, length, get_or, slice_get, slice_set, Option, Some, None, is_some, IsSome, refl, sym, ap, ◌∙◌, subst, arith}
 use Rattle.std.proofs.lemmas.Bool.{false≢true}
 use Rattle.std.specs.Option.{option_map}
 use Rattle.c_values.specs.declared.values.Value as V
@@ -12,22 +12,17 @@ use Rattle.c_values.proofs.Formed.{size_some}
 use Rattle.c_values.proofs.Leads.{leads_spot}
 use Rattle.c_values.proofs.Parts.{formed_complete}
 use Rattle.c_memory.specs.Memory.{Tag}
-use Rattle.c_memory.specs.Tags.{IsTag, AreApart, ApartFrom, AreTags, path_from, is_covered}
+use Rattle.c_memory.specs.Tags.{IsTag, AreTags, path_from, is_covered}
 use Rattle.c_memory.specs.CodeTagIndex.{Covers}
 use Rattle.c_memory.specs.TypedHeap.{TypedHeap, tags_of, zeros_spot, cell_part, read_cells, with_cell_part, write_cells}
 use Rattle.c_memory.specs.Heap.{CellsFit}
 use Rattle.c_memory.proofs.Objects.{object_complete}
-use Rattle.c_memory.proofs.Covered.{root_of}
-use Rattle.c_memory.proofs.Neighbours.{tag_at}
+use Rattle.c_memory.proofs.Covered.{root_of, apart_at}
+use Rattle.c_memory.proofs.Neighbours.{tag_at, apart_here}
 use Rattle.typed_heap.specs.CodeCells.{cells_from}
 use Rattle.c_values.specs.CodeFollow.{CanFollow}
 use Rattle.c_values.proofs.Follow.{sel_append, follow_append, path_ends}
-
-some_same : {A : Type 0} {a b : A} → ◌≡◌ {A = Option A} (Some a) (Some b) → a ≡ b
-some_same h = cc
-
-none_some : {A : Type 0} {a : A} → ◌≡◌ {A = Option A} None (Some a) → ⊥
-none_some h = cc
+use Rattle.c_values.proofs.Options.{some_is, none_some}
 
 pub tags_from : (ts : List Tag) (vs : List V.Value) → length vs ≡ length ts → tags_of (cells_from ts vs) ≡ ts
 tags_from [] vs e = refl
@@ -53,15 +48,6 @@ write_uncovered l t a path new (c ∷ cs) h = by_path (λ k. write_uncovered l t
     by_path rest None k = ap (λ ds. c ∷ ds) (rest k)
     by_path rest (Some root) k = absurd (false≢true (sym k))
 
-apart_later : (l : Layout) (w : Tag) (us : List Tag) (k : ℕ) (u : Tag) → ApartFrom l w us → slice_get us k ≡ Some u → AreApart l w u
-apart_later l w [] k u h e = absurd (none_some e)
-apart_later l w (v ∷ vs) zero u h e = subst (λ x. AreApart l w x) (some_same e) h.0
-apart_later l w (v ∷ vs) (suc k) u h e = apart_later l w vs k u h.1 e
-
-apart_at : (l : Layout) (u v : Tag) (a : ℕ) → AreApart l u v → (u.address ≤ a) × (a < u.address + size_of l u.type) → (v.address ≤ a) × (a < v.address + size_of l v.type) → ⊥
-apart_at l u v a (inl h) p q = omega arith
-apart_at l u v a (inr h) p q = omega arith
-
 -- a root lies in its tag's object
 pub root_within : (l : Layout) (h : IsLayout l) (u : Tag) (t : CType) (a : ℕ) (path : List Step) → IsTag l u → path_from l u t a ≡ Some path → (u.address ≤ a) × (a < u.address + size_of l u.type)
 root_within l h u t a path tag e =
@@ -79,14 +65,14 @@ module _ (l : Layout) (h : IsLayout l) (t : CType) (a : ℕ) (path : List Step) 
       by_path : (o : Option (List Step)) → path_from l w t a ≡ o → o ≡ None
       by_path None f = refl
       by_path (Some r) f =
-          absurd (apart_at l w u a (apart_later l w ws k u tags.1 e) (root_within l h w t a r tags.0 f) (root_within l h u t a root (tag_at l ws k u tags.2 e) finds))
+          absurd (apart_at l w u a (apart_here l w ws k u tags.1 e) (root_within l h w t a r tags.0 f) (root_within l h u t a root (tag_at l ws k u tags.2 e) finds))
 
   pub read_at : (ts : List Tag) (vs : List V.Value) (k : ℕ) (v : V.Value) → AreTags l ts → length vs ≡ length ts → slice_get ts k ≡ Some u → k < length vs → v ≡ get_or vs k v →
       sel (value_of v) (root ++ path) ≡ read_cells l (cells_from ts vs) t a path
   read_at [] vs k v tags many e lt is = absurd (none_some e)
   read_at (w ∷ ws) [] k v tags many e lt is = absurd (omega arith)
   read_at (w ∷ ws) (x ∷ xs) zero v tags many e lt is =
-      let here = ap (λ z. path_from l z t a) (some_same e) ∙ finds in
+      let here = ap (λ z. path_from l z t a) (some_is e) ∙ finds in
       ap (λ y. sel (value_of y) (root ++ path)) is
       ∙ sym (ap (λ o. cell_part (record { tag = w; value = value_of x }) o path (read_cells l (cells_from ws xs) t a path)) here)
   read_at (w ∷ ws) (x ∷ xs) (suc k) v tags many e lt is =
@@ -98,7 +84,7 @@ module _ (l : Layout) (h : IsLayout l) (t : CType) (a : ℕ) (path : List Step) 
   write_at [] vs k v new part tags many e lt is put = absurd (none_some e)
   write_at (w ∷ ws) [] k v new part tags many e lt is put = absurd (omega arith)
   write_at (w ∷ ws) (x ∷ xs) zero v new part tags many e lt is put =
-      let here = ap (λ z. path_from l z t a) (some_same e) ∙ finds in
+      let here = ap (λ z. path_from l z t a) (some_is e) ∙ finds in
       ap (λ y. record { tag = w; value = y } ∷ cells_from ws xs) (put ∙ ap (λ y. upd (value_of y) (root ++ path) part) is)
       ∙ sym (ap (λ o. with_cell_part (record { tag = w; value = value_of x }) o path part (cells_from ws xs) (write_cells l (cells_from ws xs) t a path part)) here)
   write_at (w ∷ ws) (x ∷ xs) (suc k) v new part tags many e lt is put =
@@ -124,7 +110,7 @@ pub value_fits : (l : Layout) (ts : List Tag) (vs : List V.Value) (k : ℕ) (u :
 value_fits l [] vs k u v fit e lt is = absurd (none_some e)
 value_fits l (w ∷ ws) [] k u v fit e lt is = absurd (omega arith)
 value_fits l (w ∷ ws) (x ∷ xs) zero u v fit e lt is =
-    subst (λ z. HasShape (shape_of l z.type) (value_of v)) (some_same e) (subst (λ y. HasShape (shape_of l w.type) (value_of y)) (sym is) fit.0)
+    subst (λ z. HasShape (shape_of l z.type) (value_of v)) (some_is e) (subst (λ y. HasShape (shape_of l w.type) (value_of y)) (sym is) fit.0)
 value_fits l (w ∷ ws) (x ∷ xs) (suc k) u v fit e lt is = value_fits l ws xs k u v fit.1 e (omega arith) is
 
 pub path_of_some : (o : Option (List Step)) → is_some o ≡ true → (ps : List Step) × (o ≡ Some ps)
@@ -136,7 +122,7 @@ spot_of_some None h = absurd (false≢true h)
 spot_of_some (Some q) h = (q, refl)
 
 pub same_item : (ts : List Tag) (k : ℕ) (u v : Tag) → slice_get ts k ≡ Some u → slice_get ts k ≡ Some v → u ≡ v
-same_item ts k u v e f = some_same (sym e ∙ f)
+same_item ts k u v e f = some_is (sym e ∙ f)
 
 -- what is known of the steps to a place whose root a tag covers
 pub record IsFound (l : Layout) (ts : List Tag) (t : CType) (a : ℕ) (path : List Step) (steps : Option (List Step)) (u : Tag) : Type 0 where

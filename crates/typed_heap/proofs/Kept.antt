@@ -5,11 +5,11 @@ use Rattle.std.proofs.lemmas.Nat.{pow_pos, mod_below}
 use Rattle.c_values.specs.Types.{CType}
 use Rattle.c_values.specs.Value.{Value, Values, Bits, Number, Truth, Parts, no_values, more, count, part, with_part}
 use Rattle.c_values.specs.Layout.{Layout, IsLayout, Shape, Incomplete, Scalar, Record, Row, Fields, no_fields, field, size, shape_of, space, is_complete, are_complete}
-use Rattle.c_values.specs.Path.{Step, Field, Index, Spot, spot, member_spot, step_spot, and_then_spot, further, place_of, with_changed, sel, upd, zeros, member_zeros, copies, HasShape, AreMembers, AreElements}
+use Rattle.c_values.specs.Path.{Step, Field, Index, Spot, spot, member_spot, step_spot, and_then_spot, further, place_of, with_changed, sel, upd, zeros, member_zeros, HasShape, AreMembers, AreElements}
 use Rattle.c_values.proofs.Formed.{IsFormed, AreFormed}
 use Rattle.c_values.proofs.Laid.{shape_good}
 use Rattle.c_values.proofs.Parts.{formed_complete}
-use Rattle.c_values.proofs.Shaped.{elements_count, element_shaped, placed_field, upd_shaped}
+use Rattle.c_values.proofs.Shaped.{elements_count, element_shaped, placed_field, upd_shaped, element_replaced, copies_shaped}
 use Rattle.c_memory.specs.Memory.{AreBytes, load_spot, store_spot, address_at}
 use Rattle.c_memory.specs.Tags.{AreTags, path_from}
 use Rattle.c_memory.specs.TypedHeap.{TypedHeap, tags_of, zeros_spot, cell_part, read_cells, with_cell_part, write_cells}
@@ -17,32 +17,26 @@ use Rattle.c_memory.specs.Heap.{Heap, OnBytes, OnTypes, CellsFit, IsHeap, read_h
 use Rattle.c_memory.proofs.Loaded.{load_shaped, store_bytes}
 use Rattle.c_memory.proofs.Cells.{tags_written}
 use Rattle.c_memory.proofs.Covered.{root_of}
-use Rattle.c_values.proofs.Follow.{place_below}
+use Rattle.c_values.proofs.Follow.{place_below, further_parts}
+use Rattle.c_values.proofs.Options.{some_is}
 use Rattle.typed_heap.proofs.Found.{place_ends, root_ends}
-
-some_same : {A : Type 0} {a b : A} → ◌≡◌ {A = Option A} (Some a) (Some b) → a ≡ b
-some_same h = cc
-
-further_parts : (z : ℤ) (o : Option Spot) (q : Spot) → further z o ≡ Some q → (r : Spot) × (o ≡ Some r) × (q.shape ≡ r.shape)
-further_parts z None q h = absurd cc
-further_parts z (Some r) q h = (r, refl, sym (ap (λ v. v.shape) (some_same h)))
 
 -- the shape at the end of a path is formed
 member_formed : (align n at : ℕ) (fs : Fields) (k : ℕ) (q : Spot) → AreFormed align n at fs → member_spot fs k ≡ Some q → IsFormed q.shape
 member_formed align n at no_fields k q f e = absurd cc
-member_formed align n at (field o s fs) zero q f e = subst IsFormed (ap (λ r. r.shape) (some_same e)) f.first
+member_formed align n at (field o s fs) zero q f e = subst IsFormed (ap (λ r. r.shape) (some_is e)) f.first
 member_formed align n at (field o s fs) (suc k) q f e = member_formed align n (o + size s) fs k q f.others e
 
 step_formed : (s : Shape) (p : Step) (q : Spot) → IsFormed s → step_spot s p ≡ Some q → IsFormed q.shape
 step_formed (Record x n align fs) (Field k) q f e = member_formed align n 0 fs k q f.members e
-step_formed (Row s n) (Index i) q f e = subst IsFormed (ap (λ r. r.shape) (some_same e)) f.element
+step_formed (Row s n) (Index i) q f e = subst IsFormed (ap (λ r. r.shape) (some_is e)) f.element
 step_formed Incomplete p q f e = absurd cc
 step_formed (Scalar t width) p q f e = absurd cc
 step_formed (Record x n align fs) (Index i) q f e = absurd cc
 step_formed (Row s n) (Field k) q f e = absurd cc
 
 pub spot_formed : (s : Shape) (ps : List Step) (q : Spot) → IsFormed s → spot s ps ≡ Some q → IsFormed q.shape
-spot_formed s [] q f e = subst IsFormed (ap (λ r. r.shape) (some_same e)) f
+spot_formed s [] q f e = subst IsFormed (ap (λ r. r.shape) (some_is e)) f
 spot_formed s (p ∷ ps) q f e = by_step (λ r g i d. spot_formed r ps g i d) (step_spot s p) refl e
   where
     by_step : ((r : Shape) (g : Spot) → IsFormed r → spot r ps ≡ Some g → IsFormed g.shape) → (o : Option Spot) → step_spot s p ≡ o →
@@ -51,11 +45,6 @@ spot_formed s (p ∷ ps) q f e = by_step (λ r g i d. spot_formed r ps g i d) (s
     by_step rest (Some r) h k =
         let g = further_parts r.offset (spot r.shape ps) q k in
         subst IsFormed (sym g.2) (rest r.shape g.0 (step_formed s p r f h) g.1)
-
--- zeros are of their shape
-copies_shaped : (P : Value → Type 0) (n : ℕ) (z : Value) → P z → AreElements P n (copies n z)
-copies_shaped P zero z h = tt
-copies_shaped P (suc n) z h = (h, copies_shaped P n z h)
 
 mutual
   zeros_shaped : (s : Shape) → is_complete s ≡ true → HasShape s (zeros s)
@@ -84,21 +73,14 @@ upd_append (Parts vs) (p ∷ ps) qs w = ap (λ us. Parts us) (by_place (λ u. up
 member_replaced : (fs : Fields) (vs : Values) (k : ℕ) (q : Spot) (w : Value) → AreMembers fs vs → member_spot fs k ≡ Some q → HasShape q.shape w → AreMembers fs (with_part vs k w)
 member_replaced no_fields vs k q w h e new = absurd cc
 member_replaced (field o s fs) no_values k q w h e new = absurd h
-member_replaced (field o s fs) (more v vs) zero q w h e new = (subst (λ r. HasShape r w) (sym (ap (λ r. r.shape) (some_same e))) new, h.1)
+member_replaced (field o s fs) (more v vs) zero q w h e new = (subst (λ r. HasShape r w) (sym (ap (λ r. r.shape) (some_is e))) new, h.1)
 member_replaced (field o s fs) (more v vs) (suc k) q w h e new = (h.0, member_replaced fs vs k q w h.1 e new)
 
 member_read : (fs : Fields) (vs : Values) (k : ℕ) (q : Spot) → AreMembers fs vs → member_spot fs k ≡ Some q → (k < count vs) × HasShape q.shape (part vs k)
 member_read no_fields vs k q h e = absurd cc
 member_read (field o s fs) no_values k q h e = absurd h
-member_read (field o s fs) (more v vs) zero q h e = (omega arith, subst (λ r. HasShape r v) (ap (λ r. r.shape) (some_same e)) h.0)
+member_read (field o s fs) (more v vs) zero q h e = (omega arith, subst (λ r. HasShape r v) (ap (λ r. r.shape) (some_is e)) h.0)
 member_read (field o s fs) (more v vs) (suc k) q h e = let m = member_read fs vs k q h.1 e in (omega (arith, m.0), m.1)
-
-element_replaced : (P : Value → Type 0) (n i : ℕ) (vs : Values) (w : Value) → AreElements P n vs → P w → AreElements P n (with_part vs i w)
-element_replaced P zero i no_values w h new = tt
-element_replaced P zero i (more v vs) w h new = absurd h
-element_replaced P (suc n) i no_values w h new = absurd h
-element_replaced P (suc n) zero (more v vs) w h new = (new, h.1)
-element_replaced P (suc n) (suc i) (more v vs) w h new = (h.0, element_replaced P n i vs w h.1 new)
 
 -- a value with a part replaced at any index
 module _ (ps : List Step) (w : Value) (rest : (s : Shape) (q : Spot) (v : Value) → HasShape s v → spot s ps ≡ Some q → HasShape q.shape w → HasShape s (upd v ps w)) where
@@ -125,7 +107,7 @@ module _ (ps : List Step) (w : Value) (rest : (s : Shape) (q : Spot) (v : Value)
           (after_step (i *ℤ pos (size s)) s q (part vs k) (element_shaped (λ u. HasShape s u) n k vs h lt) a new)
 
 upd_any : (s : Shape) (ps : List Step) (q : Spot) (v w : Value) → HasShape s v → spot s ps ≡ Some q → HasShape q.shape w → HasShape s (upd v ps w)
-upd_any s [] q v w h e new = subst (λ r. HasShape r w) (sym (ap (λ r. r.shape) (some_same e))) new
+upd_any s [] q v w h e new = subst (λ r. HasShape r w) (sym (ap (λ r. r.shape) (some_is e))) new
 upd_any (Record x n align fs) (Field k ∷ ps) q (Parts vs) w h e new = upd_member ps w (λ s r v i d j. upd_any s ps r v w i d j) fs vs k q (member_spot fs k) refl h e new
 upd_any (Row s n) (Index i ∷ ps) q (Parts vs) w h e new = upd_element ps w (λ s r v j d k. upd_any s ps r v w j d k) s n vs i q h e new
 upd_any Incomplete (p ∷ ps) q v w h e new = absurd cc

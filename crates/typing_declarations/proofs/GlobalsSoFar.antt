@@ -9,10 +9,10 @@ use Rattle.std.specs.declared.alloc.Global.{Global as Heap}
 use Rattle.indexmap.specs.IndexMap.{insert_entry}
 use Rattle.c_values.specs.Name.{Name, same_name}
 use Rattle.c_values.proofs.Laid.{name_is}
+use Rattle.c_values.proofs.Names.{either_way}
 use Rattle.typing_scope.specs.declared.file.GlobalSoFar as G
 use Rattle.typing_scope.specs.CodeScope.{global_of}
 use Rattle.typing_declarations.specs.CodeGlobals.{global_at}
-use Rattle.typing_declarations.proofs.SwappedNames.{either_way}
 use Rattle.typing_rules.specs.File.{global_named, with_global}
 
 pub named_global : (es : List (String Heap × G.GlobalSoFar)) (x : Name) → global_named (map global_of es) x ≡ option_map (global_at x) (lookup (λ k. bytes_eq x (string_bytes k)) es)

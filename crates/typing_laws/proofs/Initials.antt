@@ -1,16 +1,17 @@
 -- What a global begins with has the shape of its type.
-use Rattle.std.proofs.Common.{◌≡◌, ℕ, zero, suc, ◌+◌, ◌^◌, ◌<◌, true, List, [], ◌∷◌, map, Option, Some, None, ℤ, pos, negsuc, refl, arith}
+use Rattle.std.proofs.Common.{◌≡◌, ℕ, ◌+◌, ◌^◌, ◌<◌, true, List, [], ◌∷◌, map, Option, Some, None, ℤ, pos, negsuc, refl, arith}
 use Rattle.std.proofs.lemmas.Bool.{false≢true}
 use Rattle.std.proofs.lemmas.Nat.{mod_below, pow_pos}
 use Rattle.std.specs.Int.{int_rem_euclid}
 use Rattle.c_values.specs.Types.{CType, Integer, Void, Ptr, Struct, Array}
 use Rattle.c_values.specs.Number.{natural}
 use Rattle.c_values.specs.Word.{IsWord, word}
-use Rattle.c_values.specs.Value.{Value, Bits}
+use Rattle.c_values.specs.Value.{Bits}
 use Rattle.c_values.specs.Layout.{Layout, IsLayout, Shape, Incomplete, Scalar, Record, Row, Fields, no_fields, field, size, shape_of, is_complete, is_object, is_scalar, scalar_width}
-use Rattle.c_values.specs.Path.{zeros, member_zeros, copies, HasShape, AreMembers, AreElements}
+use Rattle.c_values.specs.Path.{zeros, member_zeros, HasShape, AreMembers}
 use Rattle.c_values.proofs.Formed.{IsFormed, AreFormed}
 use Rattle.c_values.proofs.Laid.{shape_good}
+use Rattle.c_values.proofs.Shaped.{copies_shaped}
 use Rattle.typing_rules.specs.File.{GlobalSoFar}
 use Rattle.typing_rules.specs.Scope.{Names}
 use Rattle.typing_rules.specs.Unit.{initial_value, global_var}
@@ -24,10 +25,6 @@ remainder_below (negsuc a) m h = omega (arith, mod_below a m h)
 
 is_word : (n : ℕ) (z : ℤ) → IsWord n (word n z)
 is_word n z = record { has_width = refl; fits = remainder_below z (2 ^ n) (pow_pos n) }
-
-copies_shaped : (P : Value → Type 0) (n : ℕ) (v : Value) → P v → AreElements P n (copies n v)
-copies_shaped P zero v h = tt
-copies_shaped P (suc n) v h = (h, copies_shaped P n v h)
 
 mutual
   zeros_shaped : (s : Shape) → IsFormed s → HasShape s (zeros s)

@@ -2,11 +2,12 @@
 use Rattle.std.proofs.Common.{◌≡◌, ℕ, ◌-◌, ◌^◌, ◌%◌, ◌<◌, ◌≤◌, Bool, true, false, cond, leb, ℤ, pos, negsuc, arith}
 use Rattle.std.proofs.lemmas.Int.{ints}
 use Rattle.std.proofs.lemmas.Nat.{pow_pos, mod_below}
-use Rattle.c_values.specs.Types.{Target, Ilp32, Lp64, IntType, Char, SChar, UChar, Short, UShort, Int, UInt, Long, ULong, LLong, ULLong, Integer, size_type, width_of, is_signed}
+use Rattle.c_values.specs.Types.{Target, Ilp32, Lp64, IntType, Int, Integer, size_type, width_of, is_signed}
 use Rattle.c_values.specs.Number.{is_of_type, is_between, least, greatest}
 use Rattle.c_values.specs.Layout.{Layout, largest_size}
 use Rattle.c_values.specs.Word.{word, signed, unsigned}
 use Rattle.c_values.proofs.WordValues.{IsSigned, low, high, halves, signed_is}
+use Rattle.c_values.proofs.Widths.{some_width}
 use Rattle.typing_rules.specs.Constant.{number_at}
 
 pub small_is_int : (t : Target) (n : ℕ) → n < 2 ^ 31 → is_of_type t Int (pos n) ≡ true
@@ -29,21 +30,6 @@ signed_fits width bits _ h (high {c} b e) = let p = pow_pos (width - 1) in let q
 
 unsigned_fits : (width bits : ℕ) → bits < 2 ^ width → is_between (least false width) (pos bits) (greatest false width) ≡ true
 unsigned_fits width bits h = grind arith
-
-some_width : (t : Target) (i : IntType) → 1 ≤ width_of t i
-some_width t Char = omega arith
-some_width t SChar = omega arith
-some_width t UChar = omega arith
-some_width t Short = omega arith
-some_width t UShort = omega arith
-some_width t Int = omega arith
-some_width t UInt = omega arith
-some_width Ilp32 Long = omega arith
-some_width Lp64 Long = omega arith
-some_width Ilp32 ULong = omega arith
-some_width Lp64 ULong = omega arith
-some_width t LLong = omega arith
-some_width t ULLong = omega arith
 
 by_sign : (s : Bool) (width : ℕ) (n : ℤ) → 1 ≤ width →
     is_between (least s width) (cond s (signed (word width n)) (unsigned (word width n))) (greatest s width) ≡ true

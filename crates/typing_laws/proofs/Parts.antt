@@ -1,15 +1,15 @@
 -- The parts of an object that paths lead to are objects, each with the shape of its type.
-use Rattle.std.proofs.Common.{◌≡◌, ℕ, zero, suc, ◌+◌, ◌*◌, ◌<◌, ◌≤◌, ◌==◌, Bool, true, false, cond, ◌&&◌, leb, Option, Some, None, refl, sym, ap, ◌∙◌, subst, arith}
+use Rattle.std.proofs.Common.{◌≡◌, ℕ, ◌+◌, ◌*◌, ◌<◌, ◌≤◌, ◌==◌, Bool, true, false, cond, ◌&&◌, leb, Option, Some, None, refl, sym, ap, ◌∙◌, subst, arith}
 use Rattle.std.proofs.lemmas.Bool.{leb-true, le-leb}
 use Rattle.c_values.specs.Name.{Name}
 use Rattle.c_values.specs.Types.{CType}
-use Rattle.c_values.specs.Layout.{Layout, IsLayout, Shape, Incomplete, Scalar, Record, Row, Fields, no_fields, field, type_of, size, size_of, shape_of, is_object, is_complete, largest_size}
+use Rattle.c_values.specs.Layout.{Layout, IsLayout, Shape, Incomplete, Scalar, Record, Row, Fields, type_of, size, size_of, shape_of, is_object, is_complete, largest_size}
 use Rattle.c_values.proofs.Laid.{IsGood, structs_of, shape_good, shape_type}
-use Rattle.c_values.proofs.Leads.{IsNth, first, next}
 use Rattle.c_values.proofs.Geometry.{nth_within}
 use Rattle.c_values.proofs.Parts.{formed_complete, nth_laid, laid_shape}
 use Rattle.c_lang.specs.Typed as C
 use Rattle.c_lang.specs.WellTyped.{member_shape, shape_along}
+use Rattle.c_lang.proofs.Paths.{nth_member, none_along}
 use Rattle.typing_laws.proofs.Tests.{both, left, right, none_some, some_same}
 
 -- a shape that the layout gives its type, which is an object
@@ -44,11 +44,6 @@ own_object l t h o = subst (λ u. is_object l u ≡ true) (shape_type l h t (own
 own_good : (l : Layout) (s : Shape) → IsLayout l → IsOwn l s → IsGood l.target (structs_of l) s
 own_good l s h o = subst (IsGood l.target (structs_of l)) o.own (shape_good l h (type_of s) (object_complete l (type_of s) o.object))
 
-nth_member : (fs : Fields) (k : ℕ) (s : Shape) → member_shape fs k ≡ Some s → (at : ℕ) × IsNth fs k at s
-nth_member no_fields k s h = absurd (none_some h)
-nth_member (field at t fs) zero s h = (at, subst (λ u. IsNth (field at t fs) zero at u) (some_same h) first)
-nth_member (field at t fs) (suc k) s h = let r = nth_member fs k s h in (r.0, next r.1)
-
 smaller : (a m n k : ℕ) → leb n k ≡ true → a + m ≤ n → leb m k ≡ true
 smaller a m n k h le = le-leb m k (omega (arith, leb-true n k h, le))
 
@@ -73,11 +68,6 @@ element_own l e n h o =
     let fits = right (is_complete (Row e n)) (leb (n * size e) largest_size) (small_own l (Row e n) o) in
     own_from l e (laid_shape l.target (structs_of l) e g.laid)
     (both (formed_complete e g.formed.element) (smaller 0 (size e) (n * size e) largest_size fits (element_within n (size e) g.formed.some)))
-
-pub none_along : (path : C.Path) → shape_along None path ≡ None
-none_along C.Here = refl
-none_along (C.Member k path) = refl
-none_along (C.Element n i path) = refl
 
 pub along_some : {P : Type 0} (o : Option Shape) (path : C.Path) (t : Shape) → shape_along o path ≡ Some t → ((s : Shape) → o ≡ Some s → shape_along (Some s) path ≡ Some t → P) → P
 along_some None path t h k = absurd (none_some (sym (none_along path) ∙ h))

@@ -8,8 +8,9 @@ use Rattle.c_values.specs.CodeSameType.{type_is, same_type-refl}
 use Rattle.typing_rules.specs.Operand.{path_then, place_then}
 use Rattle.c_lang.specs.Typed as C
 use Rattle.c_lang.specs.WellTyped.{Scope, has_type, has_integer_type, member_shape, shape_along, leads_to, shape_in, is_typed, is_typed_place, are_typed_indices}
+use Rattle.c_lang.proofs.Paths.{none_along}
 use Rattle.typing_laws.proofs.Tests.{both, left, right, none_some, some_same}
-use Rattle.typing_laws.proofs.Parts.{IsOwn, object_own, own_object, object_type, none_along, along_some, along_own, element_own}
+use Rattle.typing_laws.proofs.Parts.{IsOwn, object_own, own_object, object_type, along_some, along_own, element_own}
 
 -- a layout that can be, and globals that are objects
 pub record IsSound (g : Scope) : Type 0 where

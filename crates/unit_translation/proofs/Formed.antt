@@ -1,12 +1,13 @@
 -- What an accepted certificate makes: well-formed programs of the C functions, each of its level's form.
-use Rattle.std.proofs.Common.{◌≡◌, true, ◌&&◌, List, [], ◌∷◌, refl, subst, ◌∙◌}
+use Rattle.std.proofs.Common.{◌≡◌, true, ◌&&◌, List, [], ◌∷◌, subst, ◌∙◌}
 use Rattle.std.proofs.lemmas.Bool.{and_parts}
 use Rattle.c_values.specs.Name.{Name, same_name}
-use Rattle.expression_lang.specs.Sort.{Level, Bytes, Words, Numbers}
+use Rattle.expression_lang.specs.Sort.{Level}
 use Rattle.expression_lang.specs.Signature.{Signature}
 use Rattle.simpl_lang.specs.Command.{SimplFn, SimplUnit}
 use Rattle.simpl_lang.specs.Sorted.{are_signed, come_first, holds_result, same_level}
 use Rattle.monad_lang.specs.Sorted.{IsWellFormed}
+use Rattle.simpl_lang.proofs.SameKinds.{level_is}
 use Rattle.rule_word.specs.Ready.{is_form_of}
 use Rattle.c_lang.specs.Typed.{TypedUnit}
 use Rattle.c_lang.specs.WellTyped.{IsWellTyped}
@@ -18,12 +19,6 @@ use Rattle.acceptance.specs.Accepted.{is_on_numbers, AreFunctionsAccepted, IsAcc
 use Rattle.acceptance_laws.specs.Units.{on_numbers, functions_with, last_unit}
 use Rattle.acceptance_laws.proofs.AcceptedTaken.{accepted_units_are_taken}
 use Rattle.unit_translation.specs.Forms.{AreOfTheirForms}
-
-level_is : (a b : Level) → same_level a b ≡ true → a ≡ b
-level_is Bytes Bytes h = refl
-level_is Words Words h = refl
-level_is Numbers Numbers h = refl
-level_is _ _ h = absurd cc
 
 forms : (u : SimplUnit) (fs : List SimplFn) (ss : List Signature) (cs : List Steps) → are_signed fs ss ≡ true →
     AreFunctionsAccepted u fs ss cs → AreOfTheirForms (functions_with on_numbers (λ c. c.equal.program) ss cs)

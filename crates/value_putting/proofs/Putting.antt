@@ -1,7 +1,7 @@
 -- A variable is captured where a binder of its name is, and can be put in where it is none of the names before and after.
 use Rattle.std.proofs.Common.{◌≡◌, Bool, true, false, not, ◌&&◌, ◌||◌, List, [], ◌∷◌, ◌++◌, refl, sym, ap, ap₂, ◌∙◌}
-use Rattle.std.proofs.lemmas.Slice.Eq.{bytes_eq-Decides}
 use Rattle.c_values.specs.Name.{Name, same_name, is_among}
+use Rattle.c_values.proofs.Names.{same_name_swapped}
 use Rattle.expression_lang.specs.Expression.{Var}
 use Rattle.expression_lang.specs.Mentions as X
 use Rattle.ac_expr.specs.Lasting.{is_unnamed}
@@ -12,19 +12,10 @@ use Rattle.monad_lang.specs.Run.{start_names}
 use Rattle.monad_lang.specs.Form.{can_be_put}
 use Rattle.rule_parts.specs.Captures.{captures}
 
-same_turned : (x y : Name) → same_name x y ≡ same_name y x
-same_turned x y = by (same_name x y) refl (same_name y x) refl
-  where
-    by : (a : Bool) → same_name x y ≡ a → (b : Bool) → same_name y x ≡ b → a ≡ b
-    by true h true i = refl
-    by false h false i = refl
-    by true h false i = sym ((bytes_eq-Decides y x).1 (sym ((bytes_eq-Decides x y).0 h))) ∙ i
-    by false h true i = sym h ∙ (bytes_eq-Decides x y).1 (sym ((bytes_eq-Decides y x).0 i))
-
 unnamed_variable : (y : Name) (xs : List Name) → not (is_unnamed xs (Var y)) ≡ is_among y xs
 unnamed_variable y [] = refl
 unnamed_variable y (x ∷ xs) =
-    by (same_name x y) (is_unnamed xs (Var y)) ∙ ap₂ (λ a b. a || b) (same_turned x y) (unnamed_variable y xs)
+    by (same_name x y) (is_unnamed xs (Var y)) ∙ ap₂ (λ a b. a || b) (same_name_swapped x y) (unnamed_variable y xs)
   where
     by : (a b : Bool) → not (not a && b) ≡ (a || not b)
     by true b = refl
@@ -48,11 +39,11 @@ variable_captured y x (M.Loop starts guard test m) =
 variable_captured y x (M.Call f es) = refl
 variable_captured y x (M.Pick k) = refl
 
-or_assoc : (a b c : Bool) → ((a || b) || c) ≡ (a || (b || c))
+pub or_assoc : (a b c : Bool) → ((a || b) || c) ≡ (a || (b || c))
 or_assoc true b c = refl
 or_assoc false b c = refl
 
-among_both : (y : Name) (xs ys : List Name) → is_among y (xs ++ ys) ≡ (is_among y xs || is_among y ys)
+pub among_both : (y : Name) (xs ys : List Name) → is_among y (xs ++ ys) ≡ (is_among y xs || is_among y ys)
 among_both y [] ys = refl
 among_both y (x ∷ xs) ys = ap (λ b. same_name y x || b) (among_both y xs ys) ∙ sym (or_assoc (same_name y x) (is_among y xs) (is_among y ys))
 

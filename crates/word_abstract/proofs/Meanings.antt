@@ -44,7 +44,7 @@ of_two : {A : Type 0} (F : (View → Abstracted) → (View → Abstracted) → A
     F f h ≡ F (λ v. meaning a (seen_in v)) (λ v. meaning b (seen_in v))
 of_two F f h a b e i = ap₂ F (fun_ext e) (fun_ext i)
 
-kind_seen : (k : Kind) → seen_in (view_for k) ≡ seen_for k
+pub kind_seen : (k : Kind) → seen_in (view_for k) ≡ seen_for k
 kind_seen (WordKind n) = refl
 kind_seen (NatKind n) = refl
 kind_seen (IntKind n) = refl

@@ -1,21 +1,14 @@
 -- What stands in a program is seen as it is abstracted there.
-use Rattle.std.proofs.Common.{◌≡◌, Bool, List, sym, ap, ◌∙◌, refl}
+use Rattle.std.proofs.Common.{◌≡◌, Bool, List, sym, ap, ◌∙◌}
 use Rattle.expression_lang.specs.Expression.{Exp, Path}
-use Rattle.expression_lang.specs.Sort.{Kind, WordKind, NatKind, IntKind, BoolKind, Scope}
+use Rattle.expression_lang.specs.Sort.{Scope}
 use Rattle.expression_lang.specs.Signature.{Binder}
 use Rattle.rule_trees.specs.RuleTree.{Trees}
 use Rattle.rule_word.specs.Rule.{Rule, View}
-use Rattle.rule_word.specs.Scopes.{view_for}
 use Rattle.rule_word.specs.Bases.{Surroundings}
 use Rattle.rule_word.specs.WordsAbstracted.{Indices, abstracted, indices}
-use Rattle.word_abstract.specs.CodeMeaning.{Seen, seen_in, seen_for, meaning, standing, path_standing, path_trees}
+use Rattle.word_abstract.specs.CodeMeaning.{Seen, seen_in, meaning, standing, path_standing, path_trees}
 use Rattle.word_abstract.proofs.Meanings.{meaning_is, indices_is}
-
-pub kind_seen : (k : Kind) → seen_in (view_for k) ≡ seen_for k
-kind_seen (WordKind n) = refl
-kind_seen (NatKind n) = refl
-kind_seen (IntKind n) = refl
-kind_seen BoolKind = refl
 
 pub exp_seen : (same : Exp → Exp → Bool) (numbers : Bool) (g : Scope) (names : List Binder) (k : Surroundings) (e : Exp) (v : View) (s : Seen) → seen_in v ≡ s →
     meaning (standing same numbers g names k e) s ≡ abstracted same numbers g names k e v

@@ -1,5 +1,5 @@
 -- Each name that a lifted program binds is a word or a truth value, on bytes and on heaps.
-use Rattle.std.proofs.Common.{◌≡◌, Bool, true, false, not, cond, ◌&&◌, ◌||◌, List, [], ◌∷◌, map, Option, Some, None, refl, sym, subst, ap, ap₂, ◌∙◌}
+use Rattle.std.proofs.Common.{◌≡◌, Bool, true, false, not, cond, ◌&&◌, ◌||◌, List, [], ◌∷◌, map, Option, Some, None, refl, sym, subst, ap, ◌∙◌}
 use Rattle.std.proofs.lemmas.Bool.{and_parts, and_from}
 use Rattle.c_values.specs.Name.{Name, is_among}
 use Rattle.c_values.specs.Layout.{global_type}
@@ -8,7 +8,7 @@ use Rattle.expression_lang.specs.Expression.{Exp}
 use Rattle.expression_lang.specs.Mentions.{names as names_it}
 use Rattle.expression_lang.specs.Sort.{Scalar, Kind, WordKind, NatKind, IntKind, BoolKind, Scope, is_truth, is_kind, word_sort_of, sort_of_kind}
 use Rattle.expression_lang.specs.Signature.{Binder, Signature, signature, names_of, kinds_of}
-use Rattle.expression_lang.specs.Sorted.{names_with, program_sort, scalar_in, with_scalar, same_scalars, result_scalars, call_scalars}
+use Rattle.expression_lang.specs.Sorted.{names_with, program_sort, same_scalars, result_scalars, call_scalars}
 use Rattle.simpl_lang.specs.Command.{Simpl, Skip, Throw, Set, SetGlobal, Store, Pick, Seq, Cond, Guard, Catch, While, Call, kind_of}
 use Rattle.simpl_lang.specs.Sorted.{is_sorted, are_conditions}
 use Rattle.monad_lang.specs.Program as M
@@ -27,9 +27,8 @@ use Rattle.rule_local.proofs.LiftedNames.{handed_on_assigned}
 use Rattle.monad_lang.proofs.AgreeingSorts.{in_scope}
 use Rattle.rule_local.proofs.LiftedSorted.{scalars_at, AllThere, names_are, agree_bound}
 use Rattle.rule_heap.specs.HeapLifted.{is_pair, starts_lifted, on_heaps}
-use Rattle.rule_heap.proofs.ExpSorts.{program_sort_stays}
 use Rattle.rule_heap.proofs.HeapTaken.{starts_named as still_named}
-use Rattle.rule_heap.proofs.HeapFormed.{scalars_stay}
+use Rattle.rule_heap.proofs.HeapFormed.{scalars_stay, starts_sorted}
 use Rattle.rule_word.specs.Rule.{Context}
 use Rattle.rule_word.specs.ProgramsAbstracted.{scalars_there, are_words_or_truths, binds_words}
 use Rattle.word_ready.proofs.LiftedSorts.{Lifting, setting_at, local_there, words_there, gives_before, starts_give, loop_names, loop_gives}
@@ -174,10 +173,6 @@ module _ (ctx : Context) (ns : Name → Option Scalar) (ls : List Binder) (ss : 
   lifted_binds (Call (Some x) f es) w vs t ms h =
       then_vars ms (M.Call f es) (x ∷ []) vs (call_words (signature ctx.functions f) _) refl
   lifted_binds (Call None f es) w vs t ms h = then_vars ms (M.Call f es) [] vs (call_words (signature ctx.functions f) _) refl
-
-starts_sorted : (g : Scope) (xs : List M.Start) → start_scalars g (starts_lifted xs) ≡ start_scalars g xs
-starts_sorted g [] = refl
-starts_sorted g (x ∷ xs) = ap₂ (λ o p. with_scalar (scalar_in o) p) (program_sort_stays g x.exp) (starts_sorted g xs)
 
 pub binds_stay : (t : Setting) (m : Mon) → binds_words t m ≡ true → binds_words t (on_heaps m) ≡ true
 binds_stay t (M.Ret es) h = refl

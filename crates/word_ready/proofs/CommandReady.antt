@@ -1,7 +1,7 @@
 -- Commands that are ready to become programs on numbers: each sum, negation and signed division stands where the conditions
 -- around its command give its range. A command behind another, in a branch, in a handler or in a loop's body has its own
 -- conditions, and counts on no other.
-use Rattle.std.proofs.Common.{Bool, List, [], ◌∷◌, ◌++◌, ◌≡◌, true, false, refl, sym, ap, subst}
+use Rattle.std.proofs.Common.{Bool, List, [], ◌∷◌, ◌++◌, ◌≡◌, true, false, sym, subst}
 use Rattle.std.proofs.lemmas.List.{append-nil}
 use Rattle.expression_lang.specs.Expression.{Exp, And}
 use Rattle.expression_lang.specs.Sort.{Scope}
@@ -9,12 +9,9 @@ use Rattle.expression_lang.specs.Signature.{Binder}
 use Rattle.simpl_lang.specs.Command.{Condition, Simpl, Skip, Throw, Set, SetGlobal, Store, Pick, Seq, Cond, Guard, Catch, While, Call}
 use Rattle.rule_word.specs.Bases.{Surroundings}
 use Rattle.generation.specs.Generate.{guarded}
+use Rattle.heap_ready.proofs.CommandsReady.{one_by_one}
 use Rattle.word_ready.proofs.ReadyWords.{IsReady, IsPathReady}
 use Rattle.word_ready.proofs.GivenRanges.{AllThere, split, all_split}
-
-pub one_by_one : {A : Type 0} (xs : List A) (y : A) (ys : List A) → (xs ++ (y ∷ [])) ++ ys ≡ xs ++ (y ∷ ys)
-one_by_one [] y ys = refl
-one_by_one (x ∷ xs) y ys = ap (λ zs. x ∷ zs) (one_by_one xs y ys)
 
 -- no condition is itself a list of conditions
 abbrev pub is_and : Exp → Bool

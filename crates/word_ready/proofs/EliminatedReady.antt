@@ -1,22 +1,18 @@
 -- Taking exceptions out keeps commands ready for numbers: a test of the flag has no operation, and where a condition is asked
 -- only unless something was thrown, so is what it gives.
-use Rattle.std.proofs.Common.{◌≡◌, Bool, true, false, List, [], ◌∷◌, ◌++◌, refl, sym, ap, subst}
+use Rattle.std.proofs.Common.{◌≡◌, Bool, true, false, List, [], ◌∷◌, ◌++◌, sym, subst}
 use Rattle.expression_lang.specs.Expression.{Exp, And, Not}
 use Rattle.expression_lang.specs.Sort.{Scope}
 use Rattle.simpl_lang.specs.Command.{Condition, Simpl, Skip, Throw, Set, SetGlobal, Store, Pick, Seq, Cond, Guard, Catch, While, Call}
 use Rattle.rule_exn.specs.Quiet.{quiet}
-use Rattle.rule_exn.specs.Table.{is_thrown, asked_unless_thrown, unless_thrown}
+use Rattle.rule_exn.specs.Table.{is_thrown, unless_thrown}
 use Rattle.rule_exn.specs.Eliminated.{Eliminated, exceptions_eliminated, in_sequence, caught, repeated}
-use Rattle.generation.specs.Guards.{under}
+use Rattle.heap_ready.proofs.EliminatedReady.{unless_is_under}
 use Rattle.word_ready.proofs.ReadyWords.{IsReady}
 use Rattle.word_ready.proofs.GivenRanges.{AllThere, all_under_whole}
 use Rattle.word_ready.proofs.CommandReady.{Under, AreInOrder, AreSingle, IsCommandReady, command_from_more}
 use Rattle.word_ready.proofs.OrdersReady.{under_order}
 use Rattle.word_ready.proofs.SingleGuards.{single_under}
-
-unless_is_under : (cs : List Condition) → unless_thrown cs ≡ under (Not is_thrown) cs
-unless_is_under [] = refl
-unless_is_under (c ∷ cs) = ap (λ ds. asked_unless_thrown c ∷ ds) (unless_is_under cs)
 
 module _ (same : Exp → Exp → Bool) (finds : (e : Exp) → same e e ≡ true) (g : Scope) where
   abbrev ReadyUnder : List Condition → Simpl → Type 0

@@ -19,16 +19,10 @@ use Rattle.c_lang.specs.Typed as C
 use Rattle.c_lang.specs.WellTyped.{Scope, is_typed, is_typed_place, are_typed_indices, shape_along, leads_to, has_type, has_scalar_type, has_integer_type, is_in_memory}
 use Rattle.generation.specs.Guards.{is_signed_type, Reading, as_value, as_test, reading, content, address, path_of, number, under, bounds, accesses, guards, place_guards, index_guards, cast_to, shift, comparison, equation, combine_op, moved_by}
 use Rattle.generation.proofs.SortedExpressions.{IsScope, simpl_scope, operand}
+use Rattle.heap_ready.proofs.ExpressionsReady.{three_typed, both_typed}
 use Rattle.word_ready.proofs.ReadyWords.{IsReady, IsPathReady, tested}
 use Rattle.word_ready.proofs.GivenRanges.{AllThere, split, all_under_whole, all_under_not}
 use Rattle.word_ready.proofs.OperationsReady.{compute_ready, negate_ready}
-
-pub both_typed : (p a q b : Bool) → ((p && a) && (q && b)) ≡ true → (a ≡ true) × (b ≡ true)
-both_typed p a q b h = let k = and_parts (p && a) (q && b) h in ((and_parts p a k.0).1, (and_parts q b k.1).1)
-
-pub three_typed : (o p a q b : Bool) → (o && (p && a) && (q && b)) ≡ true → (a ≡ true) × (b ≡ true)
-three_typed o p a q b h =
-    let k = and_parts (o && (p && a)) (q && b) h in ((and_parts p a (and_parts o (p && a) k.0).1).1, (and_parts q b k.1).1)
 
 module _ (same : E.Exp → E.Exp → Bool) (sg : S.Scope) (names : List Binder) where
   abbrev Ready : Surroundings → E.Exp → Type 0

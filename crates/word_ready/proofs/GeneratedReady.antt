@@ -1,6 +1,6 @@
 -- Generated commands are ready for numbers: the conditions of each statement stand in order around its command, in which its
 -- expressions are ready.
-use Rattle.std.proofs.Common.{◌≡◌, ℕ, Bool, true, false, ◌&&◌, List, [], ◌∷◌, ◌++◌, Option, Some, None, ℤ, refl, sym, ap, subst}
+use Rattle.std.proofs.Common.{◌≡◌, ℕ, Bool, true, false, ◌&&◌, List, [], ◌∷◌, ◌++◌, Option, Some, None, ℤ, sym, subst}
 use Rattle.std.proofs.lemmas.Bool.{and_parts, false≢true}
 use Rattle.c_values.specs.Name.{Name}
 use Rattle.c_values.specs.Types.{Target, IntType, CType, Integer, same_type}
@@ -13,9 +13,10 @@ use Rattle.simpl_lang.specs.Command.{Condition, Simpl, Set, Seq, Cond, Catch}
 use Rattle.rule_word.specs.Bases.{Surroundings}
 use Rattle.c_lang.specs.Typed as C
 use Rattle.c_lang.specs.WellTyped.{Scope, Around, nowhere, in_a_loop, in_a_switch, is_typed, is_typed_at, is_typed_scalar, is_typed_target, is_typed_test, has_type, has_scalar_type, are_arguments, is_use_of, is_call_of, is_type, are_values, are_different, has_one_default, all_labels, is_statement, are_statements, are_groups}
-use Rattle.generation.specs.Guards.{when, exp, exps, truth, conversion, is_signed_type, guards, argument_guards, under}
+use Rattle.generation.specs.Guards.{exp, exps, truth, conversion, is_signed_type, guards, argument_guards}
 use Rattle.generation.specs.Generate.{call_local, switch_local, first_local, returned, broken, continued, jump, stops_at, body_of_loop, looped, guarded, assignment, target_guards, call, call_of, test_guards, test_truth, after_first, do_while, is_one_of, cases, in_order, is_empty, command, commands, before, cases_of, default_of, whole_body}
 use Rattle.generation.proofs.SortedExpressions.{IsScope, simpl_scope}
+use Rattle.heap_ready.proofs.GeneratedReady.{after_is_under}
 use Rattle.word_ready.proofs.ReadyWords.{IsReady}
 use Rattle.word_ready.proofs.GivenRanges.{AllThere, split, all_under_not}
 use Rattle.word_ready.proofs.ExpressionsReady.{cast_ready, reading_ready}
@@ -23,10 +24,6 @@ use Rattle.word_ready.proofs.CommandReady.{Under, AreInOrder, AreReady, AreSingl
 use Rattle.word_ready.proofs.SingleGuards.{single_under, single_guards}
 use Rattle.word_ready.proofs.OrdersReady.{under_order}
 use Rattle.word_ready.proofs.GuardsReady.{two, truth_there, value_there, guards_ready}
-
-after_is_under : (n : ℕ) (gs : List Condition) → after_first n gs ≡ under (E.Not (E.Var (first_local n))) gs
-after_is_under n [] = refl
-after_is_under n (c ∷ cs) = ap (λ hs. when c.kind (E.Imp (E.Not (E.Var (first_local n))) c.exp) ∷ hs) (after_is_under n cs)
 
 label_ready : (same : E.Exp → E.Exp → Bool) (sg : S.Scope) (names : List Binder) (t : Target) (i : IntType) (n : ℕ) (ks : List ℤ)
     (k : Surroundings) → IsReady same sg names k (is_one_of t i n ks)

@@ -1,5 +1,5 @@
 -- A condition is there where it is a fact, was ready when it became one, and stands under the conditions that stand around now.
-use Rattle.std.proofs.Common.{◌≡◌, Bool, true, false, List, [], ◌∷◌, ◌++◌, map, refl, sym, subst, ap, ap₂, ◌∙◌}
+use Rattle.std.proofs.Common.{◌≡◌, Bool, true, List, [], ◌∷◌, ◌++◌, map, refl, sym, subst, ap, ap₂, ◌∙◌}
 use Rattle.std.proofs.lemmas.Bool.{and_parts}
 use Rattle.expression_lang.specs.Expression as X
 use Rattle.expression_lang.specs.Expression.{Exp}
@@ -15,17 +15,10 @@ use Rattle.rule_word.specs.Ready.{ready}
 use Rattle.rule_word.proofs.AbstractedStays.{IsLater, stays}
 use Rattle.heap_ready.specs.CommandReady.{Unless}
 use Rattle.generation.specs.Guards.{under as conditions_under}
+use Rattle.heap_ready.proofs.ExpressionsReady.{unless_there, unless_map}
 use Rattle.word_ready.proofs.GuardsStand.{under_all, become, under_each}
 use Rattle.word_ready.proofs.SumsBased.{at_guard, behind}
 use Rattle.word_ready.proofs.ReadyWords.{tested, IsReady, done}
-
-unless_map : (b : Bool) (P Q : Type 0) → (P → Q) → Unless b P → Unless b Q
-unless_map true P Q k h = tt
-unless_map false P Q k h = k h
-
-pub unless_there : (b : Bool) (P : Type 0) → P → Unless b P
-unless_there true P h = tt
-unless_there false P h = h
 
 under_last : (cs : List Exp) (c e : Exp) → under_all (cs ++ (c ∷ [])) e ≡ under_all cs (X.Imp c e)
 under_last [] c e = refl

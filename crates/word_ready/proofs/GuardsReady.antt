@@ -14,9 +14,10 @@ use Rattle.c_lang.specs.Typed as C
 use Rattle.c_lang.specs.WellTyped.{Scope, is_typed, is_typed_place, are_typed_indices, leads_to, shape_along, has_type, has_scalar_type, has_integer_type, is_in_memory}
 use Rattle.generation.specs.Guards.{reading, number, under, bounds, accesses, guards, place_guards, index_guards, fits, divides, computes, shifts}
 use Rattle.generation.proofs.SortedExpressions.{IsScope, simpl_scope}
+use Rattle.heap_ready.proofs.ExpressionsReady.{three_typed, both_typed}
 use Rattle.word_ready.proofs.ReadyWords.{IsReady}
 use Rattle.word_ready.proofs.GivenRanges.{AllThere, split}
-use Rattle.word_ready.proofs.ExpressionsReady.{both_typed, three_typed, number_ready, reading_ready}
+use Rattle.word_ready.proofs.ExpressionsReady.{number_ready, reading_ready}
 use Rattle.word_ready.proofs.CommandReady.{Under, AreInOrder, from_more, in_order_after}
 use Rattle.word_ready.proofs.OrdersReady.{under_order}
 

@@ -41,18 +41,16 @@ use Rattle.rule_word.specs.ProgramsAbstracted.{exp_at, guard_at, kinds_for, scal
 use Rattle.rule_word.specs.Ready.{path_ready, exp_ready, guard_ready, all_ready, starts_ready, place_ready, program_ready}
 use Rattle.heap_ready.specs.CommandReady.{Unless}
 use Rattle.word_ready.proofs.ReadyWords.{IsReady, IsPathReady, tested, done, path_done}
-use Rattle.word_ready.proofs.GivenRanges.{IsThere, AllThere as AllGiven, unless_there, all_split, all_more, there_now}
-use Rattle.word_ready.proofs.CommandReady.{one_by_one, is_and, AreSingle, AreReady, AreInOrder, IsCommandReady}
+use Rattle.word_ready.proofs.GivenRanges.{IsThere, AllThere as AllGiven, all_split, all_more, there_now}
+use Rattle.word_ready.proofs.CommandReady.{is_and, AreSingle, AreReady, AreInOrder, IsCommandReady}
 use Rattle.word_ready.proofs.AlikeSettings.{itself_alike, alike}
 use Rattle.word_ready.proofs.ReadyAlike.{ready_alike, paths_alike}
 use Rattle.word_ready.proofs.NamesStay.{name_stays, path_name_stays}
 use Rattle.word_ready.proofs.ConditionFacts.{fact_of, facts_of, one_fact_alike}
 use Rattle.word_ready.proofs.LiftedSorts.{Lifting, setting_at, local_there, gives, names_next, loop_names, loop_gives}
-use Rattle.heap_ready.proofs.LiftedReady.{lifted_is_no_pair}
-
-pair_is_of_pointer : (e : Exp) (m : Mon) → is_pair (M.Guard e) [] m ≡ true → is_ptrok e ≡ true
-pair_is_of_pointer (X.PtrOk t p) m h = refl
-pair_is_of_pointer e m h = absurd cc
+use Rattle.heap_ready.proofs.LiftedReady.{lifted_is_no_pair, pair_is_of_pointer}
+use Rattle.heap_ready.proofs.CommandsReady.{one_by_one}
+use Rattle.heap_ready.proofs.ExpressionsReady.{unless_there}
 
 module _ (same : Exp → Exp → Bool) (finds : (e : Exp) → same e e ≡ true) (ctx : Context) (ns : Name → Option Scalar)
     (ls : List Binder) (ss : List Signature) (known : Lifting ctx ns ls ss) (table : Name → Option Kind) where

@@ -1,12 +1,12 @@
 -- What lifted programs on heaps give in a setting of words, and which sorts their names have then.
-use Rattle.std.proofs.Common.{◌≡◌, Bool, true, false, cond, List, [], ◌∷◌, map, Option, Some, None, refl, sym, ap, ap₂, ◌∙◌}
+use Rattle.std.proofs.Common.{◌≡◌, Bool, true, false, List, [], ◌∷◌, Option, Some, refl, sym, ap, ap₂, ◌∙◌}
 use Rattle.std.specs.Option.{is_some}
-use Rattle.std.proofs.lemmas.Bool.{false≢true, and_parts, and_from, or_left, or_right, eqb-true}
+use Rattle.std.proofs.lemmas.Bool.{and_from, or_left, or_right}
 use Rattle.c_values.specs.Name.{Name, same_name, is_among}
 use Rattle.c_values.specs.Layout.{global_type}
 use Rattle.c_values.proofs.Laid.{same_name-refl}
 use Rattle.expression_lang.specs.Expression.{Exp}
-use Rattle.expression_lang.specs.Sort.{Scalar, WordSort, NumberSort, TruthSort, Kind, Scope, same_scalar, scalar_sort, word_sort_of, sort_of_kind}
+use Rattle.expression_lang.specs.Sort.{Scalar, Kind, Scope, scalar_sort, word_sort_of, sort_of_kind}
 use Rattle.expression_lang.specs.Signature.{Binder, Signature, names_of}
 use Rattle.expression_lang.specs.Sorted.{names_with, scalar_in, with_scalar}
 use Rattle.simpl_lang.specs.Command.{Condition, Simpl, While}
@@ -14,21 +14,23 @@ use Rattle.simpl_lang.specs.Sorted.{is_sorted}
 use Rattle.monad_lang.specs.Program as M
 use Rattle.monad_lang.specs.Program.{Mon}
 use Rattle.monad_lang.specs.Names.{is_free, is_in_start}
-use Rattle.monad_lang.specs.Sorted.{Setting, scalars_given, start_scalars, and_then_scalars, where_fits}
+use Rattle.monad_lang.specs.Sorted.{Setting, scalars_given, start_scalars, where_fits}
 use Rattle.monad_lang.specs.Agree.{AgreeOn}
 use Rattle.rule_local.specs.Table.{vars, as_starts, conj}
 use Rattle.rule_local.specs.Lifted.{handed_on, lifted}
 use Rattle.monad_lang.proofs.Agreeing.{agree_left, agree_right}
 use Rattle.rule_local.proofs.LiftedTaken.{local_kind}
 use Rattle.monad_lang.proofs.AgreeingSorts.{in_scope}
+use Rattle.monad_lang.proofs.Given.{then_parts}
 use Rattle.rule_local.proofs.LiftedSorted.{scalar_there, scalars_at, AllThere, Known, lifted_sorted}
 use Rattle.rule_heap.specs.ExpLifted.{exp_lifted}
 use Rattle.rule_heap.specs.HeapLifted.{starts_lifted, on_heaps}
 use Rattle.rule_heap.proofs.HeapFormed.{scalars_stay}
 use Rattle.rule_word.specs.Rule.{Context}
 use Rattle.rule_word.specs.Scopes.{names_in, with_kinds}
-use Rattle.rule_word.specs.ProgramsAbstracted.{word_kind_of, kind_for, kinds_for, scalars_there, is_word_or_truth, are_words_or_truths}
+use Rattle.rule_word.specs.ProgramsAbstracted.{kinds_for, scalars_there, is_word_or_truth, are_words_or_truths}
 use Rattle.rule_word.proofs.ScopesAfter.{names_after}
+use Rattle.rule_word.proofs.ProgramsTaken.{kinds_for_sorts}
 use Rattle.rule_local.proofs.LiftedSorted.{there_in}
 
 -- What is known of a function: its locals have sorts of words and truth values, and its calls give words of the kinds in the
@@ -43,44 +45,7 @@ pub record Lifting (ctx : Context) (ns : Name → Option Scalar) (ls : List Bind
 
 -- kinds of sorts
 
-same_scalar_is : (a b : Scalar) → same_scalar a b ≡ true → a ≡ b
-same_scalar_is (WordSort m) (WordSort n) h = ap (λ k. WordSort k) (eqb-true m n h)
-same_scalar_is NumberSort NumberSort h = refl
-same_scalar_is TruthSort TruthSort h = refl
-same_scalar_is (WordSort m) NumberSort h = absurd (false≢true h)
-same_scalar_is (WordSort m) TruthSort h = absurd (false≢true h)
-same_scalar_is NumberSort (WordSort n) h = absurd (false≢true h)
-same_scalar_is NumberSort TruthSort h = absurd (false≢true h)
-same_scalar_is TruthSort (WordSort n) h = absurd (false≢true h)
-same_scalar_is TruthSort NumberSort h = absurd (false≢true h)
-
-word_kind_sort : (c : Scalar) → is_word_or_truth c ≡ true → word_sort_of (word_kind_of c) ≡ c
-word_kind_sort (WordSort n) h = refl
-word_kind_sort TruthSort h = refl
-word_kind_sort NumberSort h = absurd (false≢true h)
-
-kind_for_sort : (o : Option Kind) (c : Scalar) → is_word_or_truth c ≡ true → word_sort_of (kind_for o c) ≡ c
-kind_for_sort None c h = word_kind_sort c h
-kind_for_sort (Some k) c h = by_test (same_scalar (word_sort_of k) c) refl
-  where
-    by_test : (b : Bool) → same_scalar (word_sort_of k) c ≡ b → word_sort_of (cond b k (word_kind_of c)) ≡ c
-    by_test true e = same_scalar_is (word_sort_of k) c e
-    by_test false e = word_kind_sort c h
-
-kinds_for_sorts : (table : Name → Option Kind) (xs : List Name) (cs : List Scalar) → are_words_or_truths cs ≡ true →
-    map word_sort_of (kinds_for table xs cs) ≡ cs
-kinds_for_sorts table xs [] h = refl
-kinds_for_sorts table [] (c ∷ cs) h =
-    ap₂ (λ d ds. d ∷ ds) (word_kind_sort c (and_parts _ _ h).0) (kinds_for_sorts table [] cs (and_parts _ _ h).1)
-kinds_for_sorts table (x ∷ xs) (c ∷ cs) h =
-    ap₂ (λ d ds. d ∷ ds) (kind_for_sort (table x) c (and_parts _ _ h).0) (kinds_for_sorts table xs cs (and_parts _ _ h).1)
-
 -- what is given, where something is
-
-and_some : (o : Option (List Scalar)) (f : List Scalar → Option (List Scalar)) (r : List Scalar) →
-    and_then_scalars o f ≡ Some r → (cs : List Scalar) × (o ≡ Some cs) × (f cs ≡ Some r)
-and_some None f r h = absurd cc
-and_some (Some cs) f r h = (cs, refl, h)
 
 fits_some : (b : Bool) (o : Option (List Scalar)) (r : List Scalar) → where_fits b o ≡ Some r → o ≡ Some r
 fits_some true o r h = h
@@ -89,11 +54,11 @@ fits_some false o r h = absurd cc
 -- of a part of a sequence, and of what a loop begins with
 bind_some : (t : Setting) (m n : Mon) (xs : List Name) (r : List Scalar) →
     scalars_given t (M.Bind m xs n) ≡ Some r → (cs : List Scalar) × (scalars_given t m ≡ Some cs)
-bind_some t m n xs r h = let w = and_some (scalars_given t m) _ r h in (w.0, w.1)
+bind_some t m n xs r h = let w = then_parts (scalars_given t m) _ r h in (w.0, w.1)
 
 loop_some : (t : Setting) (starts : List M.Start) (guard test : Exp) (m : Mon) (r : List Scalar) →
     scalars_given t (M.Loop starts guard test m) ≡ Some r → start_scalars t.scope starts ≡ Some r
-loop_some t starts guard test m r h = let w = and_some (start_scalars t.scope starts) _ r h in w.1 ∙ fits_some _ (Some w.0) r w.2
+loop_some t starts guard test m r h = let w = then_parts (start_scalars t.scope starts) _ r h in w.1 ∙ fits_some _ (Some w.0) r w.2
 
 module _ (ctx : Context) (ns : Name → Option Scalar) (ls : List Binder) (ss : List Signature) (known : Lifting ctx ns ls ss) where
   abbrev pub scope_at : (Name → Option Scalar) → Scope

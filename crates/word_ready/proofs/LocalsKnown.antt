@@ -4,11 +4,13 @@ use Rattle.std.proofs.lemmas.Bool.{false≢true, and_parts, and_from, not-true, 
 use Rattle.c_values.specs.Name.{Name, same_name, with_name, is_among, are_distinct}
 use Rattle.c_values.specs.Types.{Target, CType}
 use Rattle.c_values.specs.Layout.{scalar_width}
+use Rattle.c_values.proofs.Options.{some_is, none_is}
 use Rattle.expression_lang.specs.Sort.{Level, Scalar, WordSort, Kind, WordKind, NatKind, IntKind, BoolKind, are_kinds, word_sort_of, sort_of_kind}
 use Rattle.expression_lang.specs.Signature.{Binder, Signature, kind_at, names_of, kinds_of, signature}
 use Rattle.expression_lang.specs.Sorted.{names_with, call_scalars}
 use Rattle.simpl_lang.specs.Command.{kind_of}
 use Rattle.monad_lang.specs.Agree.{AgreeOn}
+use Rattle.simpl_lang.proofs.SameKinds.{local_is_kind}
 use Rattle.rule_local.proofs.InScope.{local_in_scope}
 use Rattle.rule_local.proofs.LiftedTaken.{local_kind}
 use Rattle.rule_local.proofs.LiftedSorted.{scalar_there, Known}
@@ -19,13 +21,7 @@ use Rattle.c_lang.specs.Typed as C
 use Rattle.c_lang.specs.WellTyped.{variable_type}
 use Rattle.c_meaning.specs.Kinds.{variables}
 use Rattle.generation.proofs.SortedCommands.{kind_word}
-use Rattle.rule_local.proofs.UnitsSorted.{local_scalar, local_is_kind}
-
-some_is : {A : Type 0} {a b : A} → ◌≡◌ {A = Option A} (Some a) (Some b) → a ≡ b
-some_is h = cc
-
-none_is_none : {A : Type 0} {P : Type 0} {a : A} → ◌≡◌ {A = Option A} None (Some a) → P
-none_is_none h = cc
+use Rattle.rule_local.proofs.UnitsSorted.{local_scalar}
 
 abbrev pub scalars_among : List Binder → (Name → Option Scalar) → Name → Option Scalar
 scalars_among bs ms = names_with (names_of bs) (map word_sort_of (kinds_of bs)) ms
@@ -33,7 +29,7 @@ scalars_among bs ms = names_with (names_of bs) (map word_sort_of (kinds_of bs)) 
 -- of the first of two lists
 
 first_kind : (ps bs : List Binder) (y : Name) (k : Kind) → kind_of ps y ≡ Some k → kind_of (ps ++ bs) y ≡ Some k
-first_kind [] bs y k h = none_is_none h
+first_kind [] bs y k h = none_is h
 first_kind (p ∷ ps) bs y k h = by_test (same_name p.name y) h (first_kind ps bs y k)
   where
     by_test : (t : Bool) → cond t (Some p.kind) (kind_of ps y)
@@ -74,7 +70,7 @@ params_agree ps bs d y t =
 
 variable_kind : (t : Target) (level : Level) (vs : List C.Variable) (y : Name) (u : CType) → variable_type vs y ≡ Some u →
     kind_of (variables t level vs) y ≡ Some (kind_at t level u)
-variable_kind t level [] y u h = none_is_none h
+variable_kind t level [] y u h = none_is h
 variable_kind t level (v ∷ vs) y u h = by_test (same_name v.name y) h (variable_kind t level vs y u)
   where
     by_test : (b : Bool) → cond b (Some v.type) (variable_type vs y)

@@ -13,11 +13,11 @@ use Rattle.rule_local.proofs.LiftedSorted.{word_sort_is}
 use Rattle.rule_heap.specs.HeapLifted.{functions_on_heaps}
 use Rattle.rule_word.specs.UnitAbstracted.{right_signatures}
 use Rattle.rule_word.proofs.SettingsAlike.{TakesAlike, SignedAlike, given_alike}
+use Rattle.rule_local.proofs.UnitsSorted.{sorts_in_words}
 use Rattle.c_lang.specs.Typed as C
 use Rattle.generation.specs.Generate.{function_of, signature_of}
 use Rattle.heap_ready.specs.Ready.{function_eliminated}
 use Rattle.word_ready.specs.GeneratesReady.{kinds_of_functions}
-use Rattle.word_ready.proofs.KindsFor.{words_of_kinds}
 
 -- what a function takes and gives, in words
 abbrev pub result_in_word : Option Kind → Option Kind
@@ -35,7 +35,7 @@ result_alike None = refl
 result_alike (Some k) = ap (λ c. c ∷ []) (sym (word_sort_is k))
 
 takes_alike : (s : Signature) → TakesAlike word_sort_of sort_of_kind s (signature_in_words s)
-takes_alike s = record { takes = sym (words_of_kinds s.params); gives = result_alike s.result }
+takes_alike s = record { takes = sym (sorts_in_words s.params); gives = result_alike s.result }
 
 alike : (ss : List Signature) (x : Name) → SignedAlike word_sort_of sort_of_kind (signature ss x) (signature (in_words_all ss) x)
 alike [] x = tt

@@ -1,15 +1,13 @@
-use Rattle.std.proofs.Common.{◌≡◌, ℕ, pos, ap, ◌∙◌, sym}
+use Rattle.std.proofs.Common.{pos, ap, ◌∙◌, sym}
 use Rattle.c_values.specs.Layout.{shape_of, type_of}
 use Rattle.c_values.proofs.Leads.{leads_of}
 use Rattle.c_values.proofs.Geometry.{leads_within}
 use Rattle.c_values.proofs.Laid.{shape_good, shape_type, structs_of}
 use Rattle.c_values.proofs.Parts.{formed_complete}
+use Rattle.c_values.proofs.Steps.{same_number}
 use Rattle.c_memory.specs.Tags.{is_root_type, root_path}
 use Rattle.c_memory.proofs.OnePath.{leads_found}
 use Rattle.c_memory.proofs.tag_laws.part_has_one_path.Goals as goal
-
-same_number : (m n : ℕ) → pos m ≡ pos n → m ≡ n
-same_number m n h = cc
 
 pub returns : goal.returns
 returns c l u t d path h complete root range e =

@@ -1,12 +1,10 @@
-use Rattle.std.proofs.Common.{◌≡◌, ℕ, sym, ◌∙◌, pos, subst₂}
+use Rattle.std.proofs.Common.{sym, ◌∙◌, subst₂}
 use Rattle.c_values.specs.Layout.{size}
 use Rattle.c_values.proofs.Geometry.{AreApart, leads_apart}
 use Rattle.c_values.proofs.Laid.{shape_good}
 use Rattle.c_values.proofs.Parts.{part_of}
 use Rattle.c_values.proofs.layout_laws.parts_are_apart.Goals as goal
-
-same_number : (m n : ℕ) → pos m ≡ pos n → m ≡ n
-same_number m n h = cc
+use Rattle.c_values.proofs.Steps.{same_number}
 
 pub returns : goal.returns
 returns c l t path other q r d e h complete range_p spot_p offset_p range_o spot_o offset_o left right =

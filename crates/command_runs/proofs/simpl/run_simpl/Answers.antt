@@ -8,9 +8,10 @@ use Rattle.simpl_lang.specs.CodeCommand.{simpl_fn_of, simpl_unit_of}
 use Rattle.expression_lang.specs.Sort.{word_sort_of}
 use Rattle.expression_lang.specs.Signature.{kinds_of}
 use Rattle.expression_lang.specs.CodeSignature.{binder_of, signature_of}
+use Rattle.global_changes.proofs.Indexed.{some_below, get_some}
 use Rattle.command_runs.specs.Locals.{AreOfSorts}
 use Rattle.command_runs.specs.CodeRun.{state_in, call_of, IsEnd, OnLasting}
-use Rattle.command_runs.proofs.Indexed.{function_at, signature_at, same_count, some_below, get_some, some_and, and_some, returned_end, returned_lasts}
+use Rattle.command_runs.proofs.Indexed.{function_at, signature_at, same_count, some_and, and_some, returned_end, returned_lasts}
 use Rattle.command_runs.proofs.simpl.run_simpl.Goals as goal
 
 pub index-function-requires : goal.index-function-requires

@@ -1,15 +1,12 @@
 -- Where there is no global, there is nothing at any path.
-use Rattle.std.proofs.Common.{◌≡◌, ◌∙◌, List, [], ◌∷◌, map, refl, ap, sym}
+use Rattle.std.proofs.Common.{◌∙◌, map, ap, sym}
 use Rattle.c_values.specs.Value.{Parts, nothing}
-use Rattle.c_values.specs.Path.{Step, sel}
+use Rattle.c_values.specs.Path.{sel}
 use Rattle.c_memory.specs.CodeStep.{step_of}
 use Rattle.c_values.specs.CodeParts.{values_in}
 use Rattle.c_values.proofs.Listed.{parts_value}
+use Rattle.c_values.proofs.Follow.{sel_nothing}
 use Rattle.expression_lang.proofs.environments.global_part.Goals as goal
-
-sel_nothing : (ps : List Step) → sel nothing ps ≡ nothing
-sel_nothing [] = refl
-sel_nothing (p ∷ ps) = sel_nothing ps
 
 pub returns-in-None : goal.returns-in-None
 returns-in-None c =

@@ -1,24 +1,23 @@
 -- What is left of a program has its values, where the names of what was passed are in scope. Sizes fall, or else the number of
 -- parts that are passed.
 use Rattle.std.proofs.Common.{◌≡◌, ◌+◌, ◌≤◌, Option}
-use Rattle.std.specs.Char.Escape.{hex_digit_at}
 use Rattle.c_values.specs.Name.{Name}
 use Rattle.expression_lang.specs.Sort.{Scalar}
 use Rattle.monad_lang.specs.declared.program.Mon.{size-Mon}
 use Rattle.monad_lang.specs.CodeProgram.{mon_of}
 use Rattle.monad_sorts.specs.CodeTold.{values_told, part_after, names_after}
 use Rattle.monad_sorts.specs.CodeInside.{setting_in, no_names}
-use Rattle.monad_sorts.proofs.Weights.{top}
+use Rattle.monad_sorts.proofs.Weights.{weight, top}
 use Rattle.monad_sorts.proofs.values.+told.Given as goal
 
 abbrev pub decreases-tell_value : goal.decreases-tell_value
-decreases-tell_value l = hex_digit_at (size-Mon l.m.now) top
+decreases-tell_value l = weight (size-Mon l.m.now) top
 
 abbrev pub decreases-look_back : goal.decreases-look_back
-decreases-look_back l = hex_digit_at (size-Mon l.m.now) (l.steps + 1)
+decreases-look_back l = weight (size-Mon l.m.now) (l.steps + 1)
 
 abbrev pub decreases-look_through : goal.decreases-look_through
-decreases-look_through l = hex_digit_at (size-Mon l.m.now) 0
+decreases-look_through l = weight (size-Mon l.m.now) 0
 
 abbrev pub invariant-tell_value-along : goal.invariant-tell_value-along
 invariant-tell_value-along l = record {

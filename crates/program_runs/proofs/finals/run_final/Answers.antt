@@ -5,8 +5,9 @@ use Rattle.c_values.specs.CodeValue.{value_of}
 use Rattle.expression_lang.specs.CodeState.{state_of}
 use Rattle.monad_lang.specs.Program.{FinalFn}
 use Rattle.monad_lang.specs.CodeProgram.{final_fn_of}
+use Rattle.global_changes.proofs.Indexed.{some_below}
 use Rattle.program_runs.specs.CodeRun.{ends_of_call, AreArguments, IsEnd, OnResults}
-use Rattle.program_runs.proofs.Named.{found_at, some_below, at_place, place_at}
+use Rattle.program_runs.proofs.Named.{found_at, at_place, place_at}
 use Rattle.program_runs.proofs.Outcomes.{is_end, has_results}
 use Rattle.program_runs.proofs.finals.run_final.Goals as goal
 

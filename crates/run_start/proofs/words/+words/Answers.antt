@@ -6,9 +6,10 @@ use Rattle.c_values.specs.CodeValue.{value_of}
 use Rattle.c_values.specs.Layout.{shape_of}
 use Rattle.c_values.specs.Value.{Parts}
 use Rattle.c_values.proofs.Listed.{parts_value, parts_listed}
+use Rattle.c_values.proofs.Compared.{rank_in}
 use Rattle.memory_text.specs.CodeTypes.{types_in}
 use Rattle.run_start.specs.Start.{all_as_words}
-use Rattle.run_start.proofs.OneByOne.{rank_in, words_more, types_ended, values_ended, parts_made, no_parts_made}
+use Rattle.run_start.proofs.OneByOne.{words_more, types_ended, values_ended, parts_made, no_parts_made}
 use Rattle.run_start.proofs.words.+words.Goals as goal
 
 pub as_words-all_as_words-requires : goal.as_words-all_as_words-requires

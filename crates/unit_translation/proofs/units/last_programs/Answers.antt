@@ -1,6 +1,5 @@
 -- The generated functions are ready, and what is made of them is the last unit of an accepted certificate.
 use Rattle.std.proofs.Common.{◌≡◌, sym, subst, ◌∙◌, ap}
-use Rattle.std.specs.Prelude.{Result, Ok, Err, IfOk}
 use Rattle.std.proofs.lemmas.Result.{IfOk-weaker}
 use Rattle.ac_expr.specs.SameExp.{same_exp}
 use Rattle.simpl_lang.specs.Command.{SimplUnit}

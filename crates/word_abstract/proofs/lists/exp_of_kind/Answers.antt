@@ -7,8 +7,8 @@ use Rattle.word_abstract.specs.CodeMeaning.{seen_in}
 use Rattle.word_abstract.specs.CodeViews.{seen_of}
 use Rattle.word_abstract.specs.CodeAbstracted.{abstracted_in}
 use Rattle.word_abstract.specs.CodeScenes.{exp_there}
-use Rattle.word_abstract.proofs.Seeing.{kind_seen}
 use Rattle.word_abstract.proofs.lists.exp_of_kind.Goals as goal
+use Rattle.word_abstract.proofs.Meanings.{kind_seen}
 
 pub returns : goal.returns
 returns c =

@@ -7,9 +7,10 @@ use Rattle.expression_lang.specs.Machine.{machine_with}
 use Rattle.expression_lang.specs.declared.sort.Kind as K
 use Rattle.expression_lang.specs.CodeExpression.{kind_of}
 use Rattle.simpl_lang.specs.Command as plain
+use Rattle.simpl_lang.proofs.SameKinds.{local_is_kind}
 use Rattle.command_runs.specs.CodeRun.{state_in, machine_in, locals_of, picked_value}
 use Rattle.command_runs.proofs.Places.{pick_scalar}
-use Rattle.command_runs.proofs.Given.{IsPut, local_put, known_kind, kind_is, picked_sorted, picks}
+use Rattle.command_runs.proofs.Given.{IsPut, local_put, known_kind, picked_sorted, picks}
 use Rattle.command_runs.proofs.frame.Frame.pick.Goals as goal
 
 is_there : (o : Option K.Kind) (p : Option Kind) (k : Kind) → option_map kind_of o ≡ p → p ≡ Some k → IsSome o
@@ -38,7 +39,7 @@ picked-requires c =
     let p = pick_scalar f c.args.name.now c.requires.sorted in
     let k = known_kind f c.requires.frame c.args.name.now p.0 p.1 in
     let some : c.kind_in.result ≡ Some c.unwrap-kind.result = search rules in
-    subst (λ j. is_kind j ≡ true) (kind_here c.kind_in.result c.unwrap-kind.result _ k.0 c.kind_in.ensures k.1 some) (kind_is (locals_of f) c.args.name.now k.0 c.requires.frame.kinds k.1)
+    subst (λ j. is_kind j ≡ true) (kind_here c.kind_in.result c.unwrap-kind.result _ k.0 c.kind_in.ensures k.1 some) (local_is_kind (locals_of f) c.args.name.now k.0 c.requires.frame.kinds k.1)
 
 put : (c : goal.After-put) → (k : Kind) × (plain.kind_of (locals_of c.args.self.now) c.args.name.now ≡ Some k) × IsPut c.args.self.now c.args.locals.now.items c.put.new.locals.items c.args.state.now c.args.name.now (picked_value c.args.self.now.fill k)
 put c =

@@ -9,12 +9,13 @@ use Rattle.c_values.specs.CodeValue.{value_of}
 use Rattle.c_memory.specs.Heap.{IsHeap}
 use Rattle.c_memory.specs.CodeHeap.{memory_of}
 use Rattle.c_memory.specs.CodeStep.{step_of}
+use Rattle.c_memory.proofs.Written.{written as bytes_written}
 use Rattle.expression_lang.specs.Sort.{Of, WordSort}
 use Rattle.expression_lang.specs.CodeExpression.{exp_of, path_of}
+use Rattle.global_changes.proofs.Indexed.{bits_below}
 use Rattle.command_runs.proofs.Evaluated.{value_fits}
 use Rattle.command_runs.proofs.Places.{store_parts}
-use Rattle.command_runs.proofs.Placed.{bits_below, on_ok, placed}
-use Rattle.command_runs.proofs.BytesWritten.{bytes_written}
+use Rattle.command_runs.proofs.Placed.{on_ok, placed}
 use Rattle.command_runs.proofs.frame.Frame.store.Goals as goal
 
 pub value-requires-clause-sorted : goal.value-requires-clause-sorted

@@ -8,9 +8,10 @@ use Rattle.expression_lang.specs.Evaluation.{value}
 use Rattle.monad_lang.specs.Run.{start_values}
 use Rattle.expression_lang.specs.Wide.{wide}
 use Rattle.expression_lang.specs.CodeState.{env_of}
+use Rattle.global_changes.proofs.Indexed.{one_more}
 use Rattle.program_runs.specs.WideRun.{wide_at_starts}
 use Rattle.program_runs.specs.CodeRun.{state_in, scope_of}
-use Rattle.program_runs.proofs.Lists.{one_more, passed, first_sorted, others_sorted}
+use Rattle.program_runs.proofs.Lists.{passed, first_sorted, others_sorted}
 use Rattle.program_runs.proofs.machine.Setting.start_values.Goals as goal
 
 pub value-requires-clause-sorted : goal.value-requires-clause-sorted

@@ -9,8 +9,9 @@ use Rattle.expression_lang.specs.Evaluation.{value, steps}
 use Rattle.expression_lang.specs.Wide.{wide, wide_in}
 use Rattle.expression_lang.specs.CodeExpression.{exp_of, path_of}
 use Rattle.expression_lang.specs.CodeState.{env_of}
+use Rattle.global_changes.proofs.Indexed.{one_more}
 use Rattle.program_runs.specs.CodeRun.{state_in, scope_of}
-use Rattle.program_runs.proofs.Lists.{one_more, passed}
+use Rattle.program_runs.proofs.Lists.{passed}
 use Rattle.program_runs.proofs.AlongPaths.{leads_element}
 use Rattle.program_runs.proofs.machine.Setting.steps.Goals as goal
 

@@ -7,9 +7,10 @@ use Rattle.expression_lang.specs.Evaluation.{value}
 use Rattle.expression_lang.specs.Signature.{values_of}
 use Rattle.expression_lang.specs.Wide.{wide}
 use Rattle.expression_lang.specs.CodeState.{env_of}
+use Rattle.global_changes.proofs.Indexed.{one_more}
 use Rattle.program_runs.specs.WideRun.{wide_among}
 use Rattle.program_runs.specs.CodeRun.{state_in, scope_of}
-use Rattle.program_runs.proofs.Lists.{one_more, passed, first_sorted, others_sorted}
+use Rattle.program_runs.proofs.Lists.{passed, first_sorted, others_sorted}
 use Rattle.program_runs.proofs.machine.Setting.values.Goals as goal
 
 pub value-requires-clause-sorted : goal.value-requires-clause-sorted
