@@ -223,7 +223,6 @@ module _ (xs : List Name) where
       let leads : Leads = λ z. live xs a (same_name z) in
       let own = λ (z : Name). (names z (conj gs) || names z e) || live xs a none z in
       let from = λ (q : Name → Bool) (z : Name). own z || q z in
-      let begin : (z : Name) → (own z || p z) ≡ true → (own z ≡ true) ⊎ (p z ≡ true) = λ z t. or_cases (own z) (p z) t in
       either (from p y) (some_of (λ z. from p z && through xs leads z y) xs) h
       (λ k. either (own y) (p y) k (λ j. inl (spread_from xs leads (from none) y (or_left (own y) false j)))
       (λ j. self (While gs e a) p y j (spread_from xs leads (from (same_name y)) y (or_right (own y) (same_name y y) (same_name-refl y)))))

@@ -116,7 +116,6 @@ run_reads l from r e h at =
     let some = p.1 in
     let less : r.address < space l = omega (arith, within, some) in
     let room : length r.bytes ≤ space l - r.address = omega (arith, within) in
-    let a = Atom (decimal r.address) in
     ap (λ q. q >>= (λ x. if nat_le from x.0 then Ok x else Err (next at)) >>= λ x. run_with l x (Atom (encode_lower r.bytes))) (natural_reads (space l) r.address (address_small l.target) (lt-ltb r.address (space l) less) (next at))
     ∙ ap (λ q. q >>= λ x. run_with l x (Atom (encode_lower r.bytes))) (cond-true (nat_le from r.address) (Ok (r.address, next (next at))) (Err (next at)) f.behind)
     ∙ ap (λ q. q >>= λ y. Ok ((record { address = r.address; bytes = y.0 }, r.address + length y.0), y.1)) (bytes_read (space l - r.address) r.bytes f.filled room (next (next at)))

@@ -24,7 +24,6 @@ pub returns : goal.returns
 returns g c =
     let l = c.args.unit.now.layout in
     let f = function_of c.args.function.now in
-    let gs = c.args.unit.now.globals.items in
     let heap = g.H.Heap.content c.args.heap.now in
     let old = c.args.lines.now.items in
     let first = c.result_line.new.lines.items in

@@ -19,10 +19,8 @@ pub run-requires-clause-sorted : goal.run-requires-clause-sorted
 run-requires-clause-sorted g c =
     let u = c.args.self.now.unit.now in
     let fu = final_unit_of u in
-    let k = c.args.self.now.fill in
     let fn = c.args.function.now in
     let vs = map value_of c.args.arguments.now in
-    let s = state_in g.H.Heap.content u c.args.state.now in
     let new = c.bind.new.env.items in
     let params = c.deref.result.now in
     let empty = subst (λ q. Extends q (map (λ b. string_bytes b.name) params) vs new) c.new-env.ensures.items c.in_ok-bind.ensures in
