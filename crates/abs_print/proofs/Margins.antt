@@ -57,25 +57,15 @@ margin_choice margin ls ks = margin_append margin (deeper ls) (codes "else" ∷ 
 
 -- a program that is no sequence begins with one line
 pub margin_step : (margin : Text) (m : Mon) → IsStep m → at_margin margin (lines m) ≡ margin ++ going_on margin (lines m)
-margin_step margin (Ret es) h = refl
 margin_step margin (Bind m ys n) h = absurd h
-margin_step margin (Guard e) h = refl
-margin_step margin (If e m n) h = refl
-margin_step margin (Write place e) h = refl
-margin_step margin (Loop starts guard test m) h = refl
-margin_step margin (Call f es) h = refl
-margin_step margin (Pick k) h = refl
+margin_step _ _ _ = refl
 
 -- one without programs inside is one line
 pub plain_lines : (margin : Text) (m : Mon) → IsPlain m → going_on margin (lines m) ≡ first_line (lines m) ++ codes "\n"
-plain_lines margin (Ret es) h = refl
 plain_lines margin (Bind m ys n) h = absurd h
-plain_lines margin (Guard e) h = refl
 plain_lines margin (If e m n) h = absurd h
-plain_lines margin (Write place e) h = refl
 plain_lines margin (Loop starts guard test m) h = absurd h
-plain_lines margin (Call f es) h = refl
-plain_lines margin (Pick k) h = refl
+plain_lines _ _ _ = refl
 
 pub function_lines : (ls : List Text) → lines_text (deeper ls) ≡ at_margin (codes "  ") ls
 function_lines ls = margin_none (deeper ls) ∙ margin_deeper [] ls

@@ -7,7 +7,7 @@ use Rattle.c_lang.specs.Typed.{TypedUnit}
 use Rattle.ac_base.specs.Count.{Rose}
 use Rattle.ac_base.specs.Shelf.{AreWhole, IsLonger}
 use Rattle.ac_base.specs.Sink.{grown}
-use Rattle.command_line.specs.Words.{Form, Command, Write, Check, Run, Prove, Sample, Trial, command_of, target_of, first_unknown}
+use Rattle.command_line.specs.Words.{Form, Command, Write, Check, Run, Trial, command_of, target_of, first_unknown}
 use Rattle.text_answers.specs.TextAnswer.{IsTextOf, IsTextAnswer}
 use Rattle.text_answers.proofs.OneAnswer.{one_answer}
 use Rattle.certificate_text.specs.CertificateText.{Certificate}
@@ -28,24 +28,20 @@ module _ (contents : Name → Option (List ℕ)) (before after : Name → ℕ) w
   -- no answer to words is that the sink failed, or that memory was short
 
   never_write_fault : (asked : Option Command) (lines : List ℕ) → IsAnswerTo contents before after asked WriteFault lines → ⊥
-  never_write_fault None lines h = h
   never_write_fault (Some (Write form file options)) lines h = h.answer.answer.answer.answer
   never_write_fault (Some (Check file cert target)) lines h = h.answer.answer.answer.answer.answer.verdict
   never_write_fault (Some (Run file cert memory target)) lines h = h.answer.answer.answer.answer.answer.answer
-  never_write_fault (Some (Prove file cert triples target)) lines h = h
-  never_write_fault (Some (Sample n)) lines h = h
   never_write_fault (Some (Trial n target)) lines (inl h) = h.1.answer.answer.answer
   never_write_fault (Some (Trial n target)) lines (inr h) = absurd cc
+  never_write_fault _ _ h = h
 
   never_memory : (asked : Option Command) (lines : List ℕ) → IsAnswerTo contents before after asked Memory lines → ⊥
-  never_memory None lines h = h
   never_memory (Some (Write form file options)) lines h = h.answer.answer.answer.answer
   never_memory (Some (Check file cert target)) lines h = h.answer.answer.answer.answer.answer.verdict
   never_memory (Some (Run file cert memory target)) lines h = h.answer.answer.answer.answer.answer.answer
-  never_memory (Some (Prove file cert triples target)) lines h = h
-  never_memory (Some (Sample n)) lines h = h
   never_memory (Some (Trial n target)) lines (inl h) = h.1.answer.answer.answer
   never_memory (Some (Trial n target)) lines (inr h) = absurd cc
+  never_memory _ _ h = h
 
   -- a file that holds a text, and didn't fail, is answered by what is answered to this text
   module _ (file : File) (text : List ℕ) (holds : Holds contents file text) (sound : Rose (before file.name) (after file.name) → ⊥) where
@@ -85,13 +81,7 @@ module _ (form : Form) (options : List Name) (unit : TypedUnit) (named : first_u
   is_written Done lines h = refl
   is_written Words lines h = absurd (some_none (first_unknown (is_function unit) options) h.name h.unknown named)
   is_written Limit lines h = absurd (not_long (has_long_function (generated unit h.levels)) h.long (short h.levels h.default))
-  is_written No lines h = absurd h
-  is_written Source lines h = absurd h
-  is_written Text lines h = absurd h
-  is_written ReadFault lines h = absurd h
-  is_written WriteFault lines h = absurd h
-  is_written Memory lines h = absurd h
-  is_written NotYet lines h = absurd h
+  is_written _ _ h = absurd h
 
 module _ (words : List Name) (contents : Name → Option (List ℕ)) (before after : Name → ℕ) (taken taken' : Option (List ℕ)) (sink_before sink_after : ℕ) where
   -- an answer whose lines were all taken

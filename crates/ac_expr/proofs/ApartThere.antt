@@ -216,10 +216,6 @@ path_and_below (IntoField k path) v n h = path_and_below path v n h
 path_and_below (IntoElement e path) v n h = (omega arith, path_and_below path v n (omega arith))
 
 all_smaller : (e : Exp) → AllBelow (size e) (children e)
-all_smaller (Var x) = tt
-all_smaller (WordLit w) = tt
-all_smaller (NumberLit n) = tt
-all_smaller (TruthLit b) = tt
 all_smaller (WordUnary op a) = (omega arith, tt)
 all_smaller (Cast op width a) = (omega arith, tt)
 all_smaller (ToNat a) = (omega arith, tt)
@@ -248,6 +244,7 @@ all_smaller (Read t p path) = (omega arith, path_below path (size (Read t p path
 all_smaller (Global x path) = path_below path (size (Global x path)) (omega arith)
 all_smaller (Sel e path) = (omega arith, path_below path (size (Sel e path)) (omega arith))
 all_smaller (Upd e path v) = (omega arith, path_and_below path v (size (Upd e path v)) (omega arith))
+all_smaller _ = tt
 
 pub child_smaller : (e x : Exp) → IsAmong x (children e) → size x < size e
 child_smaller e x h = by (children e) (all_smaller e) h
@@ -294,10 +291,6 @@ module _ (g : Scope) (fs : List Fact) (a b : Exp) (no_shorter : IsStep g fs a b 
   pub by_child : (gs : List Fact) (x y : Exp) → head b ≡ head a → OneOfThem g (child_facts fs a) (children a) (children b) ↔ OneStepApart g gs x y →
       OneStepApart g gs x y ↔ OneStepApart g fs a b
   by_child gs x y e h = (λ k. is_apart g fs a b (inr (inr (e, h.1 k))), λ k. h.0 (within k).1)
-
-pub if_there : (e c a b : Exp) → head e ≡ head (If c a b) → ((d x y : Exp) → e ≡ If d x y → ⊥) → ⊥
-if_there (If d x y) c a b h k = k d x y refl
-if_there e c a b h k = cc
 
 -- an expression and itself
 

@@ -6,14 +6,14 @@ use Rattle.std.proofs.lemmas.Bool.Decides.{Decides-eqb, Decides-ltb}
 use Rattle.c_values.specs.Types.{address_width}
 use Rattle.c_values.specs.Word.{Word, IsWord, unsigned, signed, word, word_op, word_shift, word_unary, word_test}
 use Rattle.c_values.specs.Number.{number_op, is_between}
-use Rattle.c_values.specs.Value.{Value, Bits, Number, Truth, Parts, word_in, number_in, same_value}
-use Rattle.c_values.specs.Layout.{Layout, Shape, Incomplete, Scalar as WordShape, Record, Row, space, size, size_of, shape_of, is_object}
+use Rattle.c_values.specs.Value.{Value, Bits, Number, Truth, word_in, number_in, same_value}
+use Rattle.c_values.specs.Layout.{Layout, Shape, Record, Row, space, size, size_of, shape_of, is_object}
 use Rattle.c_values.specs.Path.{Spot, Field, Index, member_spot, step_spot, IsBits}
 use Rattle.c_values.proofs.Options.{some_is}
 use Rattle.c_memory.specs.Memory.{address_at}
 use Rattle.c_memory.specs.CodePlace.{place_from}
 use Rattle.c_memory.specs.Tags.{is_pointer_ok}
-use Rattle.expression_lang.specs.Expression.{Exp, Var, WordLit, NumberLit, TruthLit, WordBinary, WordShift, WordUnary, WordCompare, Cast, ToNat, ToInt, ToWord, Arith, Negate, Lt, Le, Between, Eq, And, Or, Imp, Not, If, Padd, At, Load, Read, Tagged, PtrOk, Global, Sel, Upd, Path, Here, IntoField, IntoElement}
+use Rattle.expression_lang.specs.Expression.{Exp, WordLit, NumberLit, TruthLit, WordBinary, WordShift, WordUnary, WordCompare, Cast, ToNat, ToInt, ToWord, Arith, Negate, Lt, Le, Between, Eq, And, Or, Imp, Not, If, Padd, At, Load, Read, PtrOk, Sel, Path, Here, IntoField, IntoElement}
 use Rattle.expression_lang.specs.Evaluation.{cast_op, if_truth}
 use Rattle.expression_lang.specs.Form.{has, path_has}
 use Rattle.expression_lang.specs.Sort.{Scope, Sort, Of, PartsSort, WordSort, NumberSort, TruthSort, sort_of, shape_along, shape_in, is_width, is_unary, word_width, word_sort, is_word_of, is_number, is_truth, are_same, number_sort, truth_sort, where_holds, of_word, of_shape, cast_fits}
@@ -71,27 +71,21 @@ module _ (g : Scope) where
     where
       by : (v : Value) → computed l e ≡ Some v → IsBits n v → (w : Word) × (computed l e ≡ Some (Bits w)) × IsWord n w
       by (Bits w) k b = (w, k, b)
-      by (Number z) k b = absurd b
-      by (Truth t) k b = absurd b
-      by (Parts vs) k b = absurd b
+      by _ _ b = absurd b
 
   as_number : (e : Exp) → Computes e (Of NumberSort) → (n : ℤ) × (computed l e ≡ Some (Number n))
   as_number e h = by h.value h.is h.sort
     where
       by : (v : Value) → computed l e ≡ Some v → IsOfSort NumberSort v → (n : ℤ) × (computed l e ≡ Some (Number n))
       by (Number z) k b = (z, k)
-      by (Bits w) k b = absurd b
-      by (Truth t) k b = absurd b
-      by (Parts vs) k b = absurd b
+      by _ _ b = absurd b
 
   as_truth : (e : Exp) → Computes e (Of TruthSort) → (b : Bool) × (computed l e ≡ Some (Truth b))
   as_truth e h = by h.value h.is h.sort
     where
       by : (v : Value) → computed l e ≡ Some v → IsOfSort TruthSort v → (t : Bool) × (computed l e ≡ Some (Truth t))
       by (Truth t) k b = (t, k)
-      by (Bits w) k b = absurd b
-      by (Number z) k b = absurd b
-      by (Parts vs) k b = absurd b
+      by _ _ b = absurd b
 
   word_is : (e : Exp) (n : ℕ) (o : Sort) (w : Word) → word_sort n ≡ Some o → computed l e ≡ Some (Bits w) → IsWord n w → Computes e o
   word_is e n o w q h k = subst (λ p. Computes e p) (some_is q) (record { value = Bits w; is = h; sort = k })
@@ -317,13 +311,10 @@ module _ (g : Scope) where
         truth_is (PtrOk t p) o (is_pointer_ok l t x.0.bits) i.1
         (ap (λ u. of_one u (by_address l (object_ok l t))) x.1 ∙ address_some l (object_ok l t) x.0 x.2
         ∙ if_some (is_object l t) (Some (Truth (is_pointer_ok l t x.0.bits))) m.0)
-    complete (Var x) o q h = absurd (true≢false h)
     complete (Load t p path) o q h = opened (has (test l) p) (path_has (test l) path) h
     complete (Read t p path) o q h = opened (has (test l) p) (path_has (test l) path) h
-    complete (Tagged t p) o q h = absurd (true≢false h)
-    complete (Global x path) o q h = absurd (true≢false h)
     complete (Sel e path) o q h = opened (has (test l) e) (path_has (test l) path) h
-    complete (Upd e path v) o q h = absurd (true≢false h)
+    complete _ _ _ h = absurd (true≢false h)
 
     along : (path : Path) (s q : Shape) → shape_along g path s ≡ Some q → path_has (test l) path ≡ false → (a : ℕ) → a < space l → Leads path s a
     along Here s q h k a lt = record { word = record { width = width; bits = a }; is = refl; sort = record { has_width = refl; fits = lt } }
@@ -339,9 +330,4 @@ module _ (g : Scope) where
           is = ap (λ u. at_index (number_of u) (λ z. at_place (place_from (space l) a (step_spot (Row s n) (Index z))) (λ r b. computed_at l path r b))) x.1 ∙ y.is;
           sort = y.sort;
         }
-    along (IntoField i path) Incomplete q h k a lt = absurd cc
-    along (IntoField i path) (WordShape t n) q h k a lt = absurd cc
-    along (IntoField i path) (Row r n) q h k a lt = absurd cc
-    along (IntoElement e path) Incomplete q h k a lt = absurd cc
-    along (IntoElement e path) (WordShape t n) q h k a lt = absurd cc
-    along (IntoElement e path) (Record x n align fs) q h k a lt = absurd cc
+    along _ _ q h k a lt = absurd cc

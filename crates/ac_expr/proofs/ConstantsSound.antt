@@ -7,7 +7,7 @@ use Rattle.std.proofs.lemmas.Nat.{pow_pos}
 use Rattle.c_values.specs.Types.{address_width}
 use Rattle.c_values.specs.Word.{Word, unsigned, signed, word, word_op, word_shift, word_unary, word_test}
 use Rattle.c_values.specs.Number.{number_op, is_between}
-use Rattle.c_values.specs.Value.{Value, Bits, Number, Truth, Parts, word_in, number_in, truth_in, same_value}
+use Rattle.c_values.specs.Value.{Value, Bits, Number, Truth, word_in, number_in, truth_in, same_value}
 use Rattle.c_values.specs.Layout.{Layout, Shape, space, size_of, shape_of, is_object}
 use Rattle.c_values.specs.Path.{Step, Field, Index, Spot, step_spot, spot, further, and_then_spot}
 use Rattle.c_values.proofs.Options.{some_is}
@@ -35,8 +35,7 @@ pub two_inv : (o p : Option Value) (f : Value → Value → Option Value) (v : V
     (a : Value) × (b : Value) × (o ≡ Some a) × (p ≡ Some b) × (f a b ≡ Some v)
 two_inv (Some a) (Some b) f v h = (a, b, refl, refl, h)
 two_inv None None f v h = absurd cc
-two_inv None (Some b) f v h = absurd cc
-two_inv (Some a) None f v h = absurd cc
+two_inv _ _ f v h = absurd cc
 
 pub if_inv : {A : Type 0} (b : Bool) (o : Option A) (v : A) → cond b o None ≡ Some v → (b ≡ true) × (o ≡ Some v)
 if_inv true o v h = (refl, h)
@@ -44,21 +43,15 @@ if_inv false o v h = absurd cc
 
 word_inv : (f : Word → Option Value) (a v : Value) → by_word f a ≡ Some v → (w : Word) × (a ≡ Bits w) × (f w ≡ Some v)
 word_inv f (Bits w) v h = (w, refl, h)
-word_inv f (Number n) v h = absurd cc
-word_inv f (Truth b) v h = absurd cc
-word_inv f (Parts vs) v h = absurd cc
+word_inv f _ v h = absurd cc
 
 number_inv : (f : ℤ → Option Value) (a v : Value) → by_number f a ≡ Some v → (n : ℤ) × (a ≡ Number n) × (f n ≡ Some v)
 number_inv f (Number n) v h = (n, refl, h)
-number_inv f (Bits w) v h = absurd cc
-number_inv f (Truth b) v h = absurd cc
-number_inv f (Parts vs) v h = absurd cc
+number_inv f _ v h = absurd cc
 
 truth_inv : (f : Bool → Option Value) (a v : Value) → by_truth f a ≡ Some v → (b : Bool) × (a ≡ Truth b) × (f b ≡ Some v)
 truth_inv f (Truth b) v h = (b, refl, h)
-truth_inv f (Bits w) v h = absurd cc
-truth_inv f (Number n) v h = absurd cc
-truth_inv f (Parts vs) v h = absurd cc
+truth_inv f _ v h = absurd cc
 
 address_inv : (l : Layout) (f : ℕ → Option Value) (a v : Value) → by_address l f a ≡ Some v →
     (w : Word) × (a ≡ Bits w) × (w.bits < space l) × (f w.bits ≡ Some v)
@@ -68,47 +61,27 @@ address_inv l f (Bits w) v h = by ((w.width == address_width l.target) && nat_lt
         (u : Word) × (Bits w ≡ Bits u) × (u.bits < space l) × (f u.bits ≡ Some v)
     by true e k = (w, refl, ltb-true w.bits (space l) (and_parts (w.width == address_width l.target) (nat_lt w.bits (space l)) e).1, k)
     by false e k = absurd cc
-address_inv l f (Number n) v h = absurd cc
-address_inv l f (Truth b) v h = absurd cc
-address_inv l f (Parts vs) v h = absurd cc
+address_inv l f _ v h = absurd cc
 
 index_inv : (o : Option Value) (f : ℤ → Option Value) (v : Value) → at_index (number_of o) f ≡ Some v →
     (n : ℤ) × (o ≡ Some (Number n)) × (f n ≡ Some v)
 index_inv (Some (Number n)) f v h = (n, refl, h)
-index_inv (Some (Bits w)) f v h = absurd cc
-index_inv (Some (Truth b)) f v h = absurd cc
-index_inv (Some (Parts vs)) f v h = absurd cc
-index_inv None f v h = absurd cc
+index_inv _ f v h = absurd cc
 
 words_inv : (f : Word → Word → Option Value) (a b v : Value) → by_words f a b ≡ Some v →
     (x : Word) × (y : Word) × (a ≡ Bits x) × (b ≡ Bits y) × (f x y ≡ Some v)
 words_inv f (Bits x) (Bits y) v h = (x, y, refl, refl, (if_inv (x.width == y.width) (f x y) v h).1)
-words_inv f (Bits x) (Number n) v h = absurd cc
-words_inv f (Bits x) (Truth t) v h = absurd cc
-words_inv f (Bits x) (Parts vs) v h = absurd cc
-words_inv f (Number n) b v h = absurd cc
-words_inv f (Truth t) b v h = absurd cc
-words_inv f (Parts vs) b v h = absurd cc
+words_inv f _ _ v h = absurd cc
 
 numbers_inv : (f : ℤ → ℤ → Option Value) (a b v : Value) → by_numbers f a b ≡ Some v →
     (m : ℤ) × (n : ℤ) × (a ≡ Number m) × (b ≡ Number n) × (f m n ≡ Some v)
 numbers_inv f (Number m) (Number n) v h = (m, n, refl, refl, h)
-numbers_inv f (Number m) (Bits w) v h = absurd cc
-numbers_inv f (Number m) (Truth t) v h = absurd cc
-numbers_inv f (Number m) (Parts vs) v h = absurd cc
-numbers_inv f (Bits w) b v h = absurd cc
-numbers_inv f (Truth t) b v h = absurd cc
-numbers_inv f (Parts vs) b v h = absurd cc
+numbers_inv f _ _ v h = absurd cc
 
 truths_inv : (f : Bool → Bool → Bool) (a b v : Value) → by_truths f a b ≡ Some v →
     (x : Bool) × (y : Bool) × (a ≡ Truth x) × (b ≡ Truth y) × (Truth (f x y) ≡ v)
 truths_inv f (Truth x) (Truth y) v h = (x, y, refl, refl, some_is h)
-truths_inv f (Truth x) (Bits w) v h = absurd cc
-truths_inv f (Truth x) (Number n) v h = absurd cc
-truths_inv f (Truth x) (Parts vs) v h = absurd cc
-truths_inv f (Bits w) b v h = absurd cc
-truths_inv f (Number n) b v h = absurd cc
-truths_inv f (Parts vs) b v h = absurd cc
+truths_inv f _ _ v h = absurd cc
 
 pub narrow_inv : (n : ℤ) (v : Value) → narrow n ≡ Some v → (Number n ≡ v) × (is_wide v ≡ false)
 narrow_inv n v h = at (nat_le (2 ^ 128) (unsigned_abs n)) refl h

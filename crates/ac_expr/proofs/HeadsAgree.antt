@@ -176,42 +176,12 @@ module _ (l : Layout) (env env' : Env) (s s' : State) where
   head_looks (Var x) h = h
   head_looks (Load t p path) h = h
   head_looks (Read t p path) h = h
-  head_looks (WordLit w) h = tt
-  head_looks (NumberLit n) h = tt
-  head_looks (TruthLit b) h = tt
-  head_looks (WordBinary op a b) h = tt
-  head_looks (WordShift op a n) h = tt
-  head_looks (WordUnary op a) h = tt
-  head_looks (WordCompare op a b) h = tt
-  head_looks (Cast op width a) h = tt
-  head_looks (ToNat a) h = tt
-  head_looks (ToInt a) h = tt
-  head_looks (ToWord width a) h = tt
-  head_looks (Arith op a b) h = tt
-  head_looks (Negate a) h = tt
-  head_looks (Lt a b) h = tt
-  head_looks (Le a b) h = tt
   head_looks (Between low a high) h = tt
-  head_looks (Eq a b) h = tt
-  head_looks (And a b) h = tt
-  head_looks (Or a b) h = tt
-  head_looks (Imp a b) h = tt
-  head_looks (Not a) h = tt
-  head_looks (If c a b) h = tt
-  head_looks (Padd t p n) h = tt
-  head_looks (At t p path) h = tt
-  head_looks (Tagged t p) h = tt
-  head_looks (PtrOk t p) h = tt
-  head_looks (Global x path) h = tt
-  head_looks (Sel e path) h = tt
-  head_looks (Upd e path v) h = tt
+  head_looks _ _ = tt
 
   module _ (tags : heap_tags s'.heap ≡ heap_tags s.heap) (globals : s'.globals ≡ s.globals) where
     filled_same : (e : Exp) (es es' : List Exp) → LooksAlike e → SameValues es es' → SameValue (filled e es) (filled e es')
     filled_same (Var x) es es' n h = n
-    filled_same (WordLit w) es es' n h = refl
-    filled_same (NumberLit k) es es' n h = refl
-    filled_same (TruthLit b) es es' n h = refl
     filled_same (WordBinary op _ _) es es' n h = ap₂ (λ a b. Bits (word_op op (word_in a) (word_in b))) (first_same es es' h) (first_same (others es) (others es') (others_same es es' h))
     filled_same (WordShift op _ _) es es' n h = ap₂ (λ a b. Bits (word_shift op (word_in a) (number_in b))) (first_same es es' h) (first_same (others es) (others es') (others_same es es' h))
     filled_same (WordUnary op _) es es' n h = ap (λ a. Bits (word_unary op (word_in a))) (first_same es es' h)
@@ -256,6 +226,7 @@ module _ (l : Layout) (env env' : Env) (s s' : State) where
       where
         pair : {a b : List Step} {c d : Value} → a ≡ b → c ≡ d → ◌≡◌ {A = List Step × Value} (a, c) (b, d)
         pair e f = ap₂ (λ x y. (x, y)) e f
+    filled_same _ _ _ _ _ = refl
 
     -- two expressions with one head, whose children have the same values
     pub heads_agree : (a b : Exp) → head b ≡ head a → LooksAlike a → SameValues (children a) (children b) → SameValue a b

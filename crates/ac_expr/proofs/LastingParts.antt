@@ -7,9 +7,8 @@ use Rattle.ac_expr.specs.Guarded.{GuardHas, Kept, SomeGuard}
 
 pub both_ways : (a b : Bool) → (b && a) ≡ (a && b)
 both_ways true true = refl
-both_ways true false = refl
 both_ways false true = refl
-both_ways false false = refl
+both_ways _ _ = refl
 
 pub through_none : (n : ℕ) (ps : List Part) (e : Exp) → ps ≡ [] → lasts_passed n ps e ≡ true
 through_none n ps e h = subst (λ qs. lasts_passed n qs e ≡ true) (sym h) (none n)

@@ -2,9 +2,9 @@
 use Rattle.std.proofs.Common.{◌≡◌, ℕ, Bool, true, false, not, cond, ◌&&◌, List, [], ◌∷◌, ◌++◌, Option, Some, None, refl}
 use Rattle.std.proofs.lemmas.Bool.{and_parts}
 use Rattle.c_values.specs.Types.{CType, address_width}
-use Rattle.c_values.specs.Layout.{Shape, Incomplete, Scalar as WordShape, Record, Row, shape_of, is_object}
+use Rattle.c_values.specs.Layout.{Shape, Record, Row, shape_of, is_object}
 use Rattle.c_values.specs.Path.{Spot, member_spot}
-use Rattle.expression_lang.specs.Expression.{Exp, Var, WordLit, NumberLit, TruthLit, WordBinary, WordShift, WordUnary, WordCompare, Cast, ToNat, ToInt, ToWord, Arith, Negate, Lt, Le, Between, Eq, And, Or, Imp, Not, If, Padd, At, Load, Read, Tagged, PtrOk, Global, Sel, Upd, Path, Here, IntoField, IntoElement}
+use Rattle.expression_lang.specs.Expression.{Exp, WordBinary, WordShift, WordUnary, WordCompare, Cast, ToNat, ToInt, ToWord, Arith, Negate, Lt, Le, Between, Eq, And, Or, Imp, Not, If, Padd, At, Load, Read, Tagged, PtrOk, Global, Sel, Upd, Path, Here, IntoField, IntoElement}
 use Rattle.expression_lang.specs.Sort.{Sort, Of, WordSort, Scope, sort_of, shape_along, shape_in, sort_at, is_width, word_width, word_sort, is_word_of, is_number, is_truth, is_unary, is_one_step, cast_fits, number_sort, truth_sort, where_holds, of_words, of_word, are_same, of_shape, parts_shape}
 use Rattle.expression_lang.proofs.Inversion.{where_inv, words_inv, word_inv, width_inv, number_inv, truth_inv, word_of_inv, same_inv, shape_inv, type_inv, parts_inv}
 use Rattle.ac_expr.specs.Heads.{children, path_children}
@@ -72,22 +72,13 @@ module _ (g : Scope) where
   pub path_sorted : (path : Path) (s q : Shape) → shape_along g path s ≡ Some q → AreSorted g (path_children path)
   path_sorted Here s q h = tt
   path_sorted (IntoField k path) (Record x n align fs) q h = by_member (λ r. shape_along g path r) path (member_spot fs k) q h (λ r i. path_sorted path r q i)
-  path_sorted (IntoField k path) Incomplete q h = absurd cc
-  path_sorted (IntoField k path) (WordShape t n) q h = absurd cc
-  path_sorted (IntoField k path) (Row r n) q h = absurd cc
   path_sorted (IntoElement e path) (Row r n) q h = by_element e path (shape_along g path r) (is_number (sort_of g e)) q refl h (λ i. path_sorted path r q i)
-  path_sorted (IntoElement e path) Incomplete q h = absurd cc
-  path_sorted (IntoElement e path) (WordShape t n) q h = absurd cc
-  path_sorted (IntoElement e path) (Record x n align fs) q h = absurd cc
+  path_sorted _ _ q h = absurd cc
 
   at_end : (path : Path) (s : Shape) (f : Shape → Option Sort) (o : Sort) → of_shape (shape_along g path s) f ≡ Some o → AreSorted g (path_children path)
   at_end path s f o h = let i = shape_inv (shape_along g path s) f o h in path_sorted path s i.0 i.1
 
   pub children_sorted : (e : Exp) → IsSorted g e → AreSorted g (children e)
-  children_sorted (Var x) h = tt
-  children_sorted (WordLit w) h = tt
-  children_sorted (NumberLit n) h = tt
-  children_sorted (TruthLit b) h = tt
   children_sorted (WordBinary op a b) h = two_words a b word_sort h.0 h.1
   children_sorted (WordShift op a n) h =
       let i = where_inv (is_number (sort_of g n)) (of_word (word_width (sort_of g a)) word_sort) h.0 h.1 in
@@ -147,3 +138,4 @@ module _ (g : Scope) where
       let w = where_inv (are_same (sort_at m.0) (sort_of g v)) (sort_of g e) h.0 m.2 in
       let r = same_inv (sort_at m.0) (sort_of g v) w.0 in
       ((_, k.1), all_sorted_before g (path_children path) (v ∷ []) (path_sorted path j.0 m.0 m.1) ((r.0, r.2), tt))
+  children_sorted _ _ = tt

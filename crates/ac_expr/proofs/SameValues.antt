@@ -13,7 +13,7 @@ use Rattle.c_values.specs.Layout.{Layout, size_of, shape_of}
 use Rattle.c_values.specs.Path.{Field, Index, spot, sel, upd}
 use Rattle.c_memory.specs.Tags.{is_pointer_ok, is_covered}
 use Rattle.c_memory.specs.Heap.{read_heap, heap_tags}
-use Rattle.expression_lang.specs.Expression.{Exp, Var, WordLit, NumberLit, TruthLit, WordBinary, WordShift, WordUnary, WordCompare, Cast, ToNat, ToInt, ToWord, Arith, Negate, Lt, Le, Between, Eq, And, Or, Imp, Not, If, Padd, At, Load, Read, Tagged, PtrOk, Global, Sel, Upd, Path, Here, IntoField, IntoElement}
+use Rattle.expression_lang.specs.Expression.{Exp, Var, WordBinary, WordShift, WordUnary, WordCompare, Cast, ToNat, ToInt, ToWord, Arith, Negate, Lt, Le, Between, Eq, And, Or, Imp, Not, If, Padd, At, Load, Read, Tagged, PtrOk, Global, Sel, Upd, Path, Here, IntoField, IntoElement}
 use Rattle.expression_lang.specs.Evaluation.{Env, State, value, steps, cast_op, moved, moved_to, if_truth}
 use Rattle.expression_lang.specs.Form.{has, path_has}
 use Rattle.expression_lang.specs.Mentions.{is_name, is_reading, names, reads}
@@ -40,9 +40,6 @@ module _ (l : Layout) (test : Exp → Bool) (env env' : Env) (s s' : State) (h :
   mutual
     pub value_same : (e : Exp) → has test e ≡ false → value l env s e ≡ value l env' s' e
     value_same (Var y) n = h.name y n
-    value_same (WordLit w) n = refl
-    value_same (NumberLit k) n = refl
-    value_same (TruthLit b) n = refl
     value_same (WordBinary op a b) n =
         let p = two_free (test (WordBinary op a b)) (has test a) (has test b) n in
         ap₂ (λ u v. Bits (word_op op (word_in u) (word_in v))) (value_same a p.0) (value_same b p.1)
@@ -115,6 +112,7 @@ module _ (l : Layout) (test : Exp → Bool) (env env' : Env) (s s' : State) (h :
         let p = two_free (test (Upd a path b)) (has test a) (path_has test path) r.0 in
         ap (λ u. upd u (steps l env s path) (value l env s b)) (value_same a p.0)
         ∙ ap₂ (λ ps v. upd (value l env' s' a) ps v) (steps_same path p.1) (value_same b r.1)
+    value_same _ _ = refl
 
     pub steps_same : (path : Path) → path_has test path ≡ false → steps l env s path ≡ steps l env' s' path
     steps_same Here n = refl

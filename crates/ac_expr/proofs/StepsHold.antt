@@ -29,21 +29,15 @@ use Rattle.ac_expr.proofs.SameValues.{value_same}
 
 truth_is : (v : Value) → IsOfSort TruthSort v → Truth (truth_in v) ≡ v
 truth_is (Truth b) h = refl
-truth_is (Bits w) h = absurd h
-truth_is (Number n) h = absurd h
-truth_is (Parts vs) h = absurd h
+truth_is _ h = absurd h
 
 number_is : (v : Value) → IsOfSort NumberSort v → Number (number_in v) ≡ v
 number_is (Number n) h = refl
-number_is (Bits w) h = absurd h
-number_is (Truth b) h = absurd h
-number_is (Parts vs) h = absurd h
+number_is _ h = absurd h
 
 word_is : (n : ℕ) (v : Value) → IsOfSort (WordSort n) v → (Bits (word_in v) ≡ v) × IsWord n (word_in v)
 word_is n (Bits w) h = (refl, h)
-word_is n (Number z) h = absurd h
-word_is n (Truth b) h = absurd h
-word_is n (Parts vs) h = absurd h
+word_is _ _ h = absurd h
 
 mutual
   same_itself : (v : Value) → same_value v v ≡ true

@@ -11,7 +11,7 @@ use Rattle.c_values.specs.Path.{Field, Index, spot, sel, upd}
 use Rattle.c_values.proofs.Laid.{name_is}
 use Rattle.c_memory.specs.Tags.{is_pointer_ok}
 use Rattle.c_memory.specs.Heap.{read_heap, is_tagged}
-use Rattle.expression_lang.specs.Expression.{Exp, Var, WordLit, NumberLit, TruthLit, WordBinary, WordShift, WordUnary, WordCompare, Cast, ToNat, ToInt, ToWord, Arith, Negate, Lt, Le, Between, Eq, And, Or, Imp, Not, If, Padd, At, Load, Read, Tagged, PtrOk, Global, Sel, Upd, Path, Here, IntoField, IntoElement}
+use Rattle.expression_lang.specs.Expression.{Exp, Var, WordBinary, WordShift, WordUnary, WordCompare, Cast, ToNat, ToInt, ToWord, Arith, Negate, Lt, Le, Between, Eq, And, Or, Imp, Not, If, Padd, At, Load, Read, Tagged, PtrOk, Global, Sel, Upd, Path, Here, IntoField, IntoElement}
 use Rattle.expression_lang.specs.Evaluation.{Env, State, value, steps, cast_op, moved, moved_to, if_truth}
 use Rattle.expression_lang.specs.Form.{path_has}
 use Rattle.expression_lang.specs.Mentions.{is_name, names}
@@ -44,9 +44,6 @@ module _ (l : Layout) (x : Name) (e : Exp) (env env' : Env) (s : State) (others 
   mutual
     pub value_put : (a : Exp) → Held (names x a) → value l env s (substituted x e a) ≡ value l env' s a
     value_put (Var y) h = name_put y (same_name x y) refl h
-    value_put (WordLit w) h = refl
-    value_put (NumberLit n) h = refl
-    value_put (TruthLit b) h = refl
     value_put (WordBinary op a b) h = two (λ u v. Bits (word_op op (word_in u) (word_in v))) a b h (value_put a) (value_put b)
     value_put (WordShift op a b) h = two (λ u v. Bits (word_shift op (word_in u) (number_in v))) a b h (value_put a) (value_put b)
     value_put (WordUnary op a) h = ap (λ u. Bits (word_unary op (word_in u))) (value_put a h)
@@ -81,6 +78,7 @@ module _ (l : Layout) (x : Name) (e : Exp) (env env' : Env) (s : State) (others 
         let p = held_left (names x a || in_path path) (names x v) h in
         ap₂ (λ u ps. upd u ps (value l env s (substituted x e v))) (value_put a (held_left (names x a) (in_path path) p)) (path_put path (held_right (names x a) (in_path path) p))
         ∙ ap (λ w. upd (value l env' s a) (steps l env' s path) w) (value_put v (held_right (names x a || in_path path) (names x v) h))
+    value_put _ _ = refl
 
     pub path_put : (path : Path) → Held (path_has (is_name x) path) → steps l env s (path_substituted x e path) ≡ steps l env' s path
     path_put Here h = refl

@@ -8,7 +8,7 @@ use Rattle.std.proofs.lemmas.Bool.{and_parts, and_from, leb-true}
 use Rattle.std.proofs.lemmas.List.{take_more, get_or-drop, length-drop, drop_more}
 use Rattle.std.proofs.lemmas.List.Folds.{list_all-append}
 use Rattle.ac_sx.specs.declared.sx.Sx as S
-use Rattle.ac_sx.specs.Tree.{Tree, Trees, no_trees, more, opening, closing, is_atom_byte}
+use Rattle.ac_sx.specs.Tree.{Tree, Trees, more, opening, closing, is_atom_byte}
 use Rattle.ac_sx.specs.CodeSx.{tree_of, trees_in, pushed}
 use Rattle.ac_sx.specs.CodeBuilder.{Building, flushed, acted, next_building, next_word, last_of, built_from}
 use Rattle.ac_sx.proofs.Listed.{trees_in-push}
@@ -74,9 +74,8 @@ word_ends b next word text at r lt is e there =
     )
 
 pub last_of-pushed : (us : Trees) (t : Tree) → last_of (pushed us t) ≡ Some t
-last_of-pushed no_trees t = refl
-last_of-pushed (more u no_trees) t = refl
 last_of-pushed (more u (more v vs)) t = last_of-pushed (more v vs) t
+last_of-pushed _ _ = refl
 
 -- the last tree that is taken out
 pub last_popped : (xs rest : List S.Sx) (o : Option S.Sx) (n m : ℕ) → xs ≡ rest ++ option_to_list o → n ≡ length xs → MatchOption o ((n ≡ 0) × (m ≡ 0)) (λ _. m + 1 ≡ n) → option_map tree_of o ≡ last_of (trees_in xs)

@@ -50,9 +50,8 @@ pub around_acted : (b : Building) (c : ℕ) → length (acted b c).around ≡ li
 around_acted b c = by (c == opening) (c == closing)
   where
     by : (s t : Bool) → length (if s then entered b else if t then left b else b).around ≡ (if s then suc (length b.around) else if t then length b.around - 1 else length b.around)
-    by true t = refl
     by false true = around_left b.parts b.around
-    by false false = refl
+    by _ _ = refl
 
 pub low_acted : (b : Building) (c : ℕ) → IsLow b → lists_behind c (length b.around) ≤ deepest → IsLow (acted b c)
 low_acted b c low within = by (c == opening) (c == closing) within

@@ -3,7 +3,7 @@ use Rattle.std.proofs.Common.{◌≡◌, ℕ, ◌+◌, ◌==◌, Bool, true, fal
 use Rattle.std.specs.Result.{IsErrAnd}
 use Rattle.std.proofs.lemmas.List.{append-nil}
 use Rattle.ac_sx.specs.declared.recogniser.Place.{Place}
-use Rattle.ac_sx.specs.declared.recogniser.Place.TheVariants.{Begin, Opened, Word, Ended, Whole}
+use Rattle.ac_sx.specs.declared.recogniser.Place.TheVariants.{Begin, Word, Ended, Whole}
 use Rattle.ac_sx.specs.declared.recogniser.Reading.{Reading}
 use Rattle.ac_sx.specs.declared.fault.SxFault.{SxFault}
 use Rattle.ac_sx.specs.declared.fault.SxFault.TheVariants.{NotText, Deep}
@@ -60,11 +60,9 @@ line_ends place n = at_place place (n == 0)
     ends_at false = inl refl
 
     at_place : (p : Place) → Bool → (step_at p n line_end ≡ None) ⊎ (step_at p n line_end ≡ Some (reading Whole 0))
-    at_place Begin t = inl refl
-    at_place Opened t = inl refl
     at_place Word t = ends_at (n == 0)
     at_place Ended t = ends_at (n == 0)
-    at_place Whole t = inl refl
+    at_place _ _ = inl refl
 
 abbrev stepped : Option Reading → ℕ → Result (Unit {0}) SxFault
 stepped o at = elim o [ None ↦ Err (NotText at) | Some next ↦ if nat_lt deepest next.lists then Err (Deep at) else recognised_from next (at + 1) [] ]

@@ -31,8 +31,7 @@ none_ended c at b no_space no_closing =
   where
     off : (x y : Bool) (o : Option SxPart) → (if x && (y && false) then o else None) ≡ None
     off true true o = refl
-    off true false o = refl
-    off false y o = refl
+    off _ _ _ = refl
 
 deep_ended : (n : ℕ) (w : Bool) (s k at b : ℕ) → ended (cursor (suc (suc n)) w s k) at b ≡ None
 deep_ended n w s k at b =

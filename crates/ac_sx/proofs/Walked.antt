@@ -38,16 +38,12 @@ begun_word n b e =
 word_begins : (place : Place) (n b : ℕ) → CanBegin place → is_atom_byte b ≡ true → step (reading place n) b ≡ Some (reading Word n)
 word_begins Begin n b can e = begun_word n b e
 word_begins Opened n b can e = cond-false (b == closing) (closed n) (begun n b) (atom_byte_is b e).1 ∙ begun_word n b e
-word_begins Word n b can e = absurd can
-word_begins Ended n b can e = absurd can
-word_begins Whole n b can e = absurd can
+word_begins _ _ _ can _ = absurd can
 
 list_begins : (place : Place) (n : ℕ) → CanBegin place → step (reading place n) opening ≡ Some (reading Opened (n + 1))
 list_begins Begin n can = refl
 list_begins Opened n can = refl
-list_begins Word n can = absurd can
-list_begins Ended n can = absurd can
-list_begins Whole n can = absurd can
+list_begins _ _ can = absurd can
 
 closed_one : (n : ℕ) → closed (n + 1) ≡ Some (reading Ended n)
 closed_one n =

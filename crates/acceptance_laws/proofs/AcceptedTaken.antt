@@ -29,8 +29,7 @@ sorted_before_words : (u : SimplUnit) (s : Signature) (c : Steps) → OnWords u 
     is_on_words u s (before_words (record c { heap = o })) ≡ true
 sorted_before_words u s c h true (Some step) k = (and_parts _ _ k.0).0
 sorted_before_words u s c h false None k = h
-sorted_before_words u s c h true None k = absurd k
-sorted_before_words u s c h false (Some step) k = absurd k
+sorted_before_words _ _ _ _ _ _ k = absurd k
 
 module _ (u : SimplUnit) (f : SimplFn) (s : Signature) (c : Steps) (h : IsFunctionAccepted u f s c) where
   local_sorted : OnWords u (λ c. c.local.program) s c

@@ -8,7 +8,7 @@ use Rattle.c_values.proofs.Options.{some_is, none_is}
 use Rattle.expression_lang.specs.Sort.{Level, is_lifted, Scalar, Scope, is_truth, word_sort_of}
 use Rattle.expression_lang.specs.Signature.{Signature, signature}
 use Rattle.expression_lang.specs.Sorted.{program_sort, scalars_of, call_scalars}
-use Rattle.simpl_lang.specs.Command.{Simpl, Skip, Throw, Set, SetGlobal, Store, Pick, Seq, Cond, Guard, Catch, While, Call}
+use Rattle.simpl_lang.specs.Command.{Simpl, Seq, Cond, Guard, Catch, While, Call}
 use Rattle.simpl_lang.specs.Sorted.{are_conditions, fits_target, is_sorted}
 use Rattle.c_lang.specs.Typed.{TypedFn}
 use Rattle.generation.specs.Generate.{signature_of}
@@ -41,12 +41,6 @@ module _ (g : Scope) (sigs : List Signature) (levels : Name → Level)
   -- each call of a well-sorted command is of a function that is there
   pub calls_there : (a : Simpl) → is_sorted g sigs a ≡ true → CallsOnly (λ x. is_lifted (levels x)) a →
       calls_only (λ x. is_lifted_there (signature sigs x)) a ≡ true
-  calls_there Skip h k = refl
-  calls_there Throw h k = refl
-  calls_there (Set x e) h k = refl
-  calls_there (SetGlobal x path e) h k = refl
-  calls_there (Store t p path e) h k = refl
-  calls_there (Pick x) h k = refl
   calls_there (Seq a b) h k =
       let p = and_parts (is_sorted g sigs a) (is_sorted g sigs b) h in
       and_from _ _ (calls_there a p.0 k.0) (calls_there b p.1 k.1)
@@ -61,3 +55,4 @@ module _ (g : Scope) (sigs : List Signature) (levels : Name → Level)
   calls_there (While cs e a) h k =
       calls_there a (and_parts (are_conditions g cs && is_truth (program_sort g e)) (is_sorted g sigs a) h).1 k
   calls_there (Call x f es) h k = callee x f (scalars_of g es) (signature sigs f) refl h k
+  calls_there _ _ _ = refl

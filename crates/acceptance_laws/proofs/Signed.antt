@@ -5,7 +5,7 @@ use Rattle.std.proofs.lemmas.Bool.{false≢true, and_parts}
 use Rattle.c_values.specs.Name.{Name, same_name, are_distinct}
 use Rattle.c_values.specs.Layout.{Layout}
 use Rattle.c_values.proofs.Laid.{name_is}
-use Rattle.expression_lang.specs.Sort.{Level, is_lifted, Kind, WordKind, NatKind, IntKind, BoolKind, is_kind, are_kinds, sort_of_kind}
+use Rattle.expression_lang.specs.Sort.{Level, is_lifted, Kind, WordKind, is_kind, are_kinds, sort_of_kind}
 use Rattle.expression_lang.specs.Signature.{Binder, Signature, names_of, kinds_of, signature}
 use Rattle.simpl_lang.specs.Command.{SimplFn}
 use Rattle.simpl_lang.specs.Sorted.{IsWellFormed}
@@ -33,9 +33,7 @@ AreSigned (s ∷ ss) = IsSigned s × AreSigned ss
 
 word_there : (k : Kind) → is_kind (word_kind k) ≡ is_kind k
 word_there (WordKind n) = refl
-word_there (NatKind n) = refl
-word_there (IntKind n) = refl
-word_there BoolKind = refl
+word_there _ = refl
 
 pub words_there : (bs : List Binder) → are_kinds (kinds_of (in_words bs)) ≡ are_kinds (kinds_of bs)
 words_there [] = refl

@@ -67,8 +67,7 @@ module _ (u : SimplUnit) (s : Signature) (levels : Name → Level) (c : Steps) w
       Heaps.IsTakenWhere b u.layout levels c.local.program (before_words (record c { heap = o }))
   body_taken true (Some step) h k = record { tree = step.tree; takes = h.1; bytes = (k refl).0; calls = (k refl).1 }
   body_taken false None h k = refl
-  body_taken true None h k = absurd h
-  body_taken false (Some step) h k = absurd h
+  body_taken _ _ h _ = absurd h
 
 module _ (u : TypedUnit) (levels : Name → Level) where
   calls_where_lifted : (f : TypedFn) (c : Steps) →

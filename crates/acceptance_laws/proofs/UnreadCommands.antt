@@ -7,7 +7,7 @@ use Rattle.c_values.specs.Layout.{Layout}
 use Rattle.expression_lang.specs.Expression as E
 use Rattle.expression_lang.specs.Form.{has, is_read}
 use Rattle.expression_lang.specs.Sort.{Level}
-use Rattle.simpl_lang.specs.Command.{Condition, Simpl, Skip, Throw, Set, SetGlobal, Store, Pick, Seq, Cond, Guard, Catch, While, Call}
+use Rattle.simpl_lang.specs.Command.{Condition, Simpl, Skip, Throw, Set, Seq, Cond, Guard, Catch, While, Call}
 use Rattle.simpl_lang.specs.Exec.{result_local}
 use Rattle.monad_lang.specs.Form.{some_has}
 use Rattle.rule_local.specs.CommandForm.{conditions_have, command_has, is_bytes_command}
@@ -214,13 +214,7 @@ parts a b h =
     let p = or_parts (command_has is_read a) (command_has is_read b) h in (record { none = p.0 }, record { none = p.1 })
 
 pub eliminated_leaves : (a : Simpl) → Leaves a → Leaves (exceptions_eliminated a).right
-eliminated_leaves Skip h = h
 eliminated_leaves Throw h = record { none = refl }
-eliminated_leaves (Set x e) h = h
-eliminated_leaves (SetGlobal x path e) h = h
-eliminated_leaves (Store t p path e) h = h
-eliminated_leaves (Pick x) h = h
-eliminated_leaves (Call x f es) h = h
 eliminated_leaves (Seq a b) h =
     let p = parts a b h.none in sequence_leaves (quiet a) _ _ (eliminated_leaves a p.0) (eliminated_leaves b p.1)
 eliminated_leaves (Cond e a b) h =
@@ -237,6 +231,7 @@ eliminated_leaves (While cs e a) h =
     let p = or_parts (conditions_have is_read cs || has is_read e) (command_has is_read a) h.none in
     let q = or_parts (conditions_have is_read cs) (has is_read e) p.0 in
     repeated_leaves (quiet a) cs e _ (record { none = q.0 }) (record { none = q.1 }) (eliminated_leaves a (record { none = p.1 }))
+eliminated_leaves _ h = h
 
 pub generated_on_bytes : (l : Layout) (level : Level) (t : Option CType) (ss : C.Statements) →
     is_bytes_command (exceptions_eliminated (whole_body t (commands l level ss))).right ≡ true

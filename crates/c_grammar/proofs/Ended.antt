@@ -101,10 +101,7 @@ update_ends : (b : Bool) (r : ℕ) (op : BinaryOperator) → Ends None [] (choic
 update_ends b r op = maybe None [] (nat_le 12 r) (take (choice.expression b 0 ∷ choice.end (ends.Update op) ∷ [])) refl
 
 tail_end_ends : (b : Bool) (w : Wanted) (r : ℕ) (k : Kind) → Ends (ended_by (symbol.Tail b w r)) [] (choice.tail_end b w r k)
-tail_end_ends b (wanted.Level l) r k = refl
-tail_end_ends b wanted.Sized r k = refl
 tail_end_ends b wanted.Right r (punct sign.LeftParenthesis) = either (Some ends.Value) [] (r == 15) (take (symbol.Arguments b ∷ choice.end ends.Call ∷ choice.end ends.CallValue ∷ [])) Refuse refl tt
-tail_end_ends b wanted.Right r k = refl
 tail_end_ends b wanted.Place r (punct sign.LeftParenthesis) = maybe None [] (r == 15) (take (symbol.Arguments b ∷ choice.end ends.Call ∷ choice.end ends.Invoke ∷ [])) refl
 tail_end_ends b wanted.Place r (punct sign.PlusPlus) = maybe None [] (nat_le 13 r) (take _) refl
 tail_end_ends b wanted.Place r (punct sign.MinusMinus) = maybe None [] (nat_le 13 r) (take _) refl
@@ -120,6 +117,7 @@ tail_end_ends b wanted.Place r (punct sign.AmpersandEqual) = update_ends b r bin
 tail_end_ends b wanted.Place r (punct sign.CaretEqual) = update_ends b r binary.ExclusiveOr
 tail_end_ends b wanted.Place r (punct sign.BarEqual) = update_ends b r binary.Or
 tail_end_ends b wanted.Place r k = tt
+tail_end_ends _ _ _ _ = refl
 
 binary_ends : (b : Bool) (w : Wanted) (r : ℕ) (op : BinaryOperator) (k : Kind) → Ends (ended_by (symbol.Tail b w r)) [] (choice.binary_choice b w r op k)
 binary_ends b w r op k = either (ended_by (symbol.Tail b w r)) [] (nat_le (least w) (level op) && nat_le (level op) r) (take _) (choice.tail_end b w r k) refl (tail_end_ends b w r k)
@@ -283,8 +281,7 @@ for_step_ends y k = more_ends None None [] (choice.simple y k) (symbol.RightPare
 
 label_ends : (p : Production) (more : List Symbol) (k : Kind) → Ends (Some p) [] (choice.label more (Pass (p ∷ [])) k)
 label_ends p more (keyword word.Case) = refl
-label_ends p more (keyword word.Default) = refl
-label_ends p more k = refl
+label_ends _ _ _ = refl
 
 -- Externals.
 

@@ -60,9 +60,8 @@ keyword_sound ns next b q k a z None e = tag_sound ns next b q k a z
 
 pub name_sound : (ns next : List Name) (b : Bool) (q : Seen) (n : Name) (a z : ℕ) (y : Bool) → is_made ns n ≡ y → Sound ns next (symbol.Words b q) (named n a z) (choice.words b q y (name n))
 name_sound ns next b seen.Nothing n a z true e = λ s u ns2 next2 all. named_word_row b n a z e all
-name_sound ns next b (seen.Integer g i j) n a z true e = tt
-name_sound ns next b seen.Whole n a z true e = tt
 name_sound ns next b q n a z false e = pass_words_sound ns next b q (named n a z)
+name_sound _ _ _ _ _ _ _ _ _ = tt
 
 pub words_sound : (ns next : List Name) (b : Bool) (q : Seen) (k : Kind) (a z : ℕ) → Sound ns next (symbol.Words b q) (token k a z) (choice.words b q (is_type ns k) k)
 words_sound ns next b q (keyword k) a z = keyword_sound ns next b q k a z (add q k) refl

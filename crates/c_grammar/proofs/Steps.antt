@@ -308,7 +308,6 @@ only_if_takes false choice h = refl
 
 pub operand_takes : (b : Bool) (w : Wanted) (y : Bool) (k : Kind) → never_passes (operand b w y k) ≡ true
 operand_takes b w true (name n) = refl
-operand_takes b w false (name n) = refl
 operand_takes b w y (punct sign.Minus) = only_if_takes (nat_le (least w) 12) _ refl
 operand_takes b w y (punct sign.Plus) = only_if_takes (nat_le (least w) 12) _ refl
 operand_takes b w y (punct sign.Tilde) = only_if_takes (nat_le (least w) 12) _ refl
@@ -316,13 +315,12 @@ operand_takes b w y (punct sign.Exclamation) = only_if_takes (nat_le (least w) 1
 operand_takes b w y (punct sign.Star) = only_if_takes (nat_le (least w) 12) _ refl
 operand_takes b w y (punct sign.Ampersand) = only_if_takes (nat_le (least w) 12) _ refl
 operand_takes b w y (keyword word.Sizeof) = only_if_takes (nat_le (least w) 12) _ refl
-operand_takes b w y k = refl
+operand_takes _ _ _ _ = refl
 
 pub first_words_take : (b y : Bool) (k : Kind) → never_passes (words b seen.Nothing y k) ≡ true
 first_words_take b y (keyword word.Break) = refl
 first_words_take b true (name n) = refl
-first_words_take b false (name n) = refl
-first_words_take b y k = refl
+first_words_take _ _ _ = refl
 
 -- `(` and no type: an expression in parentheses
 pub opens_value : (ns next : List Name) (b : Bool) (w : Wanted) (K : List Symbol) (vs : List Value) (s : List Lexeme) → starts ns s ≡ false → go ns next (symbol.Open b w ∷ K) vs s ≡ go ns next (expression b 0 ∷ symbol.RightParenthesis ∷ end ends.Parenthesis ∷ symbol.Tail b w 14 ∷ K) vs s
@@ -343,9 +341,8 @@ opens_cast wanted.Sized h = refl
 opens_cast w h = h
 
 pub cast_rest : (b : Bool) (w : Wanted) → nat_le (least w) 11 ≡ true → open_rest b w ≡ expression b 11 ∷ end ends.Cast ∷ symbol.Tail b w 11 ∷ []
-cast_rest b (wanted.Level l) h = refl
 cast_rest b wanted.Sized h = false≢true h
-cast_rest b w h = refl
+cast_rest _ _ _ = refl
 
 -- Where a type begins, and where it ends.
 
@@ -382,18 +379,12 @@ type_starts (typed d f) = words_start d refl
 pub value_starts : {ns : List Name} {b : Bool} {l : ℕ} {e : Exp} {s t : List Lexeme} → SpellsExp ns b l e s t → starts ns s ≡ false
 value_starts (looser d) = value_starts d
 value_starts (variable h) = h
-value_starts number_constant = refl
-value_starts character_constant = refl
-value_starts (parenthesis d) = refl
 value_starts (index d f) = value_starts d
 value_starts (member d h) = value_starts d
 value_starts (pointer_member d h) = value_starts d
-value_starts (unary d) = refl
-value_starts (sizeof_value d) = refl
-value_starts (sizeof_type d) = refl
-value_starts (cast d f) = refl
 value_starts (binary d f) = value_starts d
 value_starts (conditional d f g) = value_starts d
+value_starts _ = refl
 
 abbrev pub is_brace : Kind → Bool
 is_brace (punct sign.LeftBrace) = true
@@ -419,9 +410,8 @@ ends_brace ns [] h = absurd cc
 ends_brace ns (x ∷ t) h = second (starts_type (is_type ns x.kind) x.kind) (is_brace x.kind) h
   where
     second : (c d : Bool) → (not c && not d) ≡ true → d ≡ false
-    second true d e = absurd cc
-    second false true e = absurd cc
     second false false e = refl
+    second _ _ e = absurd cc
 
 -- what may follow the stars behind a type
 abbrev pub ends_stars : List Lexeme → Bool
@@ -505,8 +495,7 @@ words_pass b q y (keyword word.Struct) h = absurd cc
 words_pass b q y (keyword word.Unsigned) h = absurd cc
 words_pass b q y (keyword word.Void) h = absurd cc
 words_pass b q true (name n) h = absurd cc
-words_pass b q false (name n) h = refl
-words_pass b q y k h = refl
+words_pass _ _ _ _ _ = refl
 
 pub both_true : (c d : Bool) → (not c && d) ≡ true → c ≡ false
 both_true true d h = absurd cc

@@ -10,8 +10,7 @@ use Rattle.c_lang.specs.Typed as C
 
 pub none_along : (path : C.Path) → shape_along None path ≡ None
 none_along C.Here = refl
-none_along (C.Member k path) = refl
-none_along (C.Element n e path) = refl
+none_along _ = refl
 
 pub nth_member : (fs : Fields) (k : ℕ) (s : Shape) → member_shape fs k ≡ Some s → (at : ℕ) × IsNth fs k at s
 nth_member no_fields k s e = absurd cc
@@ -20,5 +19,4 @@ nth_member (field at s' fs) (suc k) s e = let r = nth_member fs k s e in (r.0, n
 
 pub no_way : (path : C.Path) (u : CType) → leads_to (shape_along None path) u ≡ true → ⊥
 no_way C.Here u h = false≢true h
-no_way (C.Member k path) u h = false≢true h
-no_way (C.Element n e path) u h = false≢true h
+no_way _ _ h = false≢true h

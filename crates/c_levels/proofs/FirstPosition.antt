@@ -60,6 +60,5 @@ first_tells levels fs (y ∷ ys) e =
     by_cases : Tells (map (λ f. f.name) fs) (first_position fs (map (λ f. levels f.name) fs) ys) (first_on_bytes levels ys) → (q : Option ℕ) (b : Bool) → Tells (map (λ f. f.name) fs) q (cond b (Some y) None) →
         Tells (map (λ f. f.name) fs) (or_later q (first_position fs (map (λ f. levels f.name) fs) ys)) (cond b (Some y) (first_on_bytes levels ys))
     by_cases later (Some k) true h = h
-    by_cases later (Some k) false h = absurd h
-    by_cases later None true h = absurd h
     by_cases later None false h = later
+    by_cases _ _ _ h = absurd h

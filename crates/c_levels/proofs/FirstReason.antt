@@ -43,8 +43,7 @@ by_call_or_choice : (names : List Name) (r : R.the_data) (q : Option ℕ) (x : O
     IsReason names r (call_or_choice x)
 by_call_or_choice names r (Some n) (Some x) t f g = let h = f n refl in subst (λ s. IsReason names s (call_or_choice (Some x))) (sym h.1.0) (n, (h.1.1, t))
 by_call_or_choice names r None None t f g = subst (λ s. IsReason names s (call_or_choice None)) (sym (g refl)) tt
-by_call_or_choice names r (Some n) None t f g = absurd t
-by_call_or_choice names r None (Some x) t f g = absurd t
+by_call_or_choice _ _ _ _ t _ _ = absurd t
 
 pub otherwise : (u : P.Program F.TypedFn) (m : Modes) (k : ℕ) (x : F.TypedFn) (levels : Name → Level) (g : TypedFn) (q : Option ℕ) (r : R.the_data) → x ≡ get_or u.functions.items k x → casts (function_of x) ≡ false →
     q ≡ first_position (map function_of u.functions.items) (map level_of m.levels.items) (callees_in (function_of x).body) →

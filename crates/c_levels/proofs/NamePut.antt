@@ -1,5 +1,5 @@
 -- A set that has one name more.
-use Rattle.std.proofs.Common.{◌≡◌, Bool, true, false, cond, ◌||◌, List, refl, ap, ◌∙◌, String, string_bytes}
+use Rattle.std.proofs.Common.{◌≡◌, Bool, true, cond, ◌||◌, List, refl, ap, ◌∙◌, String, string_bytes}
 use Rattle.std.proofs.lemmas.Map.Text.{hash_set_updates_text}
 use Rattle.std.specs.HashSet as bag
 use Rattle.std.specs.HashSet.{HashSet, contains_text}
@@ -13,8 +13,7 @@ use Rattle.c_values.proofs.Names.{same_name_swapped}
 
 moved : (a r b : Bool) → (r || cond a true b) ≡ ((a || r) || b)
 moved true true b = refl
-moved true false b = refl
-moved false r b = refl
+moved _ _ _ = refl
 
 -- the first of those that are left is put into the set
 pub name_put : (q first : Name) (rest : List Name) (m n : HashSet (String Heap) (BuildHasherDefault FoldHasher)) (k : String Heap) → string_bytes k ≡ first →

@@ -36,10 +36,7 @@ module _ (g : W.Scope) where
 
   mutual
     calls_there : (r : W.Around) (s : C.Statement) → W.is_statement g r s ≡ true → list_all there (callees s) ≡ true
-    calls_there r C.Empty h = refl
     calls_there r (C.Block ss) h = calls_in_there r ss h
-    calls_there r (C.Declare x t) h = refl
-    calls_there r (C.Assign target e) h = refl
     calls_there r (C.Call n f es use') h = ap (λ b. b && true) (called g f (C.typed_fn g.functions f) es use' refl h)
     calls_there r (C.If e a b) h =
         let p = and_parts (W.is_typed_scalar g e && W.is_statement g r a) (W.is_statement g r b) h in
@@ -53,10 +50,7 @@ module _ (g : W.Scope) where
         both there (callees_in init ++ callees step) (callees a)
         (both there (callees_in init) (callees step) (calls_in_there W.nowhere init i.0) (calls_there W.nowhere step q.1)) (calls_there W.in_a_loop a p.1)
     calls_there r (C.Switch n i e gs) h = calls_of_there (W.in_a_switch r) gs (and_parts _ (W.are_groups g (W.in_a_switch r) gs) h).1
-    calls_there r C.Break h = refl
-    calls_there r C.Continue h = refl
-    calls_there r C.ReturnNothing h = refl
-    calls_there r (C.Return e) h = refl
+    calls_there _ _ _ = refl
 
     calls_in_there : (r : W.Around) (ss : C.Statements) → W.are_statements g r ss ≡ true → list_all there (callees_in ss) ≡ true
     calls_in_there r C.no_statements h = refl

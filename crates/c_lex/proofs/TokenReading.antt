@@ -74,87 +74,15 @@ read_name fresh text s n e is within stops =
 
 keyword_letter : (x : Keyword) → is_letter (get_or (keyword_text x) 0 0) ≡ true
 keyword_letter k.Break = refl
-keyword_letter k.Case = refl
-keyword_letter k.Char = refl
-keyword_letter k.Const = refl
-keyword_letter k.Continue = refl
-keyword_letter k.Default = refl
-keyword_letter k.Do = refl
-keyword_letter k.Else = refl
-keyword_letter k.Enum = refl
-keyword_letter k.Extern = refl
-keyword_letter k.For = refl
-keyword_letter k.If = refl
-keyword_letter k.Inline = refl
-keyword_letter k.Int = refl
-keyword_letter k.Long = refl
-keyword_letter k.Return = refl
-keyword_letter k.Short = refl
-keyword_letter k.Signed = refl
-keyword_letter k.Sizeof = refl
-keyword_letter k.Static = refl
-keyword_letter k.Struct = refl
-keyword_letter k.Switch = refl
-keyword_letter k.Typedef = refl
-keyword_letter k.Unsigned = refl
-keyword_letter k.Void = refl
-keyword_letter k.While = refl
+keyword_letter _ = refl
 
 keyword_word : (x : Keyword) → list_all is_word (keyword_text x) ≡ true
 keyword_word k.Break = refl
-keyword_word k.Case = refl
-keyword_word k.Char = refl
-keyword_word k.Const = refl
-keyword_word k.Continue = refl
-keyword_word k.Default = refl
-keyword_word k.Do = refl
-keyword_word k.Else = refl
-keyword_word k.Enum = refl
-keyword_word k.Extern = refl
-keyword_word k.For = refl
-keyword_word k.If = refl
-keyword_word k.Inline = refl
-keyword_word k.Int = refl
-keyword_word k.Long = refl
-keyword_word k.Return = refl
-keyword_word k.Short = refl
-keyword_word k.Signed = refl
-keyword_word k.Sizeof = refl
-keyword_word k.Static = refl
-keyword_word k.Struct = refl
-keyword_word k.Switch = refl
-keyword_word k.Typedef = refl
-keyword_word k.Unsigned = refl
-keyword_word k.Void = refl
-keyword_word k.While = refl
+keyword_word _ = refl
 
 keyword_some : (x : Keyword) → 0 < length (keyword_text x)
 keyword_some k.Break = lit< tt
-keyword_some k.Case = lit< tt
-keyword_some k.Char = lit< tt
-keyword_some k.Const = lit< tt
-keyword_some k.Continue = lit< tt
-keyword_some k.Default = lit< tt
-keyword_some k.Do = lit< tt
-keyword_some k.Else = lit< tt
-keyword_some k.Enum = lit< tt
-keyword_some k.Extern = lit< tt
-keyword_some k.For = lit< tt
-keyword_some k.If = lit< tt
-keyword_some k.Inline = lit< tt
-keyword_some k.Int = lit< tt
-keyword_some k.Long = lit< tt
-keyword_some k.Return = lit< tt
-keyword_some k.Short = lit< tt
-keyword_some k.Signed = lit< tt
-keyword_some k.Sizeof = lit< tt
-keyword_some k.Static = lit< tt
-keyword_some k.Struct = lit< tt
-keyword_some k.Switch = lit< tt
-keyword_some k.Typedef = lit< tt
-keyword_some k.Unsigned = lit< tt
-keyword_some k.Void = lit< tt
-keyword_some k.While = lit< tt
+keyword_some _ = lit< tt
 
 pub read_keyword : (fresh : Bool) (text : List ℕ) (x : Keyword) (n : ℕ) → take n text ≡ keyword_text x → n ≤ length text → is_word (get_or text n 0) ≡ false → front fresh text ≡ holds (keyword x) n
 read_keyword fresh text x n e within stops =
@@ -228,50 +156,7 @@ mark_byte p.BarEqual = record { no_zero = refl; no_white = refl; no_letter = ref
 -- no punctuator begins a comment, and none is `...`
 no_opener : (x : Punct) → ((eqb (get_or (punct_text x) 0 0) slash && eqb (get_or (punct_text x) 1 0) slash) ≡ false) × ((eqb (get_or (punct_text x) 0 0) slash && eqb (get_or (punct_text x) 1 0) star) ≡ false) × ((eqb (get_or (punct_text x) 0 0) dot && eqb (get_or (punct_text x) 1 0) dot && eqb (get_or (punct_text x) 2 0) dot) ≡ false)
 no_opener p.LeftBrace = (refl, refl, refl)
-no_opener p.RightBrace = (refl, refl, refl)
-no_opener p.LeftParenthesis = (refl, refl, refl)
-no_opener p.RightParenthesis = (refl, refl, refl)
-no_opener p.LeftBracket = (refl, refl, refl)
-no_opener p.RightBracket = (refl, refl, refl)
-no_opener p.Semicolon = (refl, refl, refl)
-no_opener p.Comma = (refl, refl, refl)
-no_opener p.Colon = (refl, refl, refl)
-no_opener p.Question = (refl, refl, refl)
-no_opener p.Dot = (refl, refl, refl)
-no_opener p.Arrow = (refl, refl, refl)
-no_opener p.PlusPlus = (refl, refl, refl)
-no_opener p.MinusMinus = (refl, refl, refl)
-no_opener p.Ampersand = (refl, refl, refl)
-no_opener p.Star = (refl, refl, refl)
-no_opener p.Plus = (refl, refl, refl)
-no_opener p.Minus = (refl, refl, refl)
-no_opener p.Tilde = (refl, refl, refl)
-no_opener p.Exclamation = (refl, refl, refl)
-no_opener p.Slash = (refl, refl, refl)
-no_opener p.Percent = (refl, refl, refl)
-no_opener p.LessLess = (refl, refl, refl)
-no_opener p.GreaterGreater = (refl, refl, refl)
-no_opener p.Less = (refl, refl, refl)
-no_opener p.Greater = (refl, refl, refl)
-no_opener p.LessEqual = (refl, refl, refl)
-no_opener p.GreaterEqual = (refl, refl, refl)
-no_opener p.EqualEqual = (refl, refl, refl)
-no_opener p.ExclamationEqual = (refl, refl, refl)
-no_opener p.Caret = (refl, refl, refl)
-no_opener p.Bar = (refl, refl, refl)
-no_opener p.AmpersandAmpersand = (refl, refl, refl)
-no_opener p.BarBar = (refl, refl, refl)
-no_opener p.Equal = (refl, refl, refl)
-no_opener p.StarEqual = (refl, refl, refl)
-no_opener p.SlashEqual = (refl, refl, refl)
-no_opener p.PercentEqual = (refl, refl, refl)
-no_opener p.PlusEqual = (refl, refl, refl)
-no_opener p.MinusEqual = (refl, refl, refl)
-no_opener p.LessLessEqual = (refl, refl, refl)
-no_opener p.GreaterGreaterEqual = (refl, refl, refl)
-no_opener p.AmpersandEqual = (refl, refl, refl)
-no_opener p.CaretEqual = (refl, refl, refl)
-no_opener p.BarEqual = (refl, refl, refl)
+no_opener _ = (refl, refl, refl)
 
 -- two bytes, three bytes
 two_bytes : (text : List ℕ) (a b : ℕ) → get_or text 0 0 ≡ suc a → get_or text 1 0 ≡ suc b → take 2 text ≡ suc a ∷ suc b ∷ []

@@ -96,19 +96,13 @@ cut_joined : (p q : Part) → joined cut (cut_part p) (cut_part q) ≡ cut_part 
 cut_joined p q = λ i. record { first = (joined whole p q).first; measure = cut_beside p.measure q.measure i }
 
 cut_made : (r : Role) (p : Part) → made cut r (cut_part p) ≡ option_map cut_part (made whole r p)
-cut_made roles.Nothing p = refl
 cut_made roles.Leaf p = ap (λ m. Some (record { first = p.first; measure = m })) (cut_node (unwrap_or p.first 0) p.measure)
 cut_made roles.Node p = ap (λ m. Some (record { first = p.first; measure = m })) (cut_node (unwrap_or p.first 0) p.measure)
-cut_made roles.Specifier p = refl
-cut_made roles.TypePart p = refl
-cut_made roles.Part p = refl
-cut_made (roles.Sequence n) p = refl
-cut_made roles.Simple p = refl
-cut_made roles.Outermost p = refl
 cut_made roles.Statement p = ap (λ m. Some (record { first = None; measure = m })) (cut_statement (unwrap_or p.first 0) p.measure)
 cut_made (roles.Compound n) p = ap (λ m. Some (record { first = None; measure = m })) (cut_statement (unwrap_or p.first 0) p.measure)
 cut_made roles.Local p = ap (λ m. Some (record { first = None; measure = m })) (cut_local (unwrap_or p.first 0) p.measure)
 cut_made roles.Function p = ap (λ m. Some (record { first = None; measure = m })) (cut_function (unwrap_or p.first 0) p.measure)
+cut_made _ _ = refl
 
 abbrev cut_pair : Part × List Part → Part × List Part
 cut_pair g = (cut_part g.0, map cut_part g.1)

@@ -2,7 +2,7 @@
 -- the tree that it makes.
 use Rattle.std.proofs.Common.{ℕ, ◌≡◌, ◌==◌, nat_le, Bool, true, false, ◌&&◌, if◌then◌else◌, suc, List, [], ◌∷◌, Option, Some, None, map, take, drop, ◌⊎◌, inl, inr, refl, ap}
 use Rattle.c_lex.specs.declared.token.Keyword.TheVariants as word
-use Rattle.c_lex.specs.Lexeme.{Kind, name, keyword, punct, character, number}
+use Rattle.c_lex.specs.Lexeme.{Kind, character, number}
 use Rattle.c_grammar.specs.declared.symbol.Production.{Production}
 use Rattle.c_grammar.specs.declared.symbol.Production.TheVariants as ends
 use Rattle.c_grammar.specs.Tree as tree
@@ -66,11 +66,9 @@ abbrev pub whole : Measure → Measure
 whole m = m
 
 constant_part : (a : ℕ) (k : Kind) → at a (limits.node a nothing) ≡ part (OfExp (constant a k))
-constant_part a (name n) = refl
-constant_part a (keyword k) = refl
-constant_part a (punct p) = refl
 constant_part a (character value) = refl
 constant_part a (number value decimal unsigned longs) = refl
+constant_part _ _ = refl
 
 -- a lone `void` has nothing that counts
 parameters_measure : (ps : List Param) → limits.params ps ≡ limits.params (spells.parameters ps)

@@ -1,7 +1,7 @@
 -- What a store leaves as it was.
 use Rattle.std.proofs.Common.{◌≡◌, ◌≢◌, ℕ, zero, suc, ◌+◌, ◌*◌, ◌/◌, ◌%◌, ◌<◌, ◌≤◌, nat_eq, refl, sym, ap, ◌∙◌, subst, arith, add-zero, add_assoc}
 use Rattle.std.proofs.lemmas.Bool.{cond-false, ne_eqb}
-use Rattle.c_values.specs.Value.{Value, Values, Bits, Number, Truth, Parts, no_values, more}
+use Rattle.c_values.specs.Value.{Value, Values, Bits, Parts, more}
 use Rattle.c_values.specs.Layout.{Shape, Incomplete, Scalar, Record, Row, Fields, no_fields, field, size}
 use Rattle.c_values.proofs.Formed.{IsFormed, AreFormed, members_end}
 use Rattle.c_memory.specs.Memory.{with_byte, with_bytes, store, stored_members, stored_elements}
@@ -44,8 +44,6 @@ module _ (space : ℕ) (x : ℕ) where
   pub elements_frame : (e : Shape) → ((a : ℕ) (v : Value) (bytes : ℕ → ℕ) → Spares space e a x → store space e a v bytes x ≡ bytes x) →
       (a n : ℕ) (vs : Values) (bytes : ℕ → ℕ) → ((i : ℕ) → i < n → Spares space e (a + i * size e) x) →
       stored_elements (λ b v bs. store space e b v bs) (size e) a n vs bytes x ≡ bytes x
-  elements_frame e one a zero vs bytes h = refl
-  elements_frame e one a (suc n) no_values bytes h = refl
   elements_frame e one a (suc n) (more v vs) bytes h =
       elements_frame e one (a + size e) n vs (store space e a v bytes) (λ i lt. subst (λ b. Spares space e b x) (moved a i (size e)) (h (suc i) (omega arith)))
       ∙ one a v bytes (subst (λ b. Spares space e b x) (first a (size e)) (h 0 (omega arith)))
@@ -55,28 +53,19 @@ module _ (space : ℕ) (x : ℕ) where
 
       first : (a step : ℕ) → a + 0 * step ≡ a
       first a step = omega arith
+  elements_frame _ _ _ _ _ _ _ = refl
 
   mutual
     -- a store changes bytes of scalars alone
     pub store_frame : (s : Shape) (a : ℕ) (v : Value) (bytes : ℕ → ℕ) → Spares space s a x → store space s a v bytes x ≡ bytes x
-    store_frame Incomplete a v bytes h = refl
     store_frame (Scalar t width) a (Bits w) bytes h = bytes_frame space a (width / 8) w.bits bytes x h
-    store_frame (Scalar t width) a (Number n) bytes h = refl
-    store_frame (Scalar t width) a (Truth b) bytes h = refl
-    store_frame (Scalar t width) a (Parts vs) bytes h = refl
     store_frame (Record name n align fs) a (Parts vs) bytes h = members_frame fs a vs bytes h
-    store_frame (Record name n align fs) a (Bits w) bytes h = refl
-    store_frame (Record name n align fs) a (Number k) bytes h = refl
-    store_frame (Record name n align fs) a (Truth b) bytes h = refl
     store_frame (Row e n) a (Parts vs) bytes h = elements_frame e (λ b v bs k. store_frame e b v bs k) a n vs bytes h
-    store_frame (Row e n) a (Bits w) bytes h = refl
-    store_frame (Row e n) a (Number k) bytes h = refl
-    store_frame (Row e n) a (Truth b) bytes h = refl
+    store_frame _ _ _ _ _ = refl
 
     pub members_frame : (fs : Fields) (a : ℕ) (vs : Values) (bytes : ℕ → ℕ) → AllSpare space fs a x → stored_members space fs a vs bytes x ≡ bytes x
-    members_frame no_fields a vs bytes h = refl
-    members_frame (field at s fs) a no_values bytes h = refl
     members_frame (field at s fs) a (more v vs) bytes h = members_frame fs a vs (store space s (a + at) v bytes) h.1 ∙ store_frame s (a + at) v bytes h.0
+    members_frame _ _ _ _ _ = refl
 
   -- what the whole misses, each scalar in it misses
   misses_within : (a at n m : ℕ) → Misses space a n x → at + m ≤ n → Misses space (a + at) m x

@@ -32,18 +32,14 @@ step_lower (Row e n) (Index i) q h =
   where
     some_same : {A : Type 0} {a b : A} → ◌≡◌ {A = Option A} (Some a) (Some b) → a ≡ b
     some_same k = cc
-step_lower Incomplete p q e = absurd cc
-step_lower (Scalar t width) p q e = absurd cc
-step_lower (Record x n align fs) (Index i) q e = absurd cc
-step_lower (Row e n) (Field k) q h = absurd cc
+step_lower _ _ q h = absurd cc
 
 -- the search for a root, from the outermost part on
 module _ (target : _) (structs : _) where
   whole_or_inner : (s : Shape) (t : CType) (d : ℕ) → IsLaid target structs s → root_path s t d ≡ cond (is_root_here (type_of s) t d) (Some []) (inner_path s t d)
   whole_or_inner Incomplete t d h = absurd h
   whole_or_inner (Scalar u width) t d h = sym (ap (λ b. cond (b && (same_type u t && nat_eq d 0)) (Some []) None) (scalar_root u h.scalar))
-  whole_or_inner (Record x n align fs) t d h = refl
-  whole_or_inner (Row e n) t d h = refl
+  whole_or_inner _ _ _ _ = refl
 
 module _ (l : Layout) (h : IsLayout l) (u : CType) (object : is_object l u ≡ true) where
   good : IsGood l.target (structs_of l) (shape_of l u)

@@ -1,13 +1,12 @@
 -- A page of zeros is as good as none.
-use Rattle.std.proofs.Common.{◌≡◌, ℕ, zero, suc, ◌/◌, ◌%◌, nat_eq, cond, Bool, true, false, Option, Some, None, is_some, replicate, slice_index, refl, sym, ap, ◌∙◌, eqb-true}
+use Rattle.std.proofs.Common.{◌≡◌, ℕ, suc, ◌/◌, ◌%◌, nat_eq, cond, Bool, true, false, Option, Some, None, is_some, replicate, slice_index, refl, sym, ap, ◌∙◌, eqb-true}
 use Rattle.std.proofs.Math.Path.{fun_ext}
 use Rattle.std.specs.HashMap.{get}
 use Rattle.c_memory.specs.CodePages.{Pages, page_size, page_byte, byte_at}
 
 zero_in : (n i : ℕ) → slice_index (replicate n 0) i ≡ 0
-zero_in zero i = refl
-zero_in (suc n) zero = refl
 zero_in (suc n) (suc i) = zero_in n i
+zero_in _ _ = refl
 
 no_byte : (o : Option _) (i : ℕ) → is_some o ≡ false → page_byte o i ≡ 0
 no_byte None i h = refl

@@ -5,8 +5,8 @@ use Rattle.std.specs.HashMap.{get}
 use Rattle.std.proofs.lemmas.Bool.{false≢true}
 use Rattle.c_values.specs.Word.{Word}
 use Rattle.c_values.specs.declared.values.Value as V
-use Rattle.c_values.specs.Types.{CType, Integer, Void, Ptr, Struct, Array}
-use Rattle.c_values.specs.Value.{Value, Bits, Number, Truth, Parts, no_values, more}
+use Rattle.c_values.specs.Types.{CType, Integer, Ptr, Struct, Array}
+use Rattle.c_values.specs.Value.{Value, Bits, Parts, no_values, more}
 use Rattle.c_values.specs.Layout.{Layout, IsLayout, Shape, Incomplete, Scalar, Record, Row, Fields, no_fields, field, size, type_of, is_scalar, is_object, shape_of, size_of}
 use Rattle.c_values.specs.Path.{Field, step_spot}
 use Rattle.c_values.specs.CodeValue.{value_of}
@@ -75,9 +75,8 @@ module _ (space : ℕ) (a : ℕ) (vs : List V.Value) where
   struct_stored : (target : _) (structs : _) (s : Shape) (x : _) (bytes : ℕ → ℕ) → IsLaid target structs s → type_of s ≡ Struct x →
       store space s a (Parts (values_in vs)) bytes ≡ stored_members space (fields_of s) a (values_in vs) bytes
   struct_stored target structs Incomplete x bytes h e = absurd h
-  struct_stored target structs (Scalar t width) x bytes h e = refl
-  struct_stored target structs (Record y n align fs) x bytes h e = refl
   struct_stored target structs (Row r n) x bytes h e = absurd cc
+  struct_stored _ _ _ _ _ _ _ = refl
 
   pub struct_is_stored : (l : Layout) (x : _) (bytes : ℕ → ℕ) → IsLayout l → is_object l (Struct x) ≡ true →
       stored_members space (fields_of (shape_of l (Struct x))) a (values_in vs) bytes ≡ store space (shape_of l (Struct x)) a (Parts (values_in vs)) bytes
@@ -121,9 +120,7 @@ element_within l u n i h object lt = (to_element l u n i h object lt).within
 pub word_stored : (l : Layout) (t : CType) (space a : ℕ) (w : Word) (bytes : ℕ → ℕ) → is_scalar t ≡ true → store space (shape_of l t) a (Bits w) bytes ≡ with_bytes space a (size_of l t) w.bits bytes
 word_stored l (Integer i) space a w bytes h = refl
 word_stored l (Ptr t) space a w bytes h = refl
-word_stored l Void space a w bytes h = absurd (false≢true h)
-word_stored l (Struct x) space a w bytes h = absurd (false≢true h)
-word_stored l (Array t n) space a w bytes h = absurd (false≢true h)
+word_stored _ _ _ _ _ _ h = absurd (false≢true h)
 
 -- what has no parts isn't stored in a struct or an array
 pub whole_stored : (l : Layout) (t : CType) (space a : ℕ) (v : Value) (bytes : ℕ → ℕ) → IsLayout l → is_object l t ≡ true → is_scalar t ≡ false → has_parts v ≡ false →
@@ -131,13 +128,7 @@ pub whole_stored : (l : Layout) (t : CType) (space a : ℕ) (v : Value) (bytes :
 whole_stored l t space a v bytes h object whole none = by_shape (shape_of l t) (shape_good l h t (object_complete l t object)).laid (shape_type l h t (object_complete l t object)) v none
   where
     by_shape : (s : Shape) → IsLaid l.target (structs_of l) s → type_of s ≡ t → (w : Value) → has_parts w ≡ false → store space s a w bytes ≡ bytes
-    by_shape Incomplete i e w k = refl
     by_shape (Scalar u width) i e w k = absurd (false≢true (sym whole ∙ ap is_scalar (sym e) ∙ i.scalar))
-    by_shape (Record x n align fs) i e (Bits w) k = refl
-    by_shape (Record x n align fs) i e (Number w) k = refl
-    by_shape (Record x n align fs) i e (Truth w) k = refl
     by_shape (Record x n align fs) i e (Parts ws) k = absurd (false≢true (sym k))
-    by_shape (Row r n) i e (Bits w) k = refl
-    by_shape (Row r n) i e (Number w) k = refl
-    by_shape (Row r n) i e (Truth w) k = refl
     by_shape (Row r n) i e (Parts ws) k = absurd (false≢true (sym k))
+    by_shape _ _ _ _ _ = refl

@@ -3,7 +3,7 @@ use Rattle.std.proofs.Common.{◌≡◌, ℕ, zero, suc, ◌+◌, ◌*◌, ◌/�
 use Rattle.std.proofs.Math.Nat.{mod-add-div}
 use Rattle.std.proofs.lemmas.Bool.{cond-true, eq-eqb}
 use Rattle.std.proofs.lemmas.Nat.{shr_below}
-use Rattle.c_values.specs.Value.{Value, Values, Bits, Number, Truth, Parts, no_values, more}
+use Rattle.c_values.specs.Value.{Value, Values, Bits, Parts, no_values, more}
 use Rattle.c_values.specs.Layout.{Shape, Incomplete, Scalar, Record, Row, Fields, no_fields, field, size}
 use Rattle.c_values.specs.Path.{HasShape, AreMembers, AreElements}
 use Rattle.c_values.proofs.Formed.{IsFormed, AreFormed, members_end}
@@ -84,8 +84,6 @@ module _ (space : ℕ) where
       (a n : ℕ) (vs : Values) (bytes : ℕ → ℕ) → n * size e ≤ space → AreElements (λ w. HasShape e w) n vs →
       loaded_elements (λ b. load space (stored_elements (λ b v bs. store space e b v bs) (size e) a n vs bytes) e b) (size e) a n ≡ vs
   stored_elements_back e f one a zero no_values bytes fit h = refl
-  stored_elements_back e f one a zero (more v vs) bytes fit h = absurd h
-  stored_elements_back e f one a (suc n) no_values bytes fit h = absurd h
   stored_elements_back e f one a (suc n) (more v vs) bytes fit h =
       ap₂ (λ w ws. more w ws)
       (load_same space
@@ -111,31 +109,21 @@ module _ (space : ℕ) where
         where
           grouped : (a b c d : ℕ) → a + b + c + d ≡ a + (b + c + d)
           grouped a b c d = omega arith
+  stored_elements_back _ _ _ _ _ _ _ _ h = absurd h
 
   mutual
     -- what is stored is loaded
     pub stored_back : (s : Shape) (a : ℕ) (v : Value) (bytes : ℕ → ℕ) → IsFormed s → size s ≤ space → HasShape s v → load space (store space s a v bytes) s a ≡ v
-    stored_back Incomplete a v bytes f fit h = absurd h
     stored_back (Scalar t width) a (Bits w) bytes f fit h =
         ap (λ u. Bits u) (ap₂ (λ x n. record { width = x; bits = n }) (sym h.has_width) (number_back space a (width / 8) w.bits bytes fit (subst (λ x. w.bits < 2 ^ x) f.whole h.fits)))
-    stored_back (Scalar t width) a (Number n) bytes f fit h = absurd h
-    stored_back (Scalar t width) a (Truth b) bytes f fit h = absurd h
-    stored_back (Scalar t width) a (Parts vs) bytes f fit h = absurd h
     stored_back (Record x n align fs) a (Parts vs) bytes f fit h = ap (λ ws. Parts ws) (stored_members_back fs align n 0 a vs bytes f.members fit h)
-    stored_back (Record x n align fs) a (Bits w) bytes f fit h = absurd h
-    stored_back (Record x n align fs) a (Number k) bytes f fit h = absurd h
-    stored_back (Record x n align fs) a (Truth b) bytes f fit h = absurd h
     stored_back (Row e n) a (Parts vs) bytes f fit h =
         ap (λ ws. Parts ws) (stored_elements_back e f.element (λ b w bs g k. stored_back e b w bs f.element g k) a n vs bytes fit h)
-    stored_back (Row e n) a (Bits w) bytes f fit h = absurd h
-    stored_back (Row e n) a (Number k) bytes f fit h = absurd h
-    stored_back (Row e n) a (Truth b) bytes f fit h = absurd h
+    stored_back _ _ _ _ _ _ h = absurd h
 
     stored_members_back : (fs : Fields) (align n at a : ℕ) (vs : Values) (bytes : ℕ → ℕ) → AreFormed align n at fs → n ≤ space → AreMembers fs vs →
         loaded_members space (stored_members space fs a vs bytes) fs a ≡ vs
     stored_members_back no_fields align n at a no_values bytes f fit h = refl
-    stored_members_back no_fields align n at a (more v vs) bytes f fit h = absurd h
-    stored_members_back (field offset s fs) align n at a no_values bytes f fit h = absurd h
     stored_members_back (field offset s fs) align n at a (more v vs) bytes f fit h =
         let end : offset + size s ≤ n = members_end align n (offset + size s) fs f.others in
         ap₂ (λ w ws. more w ws)
@@ -145,3 +133,4 @@ module _ (space : ℕ) where
         (λ j from less e. apart_addresses space a (offset + i) j (omega (arith, from, lt)) (omega (arith, less, fit)) (ap (λ b. b % space) (sym (add_assoc a offset i)) ∙ sym e))))
         ∙ stored_back s (a + offset) v bytes f.first (omega (arith, end, fit)) h.0)
         (stored_members_back fs align n (offset + size s) a vs (store space s (a + offset) v bytes) f.others fit h.1)
+    stored_members_back _ _ _ _ _ _ _ _ _ h = absurd h

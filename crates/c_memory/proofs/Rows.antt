@@ -27,9 +27,7 @@ drop_fields (suc k) (field at s fs) = drop_fields k fs
 
 step_fields : (s : Shape) (k : ℕ) → step_spot s (Field k) ≡ member_spot (fields_of s) k
 step_fields Incomplete k = refl
-step_fields (Scalar t width) k = refl
-step_fields (Record x n align fs) k = refl
-step_fields (Row e n) k = refl
+step_fields _ _ = refl
 
 no_more : (fs : Fields) (k : ℕ) → member_spot fs k ≡ None → drop_fields k fs ≡ no_fields
 no_more no_fields zero h = refl
@@ -76,9 +74,8 @@ before_end align n at (suc k) (field offset s fs) q f h =
 
 few_members : (s : Shape) (k : ℕ) (q : Spot) → IsFormed s → step_spot s (Field k) ≡ Some q → k < size s
 few_members Incomplete k q f h = absurd f
-few_members (Scalar t width) k q f h = absurd cc
 few_members (Record x n align fs) k q f h = let lt = before_end align n 0 k fs q f.members h in omega (arith, lt)
-few_members (Row e n) k q f h = absurd cc
+few_members _ k q f h = absurd cc
 
 -- a struct has fewer members than bytes
 pub member_number : (l : Layout) (t : CType) (k : ℕ) (q : Spot) → IsLayout l → is_object l t ≡ true → step_spot (shape_of l t) (Field k) ≡ Some q → k < 65536
@@ -126,10 +123,8 @@ lies_in_no_element l u n offset bytes e le = record { path = λ t. no_index (sha
 
 -- the members of a struct's shape
 inner_members : (s : Shape) (x : Name) (t : CType) (d : ℕ) → type_of s ≡ Struct x → inner_path s t d ≡ member_path (fields_of s) 0 t d
-inner_members Incomplete x t d e = refl
-inner_members (Scalar u width) x t d e = refl
-inner_members (Record y n align fs) x t d e = refl
 inner_members (Row e n) x t d h = absurd cc
+inner_members _ _ _ _ _ = refl
 
 pub within_member : (at d n : ℕ) → at ≤ d → d - at < n → (nat_le at d && nat_lt d (at + n)) ≡ true
 within_member at d n h k = and_from (nat_le at d) (nat_lt d (at + n)) (le-leb at d h) (lt-ltb d (at + n) (omega arith))

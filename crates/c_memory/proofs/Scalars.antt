@@ -52,13 +52,8 @@ digit n (suc i) = digit (n / 256) i
 byte_of_eight : (n i : ℕ) → i < 8 → slice_index (to_le_bytes w64 n) i ≡ digit n i
 byte_of_eight n zero lt = refl
 byte_of_eight n (suc zero) lt = refl
-byte_of_eight n (suc (suc zero)) lt = omega arith
-byte_of_eight n (suc (suc (suc zero))) lt = omega arith
-byte_of_eight n (suc (suc (suc (suc zero)))) lt = omega arith
-byte_of_eight n (suc (suc (suc (suc (suc zero))))) lt = omega arith
-byte_of_eight n (suc (suc (suc (suc (suc (suc zero)))))) lt = omega arith
-byte_of_eight n (suc (suc (suc (suc (suc (suc (suc zero))))))) lt = omega arith
 byte_of_eight n (suc (suc (suc (suc (suc (suc (suc (suc i)))))))) lt = absurd (omega arith)
+byte_of_eight n _ lt = omega arith
 
 -- what with_bytes puts at each address of the run
 bytes_here : (space a n v i : ℕ) (bytes : ℕ → ℕ) → i < n → n ≤ space → with_bytes space a n v bytes ((a + i) % space) ≡ digit v i

@@ -26,11 +26,8 @@ record Faultless (b₁ b₂ b₃ b₄ : Bool) : Type 0 where
   apart : b₄ ≡ true
 
 faultless : (b₁ b₂ b₃ b₄ : Bool) (e₁ e₂ e₃ e₄ : HeapFault) → cond b₁ (Some e₁) (cond b₂ (Some e₂) (cond b₃ (Some e₃) (cond b₄ None (Some e₄)))) ≡ None → Faultless b₁ b₂ b₃ b₄
-faultless true b₂ b₃ b₄ e₁ e₂ e₃ e₄ h = absurd cc
-faultless false true b₃ b₄ e₁ e₂ e₃ e₄ h = absurd cc
-faultless false false true b₄ e₁ e₂ e₃ e₄ h = absurd cc
 faultless false false false true e₁ e₂ e₃ e₄ h = record { aligned = refl; some = refl; fits = refl; apart = refl }
-faultless false false false false e₁ e₂ e₃ e₄ h = absurd cc
+faultless _ _ _ _ e₁ e₂ e₃ e₄ h = absurd cc
 
 pointer_ok : (r a n s : ℕ) → nat_lt 0 r ≡ false → nat_eq a 0 ≡ false → nat_lt s (a + n) ≡ false → (nat_eq r 0 && not (nat_eq a 0) && nat_le (a + n) s) ≡ true
 pointer_ok r a n s h k j = grind (arith, nat_tests)

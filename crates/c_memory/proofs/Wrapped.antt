@@ -1,7 +1,7 @@
 -- Loads and stores see an address modulo the space.
 use Rattle.std.proofs.Common.{◌≡◌, ℕ, zero, suc, ◌+◌, ◌*◌, ◌/◌, ◌%◌, refl, sym, ap, ap₂, ◌∙◌}
 use Rattle.std.proofs.Math.Nat.{add-mod}
-use Rattle.c_values.specs.Value.{Value, Values, Bits, Number, Truth, Parts, no_values, more}
+use Rattle.c_values.specs.Value.{Value, Values, Bits, Parts, more}
 use Rattle.c_values.specs.Layout.{Shape, Incomplete, Scalar, Record, Row, Fields, no_fields, field, size}
 use Rattle.c_memory.specs.Memory.{little_endian, load, loaded_members, loaded_elements, with_byte, with_bytes, store, stored_members, stored_elements}
 
@@ -38,31 +38,20 @@ module _ (space : ℕ) where
   stored_elements_wrapped : (e : Shape) → ((a b : ℕ) (v : Value) (bytes : ℕ → ℕ) → a % space ≡ b % space → store space e a v bytes ≡ store space e b v bytes) →
       (a b n : ℕ) (vs : Values) (bytes : ℕ → ℕ) → a % space ≡ b % space →
       stored_elements (λ c v bs. store space e c v bs) (size e) a n vs bytes ≡ stored_elements (λ c v bs. store space e c v bs) (size e) b n vs bytes
-  stored_elements_wrapped e one a b zero vs bytes h = refl
-  stored_elements_wrapped e one a b (suc n) no_values bytes h = refl
   stored_elements_wrapped e one a b (suc n) (more v vs) bytes h =
       ap (λ bs. stored_elements (λ c w cs. store space e c w cs) (size e) (a + size e) n vs bs) (one a b v bytes h)
       ∙ stored_elements_wrapped e one (a + size e) (b + size e) n vs (store space e b v bytes) (moved a b (size e) h)
+  stored_elements_wrapped _ _ _ _ _ _ _ _ = refl
 
   mutual
     pub store_wrapped : (s : Shape) (a b : ℕ) (v : Value) (bytes : ℕ → ℕ) → a % space ≡ b % space → store space s a v bytes ≡ store space s b v bytes
-    store_wrapped Incomplete a b v bytes h = refl
     store_wrapped (Scalar t width) a b (Bits w) bytes h = with_bytes_wrapped a b (width / 8) w.bits bytes h
-    store_wrapped (Scalar t width) a b (Number n) bytes h = refl
-    store_wrapped (Scalar t width) a b (Truth c) bytes h = refl
-    store_wrapped (Scalar t width) a b (Parts vs) bytes h = refl
     store_wrapped (Record x n align fs) a b (Parts vs) bytes h = stored_members_wrapped fs a b vs bytes h
-    store_wrapped (Record x n align fs) a b (Bits w) bytes h = refl
-    store_wrapped (Record x n align fs) a b (Number k) bytes h = refl
-    store_wrapped (Record x n align fs) a b (Truth c) bytes h = refl
     store_wrapped (Row e n) a b (Parts vs) bytes h = stored_elements_wrapped e (λ c d v bs k. store_wrapped e c d v bs k) a b n vs bytes h
-    store_wrapped (Row e n) a b (Bits w) bytes h = refl
-    store_wrapped (Row e n) a b (Number k) bytes h = refl
-    store_wrapped (Row e n) a b (Truth c) bytes h = refl
+    store_wrapped _ _ _ _ _ _ = refl
 
     stored_members_wrapped : (fs : Fields) (a b : ℕ) (vs : Values) (bytes : ℕ → ℕ) → a % space ≡ b % space → stored_members space fs a vs bytes ≡ stored_members space fs b vs bytes
-    stored_members_wrapped no_fields a b vs bytes h = refl
-    stored_members_wrapped (field at s fs) a b no_values bytes h = refl
     stored_members_wrapped (field at s fs) a b (more v vs) bytes h =
         ap (λ bs. stored_members space fs a vs bs) (store_wrapped s (a + at) (b + at) v bytes (moved a b at h))
         ∙ stored_members_wrapped fs a b vs (store space s (b + at) v bytes) h
+    stored_members_wrapped _ _ _ _ _ _ = refl

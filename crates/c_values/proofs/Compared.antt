@@ -13,9 +13,8 @@ rank_in (y ∷ ys) zero x lt e = let same = ap (λ z. rank (value_of z)) e in om
 rank_in (y ∷ ys) (suc k) x lt e = let h = rank_in ys k x (omega arith) e in omega (arith, h)
 
 pub smaller_than : (c : C.Comparison) (m n : ℕ) → IsSmaller m c → m < n → IsSmaller n c
-smaller_than C.TheVariants.Same m n h lt = tt
-smaller_than C.TheVariants.Differ m n h lt = tt
 smaller_than (C.TheVariants.AsLast x y) m n h lt = omega (arith, h, lt)
+smaller_than _ _ _ _ _ = tt
 
 pub some_there : (n : ℕ) (b : Bool) → b ≡ (n == 0) → b ≡ false → 0 < n
 some_there zero b e f = absurd cc

@@ -3,7 +3,7 @@ use Rattle.std.proofs.Common.{◌≡◌, ℕ, zero, suc, ◌+◌, Bool, true, fa
 use Rattle.std.proofs.lemmas.Bool.{false≢true, and_parts, or_parts, not-true, cond-true, cond-false}
 use Rattle.std.specs.Prelude.{Some, slice_get}
 use Rattle.c_values.specs.Name.{Name, same_name, with_name, is_among}
-use Rattle.c_values.specs.Types.{Target, CType, Integer, Void, Ptr, Struct, Array}
+use Rattle.c_values.specs.Types.{Target, CType, Struct, Array}
 use Rattle.c_values.specs.Layout.{Layout, IsLayout, Shape, Incomplete, Record, Row, field, size, alignment, aligned, placed, end_of, widest, Member, StructDef, struct_shape, shape_from, shapes_after, is_complete, are_built, has_member, all_members_complete}
 use Rattle.c_values.proofs.Laid.{same_name-refl, structs_of, OthersUnknown, name_is, other_name}
 
@@ -34,11 +34,9 @@ module _ (t : Target) where
     complete_known y h e = false≢true (ap is_complete (sym e) ∙ h)
 
     same_shape : (u : CType) → is_complete (shape_from t structs u) ≡ true → shape_from t after u ≡ shape_from t structs u
-    same_shape (Integer i) h = refl
-    same_shape Void h = refl
-    same_shape (Ptr u) h = refl
     same_shape (Struct y) h = same_struct y (complete_known y h)
     same_shape (Array u n) h = ap (λ e. Row e n) (same_shape u (and_parts _ (is_complete (shape_from t structs u)) h).1)
+    same_shape _ _ = refl
 
     same_placed : (at : ℕ) (ms : List Member) → all_members_complete (shape_from t structs) ms ≡ true → placed (shape_from t after) at ms ≡ placed (shape_from t structs) at ms
     same_placed at [] h = refl

@@ -90,15 +90,11 @@ follow_append (Truth b) (p ∷ ps) qs h k = absurd h
 
 pub follow_first : (v : Value) (p : Step) (ps : List Step) → CanFollow v (p ∷ ps) → CanFollow v (p ∷ [])
 follow_first (Parts vs) p ps h = (h.0, tt)
-follow_first (Bits w) p ps h = absurd h
-follow_first (Number n) p ps h = absurd h
-follow_first (Truth b) p ps h = absurd h
+follow_first _ _ _ h = absurd h
 
 pub follow_rest : (v : Value) (p : Step) (ps : List Step) → CanFollow v (p ∷ ps) → CanFollow (sel v (p ∷ [])) ps
 follow_rest (Parts vs) p ps h = h.1
-follow_rest (Bits w) p ps h = absurd h
-follow_rest (Number n) p ps h = absurd h
-follow_rest (Truth b) p ps h = absurd h
+follow_rest _ _ _ h = absurd h
 
 -- a path into a shape can be followed in a value of the shape
 member_here : (fs : Fields) (vs : Values) (k : ℕ) (q : Spot) → are_complete fs ≡ true → AreMembers fs vs → member_spot fs k ≡ Some q → (k < count vs) × (is_complete q.shape ≡ true) × HasShape q.shape (part vs k)

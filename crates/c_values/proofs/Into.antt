@@ -4,16 +4,14 @@ use Rattle.std.proofs.lemmas.Bool.{and_parts, lt-ltb}
 use Rattle.std.specs.Prelude.{Some, None}
 use Rattle.c_values.specs.Name.{Name}
 use Rattle.c_values.specs.Types.{CType, Struct, Array}
-use Rattle.c_values.specs.Layout.{Layout, IsLayout, Shape, Incomplete, Scalar, Record, Row, shape_of, type_of, is_object, is_complete, size_of, largest_size}
+use Rattle.c_values.specs.Layout.{Layout, IsLayout, Shape, Row, shape_of, type_of, is_object, is_complete, size_of, largest_size}
 use Rattle.c_values.specs.Path.{Index}
 use Rattle.c_values.specs.StepInto.{step_into}
 use Rattle.c_values.proofs.Laid.{shape_type}
 
 no_element : (s : Shape) (x : Name) (i : ℤ) → type_of s ≡ Struct x → step_into s (Index i) ≡ None
-no_element Incomplete x i e = refl
-no_element (Scalar u w) x i e = refl
-no_element (Record y n align fs) x i e = refl
 no_element (Row e' n) x i e = absurd cc
+no_element _ _ _ _ = refl
 
 -- a struct has no elements
 pub into_struct : (l : Layout) (x : Name) (i : ℤ) → IsLayout l → is_object l (Struct x) ≡ true → step_into (shape_of l (Struct x)) (Index i) ≡ None

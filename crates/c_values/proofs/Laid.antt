@@ -60,11 +60,9 @@ module _ (t : Target) where
   integer_good structs i = record { formed = integer_formed t i; laid = record { scalar = refl; wide = refl } }
 
   pub type_back : (structs : Name → Shape) → AllGood structs → (u : CType) → is_complete (shape_from t structs u) ≡ true → type_of (shape_from t structs u) ≡ u
-  type_back structs all (Integer i) h = refl
-  type_back structs all Void h = refl
-  type_back structs all (Ptr u) h = refl
   type_back structs all (Struct x) h = (all x h).1
   type_back structs all (Array u n) h = ap (λ e. Array e n) (type_back structs all u (and_parts _ (is_complete (shape_from t structs u)) h).1)
+  type_back _ _ _ _ = refl
 
   pub type_good : (structs : Name → Shape) → AllGood structs → (u : CType) → is_complete (shape_from t structs u) ≡ true → IsGood structs (shape_from t structs u)
   type_good structs all (Integer i) h = integer_good structs i

@@ -12,10 +12,7 @@ around_lone (Array t n) v = by_cases (eqb n 1) (around_lone t (lone v))
     by_cases : (b : Bool) → around t (lone (lone v)) ≡ lone (around t (lone v)) → cond b (around t (lone (lone v))) (lone v) ≡ lone (cond b (around t (lone v)) v)
     by_cases true below = below
     by_cases false below = refl
-around_lone (Integer i) v = refl
-around_lone Void v = refl
-around_lone (Ptr t) v = refl
-around_lone (Struct x) v = refl
+around_lone _ _ = refl
 
 -- how many outermost arrays of one element there are
 abbrev pub layers : CType → ℕ
@@ -31,10 +28,7 @@ other_inside t n false e other = refl
 
 pub inside_other : (t : CType) → ((u : CType) → t ≡ Array u 1 → ⊥) → inside t ≡ t
 inside_other (Array t n) other = other_inside t n (eqb n 1) refl other
-inside_other (Integer i) other = refl
-inside_other Void other = refl
-inside_other (Ptr t) other = refl
-inside_other (Struct x) other = refl
+inside_other _ _ = refl
 
 other_around : (t : CType) (n : ℕ) (v : Value) (b : Bool) → eqb n 1 ≡ b → ((u : CType) → Array t n ≡ Array u 1 → ⊥) → cond b (around t (lone v)) v ≡ v
 other_around t n v true e other = absurd (other t (ap (λ k. Array t k) (eqb-true n 1 e)))
@@ -42,10 +36,7 @@ other_around t n v false e other = refl
 
 pub around_other : (t : CType) (v : Value) → ((u : CType) → t ≡ Array u 1 → ⊥) → around t v ≡ v
 around_other (Array t n) v other = other_around t n v (eqb n 1) refl other
-around_other (Integer i) v other = refl
-around_other Void v other = refl
-around_other (Ptr t) v other = refl
-around_other (Struct x) v other = refl
+around_other _ _ _ = refl
 
 -- what is of a whole array of one element as the lone part of what is of its element, is so of all outermost ones
 pub whole_around : (f : Shape → Value) → ((e : Shape) → f (Row e 1) ≡ lone (f e)) → (l : Layout) (t : CType) → around t (f (shape_of l (inside t))) ≡ f (shape_of l t)
@@ -56,10 +47,7 @@ whole_around f one l (Array t n) = by_cases (eqb n 1) refl (whole_around f one l
     by_cases true e below =
         around_lone t (f (shape_of l (inside t))) ∙ ap lone below ∙ sym (one (shape_of l t)) ∙ ap (λ k. f (shape_of l (Array t k))) (sym (eqb-true n 1 e))
     by_cases false e below = refl
-whole_around f one l (Integer i) = refl
-whole_around f one l Void = refl
-whole_around f one l (Ptr t) = refl
-whole_around f one l (Struct x) = refl
+whole_around _ _ _ _ = refl
 
 pub inside_lower : (l : Layout) (t : CType) → height (shape_of l (inside t)) ≤ height (shape_of l t)
 inside_lower l (Array t n) = by_cases (eqb n 1) (inside_lower l t)

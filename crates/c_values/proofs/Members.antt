@@ -10,7 +10,7 @@ use Rattle.c_values.specs.declared.layouts.StructDef as D
 use Rattle.c_values.specs.declared.places.Places as P
 use Rattle.c_values.specs.Name.{Name}
 use Rattle.c_values.specs.Types.{Target, CType}
-use Rattle.c_values.specs.Layout.{Layout, Shape, Incomplete, Scalar, Record, Row, Fields, no_fields, field, size, alignment, aligned, placed, Member, struct_shape, shape_from, shapes_after}
+use Rattle.c_values.specs.Layout.{Layout, Shape, Incomplete, Record, Fields, no_fields, field, size, alignment, aligned, placed, Member, struct_shape, shape_from, shapes_after}
 use Rattle.c_values.specs.Path.{Field, step_spot, member_spot}
 use Rattle.c_values.specs.CodeTypes.{type_of}
 use Rattle.c_values.specs.CodeLayout.{member_of, struct_def_of}
@@ -36,10 +36,8 @@ member_placed f at (m' ∷ items) (suc k) o m h e e' =
     member_placed f (aligned at (alignment s) + size s) items k o m (omega arith) e e'
 
 pub no_member : (e : P.Places) (s : Shape) (k : ℕ) → DescribesShape (Some e) s → length e.offsets.items ≤ k → step_spot s (Field k) ≡ None
-no_member e Incomplete k h past = absurd h
-no_member e (Scalar u w) k h past = absurd h
 no_member e (Record x n align fs) k h past = past_members fs k (subst (λ os. length os ≤ k) h.offsets past)
-no_member e (Row e' n) k h past = absurd h
+no_member _ _ _ h _ = absurd h
 
 -- a struct of the shape of its definition
 module _ (e : P.Places) (f : CType → Shape) (s : Shape) (d : D.StructDef) (is : s ≡ struct_shape f (struct_def_of d)) (h : DescribesShape (Some e) s) where

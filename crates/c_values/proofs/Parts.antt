@@ -2,7 +2,7 @@
 use Rattle.std.proofs.Common.{◌≡◌, ℕ, ◌+◌, true, List, Some, pos, refl, ap}
 use Rattle.std.proofs.lemmas.Bool.{false≢true, and_from, lt-ltb}
 use Rattle.c_values.specs.Name.{Name}
-use Rattle.c_values.specs.Types.{Target, CType, Integer, Void, Ptr, Struct, Array}
+use Rattle.c_values.specs.Types.{Target, CType, Integer, Ptr}
 use Rattle.c_values.specs.Layout.{Layout, IsLayout, Shape, Incomplete, Scalar, Record, Row, Fields, no_fields, field, size, alignment, type_of, shape_from, shape_of, is_complete, are_complete, is_scalar, scalar_width}
 use Rattle.c_values.specs.Path.{Step, Spot, spot, in_range}
 use Rattle.c_values.proofs.Formed.{IsFormed, AreFormed}
@@ -34,9 +34,7 @@ module _ (t : Target) (structs : Name → Shape) where
   scalar_shape : (u : CType) (width : ℕ) → is_scalar u ≡ true → scalar_width t u ≡ width → shape_from t structs u ≡ Scalar u width
   scalar_shape (Integer i) width h e = ap (λ w. Scalar (Integer i) w) e
   scalar_shape (Ptr u) width h e = ap (λ w. Scalar (Ptr u) w) e
-  scalar_shape Void width h e = absurd (false≢true h)
-  scalar_shape (Struct x) width h e = absurd (false≢true h)
-  scalar_shape (Array u n) width h e = absurd (false≢true h)
+  scalar_shape _ _ h _ = absurd (false≢true h)
 
   -- a part has the shape of its type
   pub laid_shape : (s : Shape) → IsLaid t structs s → shape_from t structs (type_of s) ≡ s

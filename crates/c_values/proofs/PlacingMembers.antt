@@ -6,7 +6,7 @@ use Rattle.std.specs.Prelude.{Option, Some, None, String}
 use Rattle.std.specs.HashMap.{get_by_text}
 use Rattle.c_values.specs.Name.{Name}
 use Rattle.c_values.specs.Types.{Target, Ilp32, Lp64, CType, Integer, Void, Ptr, Struct, Array, IntType, width_of}
-use Rattle.c_values.specs.Layout.{Shape, Incomplete, Scalar, Record, Row, Fields, no_fields, field, size, alignment, aligned, placed, end_of, widest, Member, StructDef, struct_shape, shape_from, is_complete, are_complete, all_members_complete, largest_size}
+use Rattle.c_values.specs.Layout.{Shape, Incomplete, Scalar, Record, Fields, no_fields, field, size, alignment, aligned, placed, end_of, widest, Member, StructDef, struct_shape, shape_from, is_complete, are_complete, all_members_complete, largest_size}
 use Rattle.std.specs.declared.alloc.Global.{Global}
 use Rattle.c_values.specs.declared.types.CType as C
 use Rattle.c_values.specs.CodeLayout.{member_of}
@@ -24,12 +24,7 @@ AllAligned shape = (u : CType) → 1 ≤ alignment (shape u)
 described_alignment : (e : Option P.Places) (s : Shape) → DescribesShape e s → 1 ≤ alignment s
 described_alignment None Incomplete h = omega arith
 described_alignment (Some e) (Record x n align fs) h = omega (arith, h.alignment, e.some)
-described_alignment None (Scalar u w) h = absurd h
-described_alignment None (Record x n align fs) h = absurd h
-described_alignment None (Row e n) h = absurd h
-described_alignment (Some e) Incomplete h = absurd h
-described_alignment (Some e) (Scalar u w) h = absurd h
-described_alignment (Some e) (Row e' n) h = absurd h
+described_alignment _ _ h = absurd h
 
 scalar_alignment : (t : Target) (i : IntType) → 1 ≤ width_of t i / 8
 scalar_alignment t i = some_bytes (width_of t i / 8) (formed_alignment (Scalar (Integer i) (width_of t i)) (integer_formed t i))

@@ -1,7 +1,7 @@
 -- Of a value with a part replaced: the part reads as the new one, and parts apart from it read as before.
 use Rattle.std.proofs.Common.{◌≡◌, ◌≢◌, ℕ, zero, suc, ◌+◌, ◌*◌, ◌<◌, ◌≤◌, ◌⊎◌, inl, inr, List, ◌∷◌, Some, pos, refl, sym, ap, ◌∙◌, subst, arith}
 use Rattle.std.proofs.lemmas.Bool.{cases_order}
-use Rattle.c_values.specs.Value.{Value, Values, Bits, Number, Truth, Parts, no_values, more, count, part, with_part}
+use Rattle.c_values.specs.Value.{Value, Values, Bits, Number, Truth, Parts, more, count, part, with_part}
 use Rattle.c_values.specs.Layout.{Shape, size}
 use Rattle.c_values.specs.Path.{Step, Field, Index, place_of, sel, upd, HasShape}
 use Rattle.c_values.proofs.Formed.{IsFormed, size_some}
@@ -10,11 +10,9 @@ use Rattle.c_values.proofs.Geometry.{AreApart, nth_within, nth_same, leads_withi
 use Rattle.c_values.proofs.Shaped.{members_count, member_shaped, elements_count, element_shaped, part_replaced, count_replaced, placed_field, placed_index, sel_step, upd_step}
 
 part_kept : (vs : Values) (k j : ℕ) (w : Value) → k ≢ j → part (with_part vs k w) j ≡ part vs j
-part_kept no_values k j w h = refl
 part_kept (more v vs) zero zero w h = absurd (h refl)
-part_kept (more v vs) zero (suc j) w h = refl
-part_kept (more v vs) (suc k) zero w h = refl
 part_kept (more v vs) (suc k) (suc j) w h = part_kept vs k j w (λ e. h (ap suc e))
+part_kept _ _ _ _ _ = refl
 
 -- where a step leads among parts that have one replaced
 module _ (vs : Values) (v : Value) (p : Step) (ps : List Step) (k : ℕ) (at : place_of p (count vs) ≡ Some k) (less : k < count vs) where
@@ -47,15 +45,10 @@ sel_upd u v h ends = refl
 sel_upd (Parts vs) v h (by_member {k} {ps} m p) =
     let less = members_count vs h m in
     same_step vs v (Field k) ps k (placed_field k (count vs) less) less (sel_upd (part vs k) v (member_shaped vs h m) p)
-sel_upd (Bits w) v h (by_member m p) = absurd h
-sel_upd (Number z) v h (by_member m p) = absurd h
-sel_upd (Truth b) v h (by_member m p) = absurd h
 sel_upd (Parts vs) v h (by_element {e} {n} {i} {ps} lt p) =
     let less = subst (λ c. i < c) (sym (elements_count (λ w. HasShape e w) n vs h)) lt in
     same_step vs v (Index (pos i)) ps i (placed_index i (count vs) less) less (sel_upd (part vs i) v (element_shaped (λ w. HasShape e w) n i vs h lt) p)
-sel_upd (Bits w) v h (by_element lt p) = absurd h
-sel_upd (Number z) v h (by_element lt p) = absurd h
-sel_upd (Truth b) v h (by_element lt p) = absurd h
+sel_upd _ _ h _ = absurd h
 
 -- the whole is not apart from its part
 not_apart : (n e m : ℕ) → 0 < m → e + m ≤ n → AreApart 0 n e m → ⊥

@@ -2,7 +2,7 @@
 -- the new one.
 use Rattle.std.proofs.Common.{◌≡◌, ℕ, zero, suc, ◌<◌, nat_lt, List, ◌∷◌, Some, None, unwrap_or, pos, refl, sym, ap, subst, arith, lt-ltb}
 use Rattle.std.proofs.lemmas.Bool.{cond-true}
-use Rattle.c_values.specs.Value.{Value, Values, Bits, Number, Truth, Parts, no_values, more, count, part, with_part}
+use Rattle.c_values.specs.Value.{Value, Values, Parts, no_values, more, count, part, with_part}
 use Rattle.c_values.specs.Layout.{Shape, Record, Row, Fields}
 use Rattle.c_values.specs.Path.{Step, Field, Index, place_of, with_changed, sel, upd, HasShape, AreMembers, AreElements, copies}
 use Rattle.c_values.proofs.Leads.{IsNth, first, next, Leads, ends, by_member, by_element}
@@ -27,9 +27,8 @@ member_replaced (more v vs) w h (next m) new = (h.0, member_replaced vs w h.1 m 
 
 pub elements_count : (P : Value → Type 0) (n : ℕ) (vs : Values) → AreElements P n vs → count vs ≡ n
 elements_count P zero no_values h = refl
-elements_count P zero (more v vs) h = absurd h
-elements_count P (suc n) no_values h = absurd h
 elements_count P (suc n) (more v vs) h = ap suc (elements_count P n vs h.1)
+elements_count _ _ _ h = absurd h
 
 pub element_shaped : (P : Value → Type 0) (n i : ℕ) (vs : Values) → AreElements P n vs → i < n → P (part vs i)
 element_shaped P zero i vs h lt = absurd (omega arith)
@@ -50,9 +49,8 @@ part_replaced (more v vs) zero w lt = refl
 part_replaced (more v vs) (suc k) w lt = part_replaced vs k w (omega arith)
 
 pub count_replaced : (vs : Values) (k : ℕ) (w : Value) → count (with_part vs k w) ≡ count vs
-count_replaced no_values k w = refl
-count_replaced (more v vs) zero w = refl
 count_replaced (more v vs) (suc k) w = ap suc (count_replaced vs k w)
+count_replaced _ _ _ = refl
 
 pub placed_field : (k n : ℕ) → k < n → place_of (Field k) n ≡ Some k
 placed_field k n lt = cond-true (nat_lt k n) (Some k) None (lt-ltb k n lt)
@@ -72,16 +70,11 @@ upd_shaped u v h new ends = new
 upd_shaped (Parts vs) v h new (by_member {x} {n} {align} {k} {fs} {s} {ps} m p) =
     subst (λ w. HasShape (Record x n align fs) w) (sym (upd_step vs (Field k) ps v k (placed_field k (count vs) (members_count vs h m))))
     (member_replaced vs (upd (part vs k) ps v) h m (upd_shaped (part vs k) v (member_shaped vs h m) new p))
-upd_shaped (Bits w) v h new (by_member m p) = absurd h
-upd_shaped (Number z) v h new (by_member m p) = absurd h
-upd_shaped (Truth b) v h new (by_member m p) = absurd h
 upd_shaped (Parts vs) v h new (by_element {e} {n} {i} {ps} lt p) =
     subst (λ w. HasShape (Row e n) w)
     (sym (upd_step vs (Index (pos i)) ps v i (placed_index i (count vs) (subst (λ c. i < c) (sym (elements_count (λ w. HasShape e w) n vs h)) lt))))
     (element_replaced (λ w. HasShape e w) n i vs (upd (part vs i) ps v) h (upd_shaped (part vs i) v (element_shaped (λ w. HasShape e w) n i vs h lt) new p))
-upd_shaped (Bits w) v h new (by_element lt p) = absurd h
-upd_shaped (Number z) v h new (by_element lt p) = absurd h
-upd_shaped (Truth b) v h new (by_element lt p) = absurd h
+upd_shaped _ _ h _ _ = absurd h
 
 pub copies_shaped : (P : Value → Type 0) (n : ℕ) (z : Value) → P z → AreElements P n (copies n z)
 copies_shaped P zero z h = tt

@@ -5,7 +5,7 @@ use Rattle.std.specs.Prelude.{Option, Some, None}
 use Rattle.std.specs.Option.{option_map}
 use Rattle.c_values.specs.Types.{CType, Struct, Array}
 use Rattle.c_values.specs.Name.{Name}
-use Rattle.c_values.specs.Layout.{Layout, IsLayout, Shape, Incomplete, Scalar, Record, Row, type_of, shape_of, size_of, is_complete, is_object, largest_size}
+use Rattle.c_values.specs.Layout.{Layout, IsLayout, Shape, Incomplete, Row, type_of, shape_of, size_of, is_complete, is_object, largest_size}
 use Rattle.c_values.specs.Path.{Step, Field, Index, Spot, spot, step_spot, step_in_range, in_range, spot_offset, further, offset_of}
 use Rattle.c_values.specs.CodePartOf.{IsPart}
 use Rattle.c_values.proofs.Laid.{shape_type}
@@ -25,8 +25,7 @@ past_the_end l t p path e = rw e refl
 
 moved : (o : ℤ) (b : Bool) (r : Option Spot) → cond b (spot_offset (further o r)) None ≡ option_map (λ d. o +ℤ d) (cond b (spot_offset r) None)
 moved o true None = refl
-moved o true (Some q) = refl
-moved o false r = refl
+moved _ _ _ = refl
 
 one_step : (s : Shape) (p : Step) (o : ℕ) (s' : Shape) → step_spot s p ≡ Some (record { offset = pos o; shape = s' }) → spot s (p ∷ []) ≡ Some (record { offset = pos (o + 0); shape = s' })
 one_step s p o s' e = rw e refl
@@ -60,19 +59,15 @@ to_element l u n i h object small = to_part l (Array u n) (Index (pos i)) (i * s
 
 field_in_range : (s : Shape) (k : ℕ) → step_in_range s (Field k) ≡ true
 field_in_range Incomplete k = refl
-field_in_range (Scalar u w) k = refl
-field_in_range (Record x n align fs) k = refl
-field_in_range (Row e n) k = refl
+field_in_range _ _ = refl
 
 pub to_member : (l : Layout) (x : Name) (k o : ℕ) (u : CType) → IsLayout l → is_object l (Struct x) ≡ true →
     step_spot (shape_of l (Struct x)) (Field k) ≡ Some (record { offset = pos o; shape = shape_of l u }) → IsPart l (Struct x) (Field k) o u
 to_member l x k o u h object e = to_part l (Struct x) (Field k) o u h object (field_in_range (shape_of l (Struct x)) k) e
 
 pub no_element : (s : Shape) (x : Name) (i : ℤ) → type_of s ≡ Struct x → step_spot s (Index i) ≡ None
-no_element Incomplete x i e = refl
-no_element (Scalar u w) x i e = refl
-no_element (Record y n align fs) x i e = refl
 no_element (Row e' n) x i e = absurd cc
+no_element _ _ _ _ = refl
 
 -- a struct has no elements
 pub struct_index : (l : Layout) (x : Name) (i : ℤ) (path : List Step) → IsLayout l → is_object l (Struct x) ≡ true → offset_of l (Struct x) (Index i ∷ path) ≡ None

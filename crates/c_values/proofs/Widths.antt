@@ -1,20 +1,12 @@
 -- An integer type has a width.
 use Rattle.std.proofs.Common.{◌≤◌, lit≤}
-use Rattle.c_values.specs.Types.{Target, Ilp32, Lp64, address_width, IntType, Char, SChar, UChar, Short, UShort, Int, UInt, Long, ULong, LLong, ULLong, width_of}
+use Rattle.c_values.specs.Types.{Target, Ilp32, Lp64, address_width, IntType, Long, ULong, width_of}
 
 pub some_address : (t : Target) → 1 ≤ address_width t
 some_address Ilp32 = lit≤ tt
 some_address Lp64 = lit≤ tt
 
 pub some_width : (t : Target) (i : IntType) → 1 ≤ width_of t i
-some_width t Char = lit≤ tt
-some_width t SChar = lit≤ tt
-some_width t UChar = lit≤ tt
-some_width t Short = lit≤ tt
-some_width t UShort = lit≤ tt
-some_width t Int = lit≤ tt
-some_width t UInt = lit≤ tt
 some_width t Long = some_address t
 some_width t ULong = some_address t
-some_width t LLong = lit≤ tt
-some_width t ULLong = lit≤ tt
+some_width _ _ = lit≤ tt

@@ -77,9 +77,8 @@ version_spells at w ts c n false true e f read =
 version_spells at w ts c n false false e f read = absurd cc
 
 row_spells : (at : ℕ) (ts : Trees) (c : Certificate) (n : ℕ) → certificate_row at (first_of ts) ≡ Ok (c, n) → IsCertificateTree (Node (more (Atom (codes "cert")) ts)) c
-row_spells at no_trees c n read = absurd cc
-row_spells at (more (Node us) ts) c n read = absurd cc
 row_spells at (more (Atom w) ts) c n read = version_spells at w ts c n (same_name w (codes "1")) (same_name w (codes "2")) refl refl read
+row_spells at _ c n read = absurd cc
 
 pub certificate_spells : (t : Tree) (at : ℕ) (c : Certificate) (n : ℕ) → certificate_at at t ≡ Ok (c, n) → IsCertificateTree t c
 certificate_spells t at c n read = by_head (headed_in t) refl read

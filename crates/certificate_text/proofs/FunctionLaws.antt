@@ -96,12 +96,10 @@ heap_part_reads Words (Some s) is = λ at. ap (made (λ t. Some t)) (heap_reads 
 heap_part_reads Numbers (Some s) is = λ at. ap (made (λ t. Some t)) (heap_reads s is at)
 
 heap_part_fits : (level : Level) (h : Option (Step Mon Heaps.Rule)) → is_heap level h ≡ true → fits (Some level) (heap_part h) ≡ true
-heap_part_fits Bytes None is = refl
 heap_part_fits Bytes (Some s) is = absurd cc
 heap_part_fits Words None is = absurd cc
-heap_part_fits Words (Some s) is = refl
 heap_part_fits Numbers None is = absurd cc
-heap_part_fits Numbers (Some s) is = refl
+heap_part_fits _ _ _ = refl
 
 abbrev function_parts : Steps → Parts
 function_parts c = record { exception = exception_tree c.exception; local = local_tree c.local; heap = heap_part c.heap; word = word_tree c.word; equal = equal_tree c.equal }
@@ -217,9 +215,8 @@ heap_part_spells level None at h n fit read = none level h fit (value_ok {A = Op
   where
     none : (level : Level) (h : Option (Step Mon Heaps.Rule)) → fits (Some level) None ≡ true → None ≡ h → (None ≡ heap_part h) × (is_heap level h ≡ true)
     none Bytes None fit e = (refl, refl)
-    none Words None fit e = absurd cc
-    none Numbers None fit e = absurd cc
     none level (Some s) fit e = absurd cc
+    none _ _ fit e = absurd cc
 heap_part_spells level (Some t) at h n fit read = some (heap_at at t) refl read
   where
     lifted : (level : Level) (s : Step Mon Heaps.Rule) → fits (Some level) (Some t) ≡ true → (is_mon s.program && heaps.is_tree s.tree) ≡ true → is_heap level (Some s) ≡ true

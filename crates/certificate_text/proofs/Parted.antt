@@ -4,7 +4,7 @@ use Rattle.std.specs.Prelude.{IfSome, IfNone, option_map}
 use Rattle.std.proofs.Common.{◌≢◌}
 use Rattle.c_values.specs.Name.{Name}
 use Rattle.c_values.specs.Types.{Ilp32, Lp64}
-use Rattle.expression_lang.specs.Sort.{Bytes, Words, Numbers}
+use Rattle.expression_lang.specs.Sort.{Bytes}
 use Rattle.ac_sx.specs.Tree.{Tree, Trees, more}
 use Rattle.ac_sx.specs.CodeSx.{first_of}
 use Rattle.expression_text.specs.ExpRows.{with_second}
@@ -15,8 +15,7 @@ use Rattle.certificate_text.specs.CertificateReading.{found_in}
 
 pub levels_found : AreFound level_word levels
 levels_found Bytes = refl
-levels_found Words = refl
-levels_found Numbers = refl
+levels_found _ = refl
 
 pub targets_found : AreFound target_word targets
 targets_found Ilp32 = refl

@@ -15,10 +15,8 @@ use Rattle.certificate_text.specs.CertificateText.{step_tree}
 use Rattle.certificate_text.specs.CertificateReading.{step_parts, step_row, step_at}
 
 pub headed_is : (t : Tree) (w : Name) (ts : Trees) → headed_in t ≡ Some (w, ts) → t ≡ Node (more (Atom w) ts)
-headed_is (Atom v) w ts e = absurd cc
-headed_is (Node no_trees) w ts e = absurd cc
-headed_is (Node (more (Node us) vs)) w ts e = absurd cc
 headed_is (Node (more (Atom v) vs)) w ts e = let h : ◌≡◌ {A = Name × Trees} (v, vs) (w, ts) = cc in ap (λ (p : Name × Trees). Node (more (Atom p.0) p.1)) h
+headed_is _ w ts e = absurd cc
 
 module _ {Program Rule : Type 0} (step : Name) (program : ℕ → Tree → Read Program) (program_tree : Program → Tree) (is_program : Program → Bool) (tree : ℕ → Tree → Read (rules.Tree Rule)) (rules_tree : rules.Tree Rule → Tree) (are_rules : rules.Tree Rule → Bool) where
   abbrev text : Step Program Rule → Tree

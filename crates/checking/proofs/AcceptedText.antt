@@ -46,14 +46,7 @@ module _ (target : Target) (text : List ℕ) (unit : TypedUnit) (c : Certificate
   of_verdict No lines (inl h) = absurd (not_apart (apart unit c.functions) h.at h.name is.listed h.differs)
   of_verdict No lines (inr h) =
       absurd (unit_verdicts_decide (generated unit (level_in c.functions)) c.functions (Err (of_function h.at h.place)) h.verdict is.accepted)
-  of_verdict Words lines h = absurd h
-  of_verdict Source lines h = absurd h
-  of_verdict Text lines h = absurd h
-  of_verdict ReadFault lines h = absurd h
-  of_verdict WriteFault lines h = absurd h
-  of_verdict Limit lines h = absurd h
-  of_verdict Memory lines h = absurd h
-  of_verdict NotYet lines h = absurd h
+  of_verdict _ _ h = absurd h
 
   of_certificate : (status : Status) (lines : List ℕ) → OfCertificate target unit text status lines → status ≡ Done
   of_certificate status lines h =

@@ -12,7 +12,7 @@ use Rattle.certificate_text.specs.CertificateText.{Certificate}
 use Rattle.certificate_text.specs.Answer.{IsCertificateText, IsFaultOf}
 use Rattle.answers.specs.declared.answer.Answer.{Answer}
 use Rattle.answers.specs.declared.status.Status.{Status}
-use Rattle.answers.specs.declared.status.Status.TheVariants.{Done, No, Words, Source, Text, ReadFault, WriteFault, Limit, Memory, NotYet}
+use Rattle.answers.specs.declared.status.Status.TheVariants.{Done, No, Text}
 use Rattle.checking.specs.declared.verdicts.Accepted.{Accepted}
 use Rattle.checking.specs.Checked.{level_in, target_for, IsSaid, IsChecked}
 use Rattle.checking.specs.CodeJudged.{IsTurnedAway, IsJudged, IsJudgedAs}
@@ -24,14 +24,7 @@ module _ (target : Target) (unit : TypedUnit) (text : List ℕ) where
   pub turned_away : (status : Status) (lines : List ℕ) → IsTurnedAway target text unit status lines → IsChecked target text unit status lines
   turned_away Text lines h = h
   turned_away No lines h = h
-  turned_away Done lines h = absurd h
-  turned_away Words lines h = absurd h
-  turned_away Source lines h = absurd h
-  turned_away ReadFault lines h = absurd h
-  turned_away WriteFault lines h = absurd h
-  turned_away Limit lines h = absurd h
-  turned_away Memory lines h = absurd h
-  turned_away NotYet lines h = absurd h
+  turned_away _ _ h = absurd h
 
   pub no_certificate : (fault : TextFault) (status : Status) (lines : List ℕ) → IsFaultOf text fault → (status ≡ Text) × IsSaid fault lines →
       IsTurnedAway target text unit status lines

@@ -2,7 +2,7 @@
 use Rattle.std.proofs.Common.{◌≡◌, ℕ, ◌+◌, ◌<◌, ◌≤◌, List, [], ◌∷◌, Option, Some, sym, ◌∙◌, subst, arith}
 use Rattle.std.proofs.lemmas.Bool.{cond-true, cond-false}
 use Rattle.c_values.specs.Name.{Name, same_name}
-use Rattle.simpl_lang.specs.Command.{Simpl, Skip, Throw, Set, SetGlobal, Store, Pick, Seq, Cond, Guard, Catch, While, Call, SimplFn, simpl_fn}
+use Rattle.simpl_lang.specs.Command.{Simpl, While, Call, SimplFn, simpl_fn}
 use Rattle.command_runs.specs.Cost.{turning, calling, cost, cost_of_all}
 use Rattle.global_changes.proofs.Changed.{by_test}
 
@@ -15,18 +15,9 @@ calling_some [] = omega arith
 calling_some (g ∷ gs) = omega arith
 
 pub cost_some : (c : Simpl) (gs : List ℕ) → 0 < cost c gs
-cost_some Skip gs = omega arith
-cost_some Throw gs = omega arith
-cost_some (Set x e) gs = omega arith
-cost_some (SetGlobal x path e) gs = omega arith
-cost_some (Store t p path e) gs = omega arith
-cost_some (Pick x) gs = omega arith
-cost_some (Seq a b) gs = omega arith
-cost_some (Cond e a b) gs = omega arith
-cost_some (Guard c a) gs = omega arith
-cost_some (Catch a b) gs = omega arith
 cost_some (While cs e a) gs = turning_some (cost a) gs
 cost_some (Call x f es) gs = calling_some gs
+cost_some _ gs = omega arith
 
 pub cost_of_one : (fs : List SimplFn) (x : Name) (f : SimplFn) (gs : List ℕ) → simpl_fn fs x ≡ Some f → cost f.body gs ≤ cost_of_all fs gs
 cost_of_one [] x f gs e = absurd cc

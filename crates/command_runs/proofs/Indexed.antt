@@ -96,13 +96,8 @@ and_some P o x e h = subst (λ q. IsSomeAnd q P) e h
 pub returned_lasts : (u : U.SimplUnit) (r : Result (Option V.Value) P.Stop) (s : C.CState) → IfOk r (λ v. IsStateOf u s) → OnLasting u (outcome_of r s)
 returned_lasts u (Ok v) s h = h
 returned_lasts u (Err (P.TheVariants.Guard k)) s h = tt
-returned_lasts u (Err P.TheVariants.OutOfTurns) s h = tt
-returned_lasts u (Err P.TheVariants.Deep) s h = tt
-returned_lasts u (Err P.TheVariants.Memory) s h = tt
+returned_lasts _ _ _ _ = tt
 
 pub returned_end : (u : U.SimplUnit) (ends : Ends Returned GuardKind) (r : Result (Option V.Value) P.Stop) (s : C.CState) → HasReturned u ends r s → IsEnd u ends (outcome_of r s)
-returned_end u ends (Ok v) s h = h
-returned_end u ends (Err (P.TheVariants.Guard k)) s h = h
-returned_end u ends (Err P.TheVariants.OutOfTurns) s h = h
-returned_end u ends (Err P.TheVariants.Deep) s h = h
 returned_end u ends (Err P.TheVariants.Memory) s h = tt
+returned_end _ _ _ _ h = h

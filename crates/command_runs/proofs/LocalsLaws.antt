@@ -21,9 +21,8 @@ use Rattle.command_runs.specs.Locals.{Table, names_in, env_from, put_in, started
 
 cond_swap : (a b : Bool) (v w : Value) (r : Value) → ((a ≡ true) → b ≡ false) → cond a v (cond b w r) ≡ cond b w (cond a v r)
 cond_swap true true v w r h = absurd (false≢true (sym (h refl)))
-cond_swap true false v w r h = refl
 cond_swap false true v w r h = refl
-cond_swap false false v w r h = refl
+cond_swap _ _ _ _ _ _ = refl
 
 cond_twice : (a : Bool) (v w r : Value) → cond a v (cond a w r) ≡ cond a v r
 cond_twice true v w r = refl

@@ -6,7 +6,7 @@ use Rattle.c_values.specs.Types.{CType, address_width}
 use Rattle.c_values.specs.Layout.{Shape, is_object, shape_of}
 use Rattle.expression_lang.specs.Expression.{Exp, Path}
 use Rattle.expression_lang.specs.Form.{path_has, is_part_of_value}
-use Rattle.expression_lang.specs.Sort.{Scalar, Sort, Of, PartsSort, WordSort, Scope, shape_along, sort_at, is_word_of}
+use Rattle.expression_lang.specs.Sort.{Scalar, Sort, Of, WordSort, Scope, shape_along, sort_at, is_word_of}
 use Rattle.expression_lang.specs.Sorted.{program_sort, sort_in, part_place, typed_place, global_place}
 use Rattle.expression_lang.proofs.Inversion.{word_of_inv}
 use Rattle.expression_lang.proofs.SameScalars.{same_scalar_is}
@@ -19,9 +19,7 @@ use Rattle.command_runs.specs.CodeRun.{scope_for, HasSortIn, LeadsIn, CanRunIn}
 
 pub scalar_of_inv : (o : Option Scalar) (p : Option Sort) → is_scalar_of o p ≡ true → (c : Scalar) × (o ≡ Some c) × (p ≡ Some (Of c))
 scalar_of_inv (Some c) (Some (Of d)) h = (c, refl, ap (λ e. Some (Of e)) (sym (same_scalar_is c d h)))
-scalar_of_inv (Some c) (Some (PartsSort t)) h = absurd (false≢true h)
-scalar_of_inv (Some c) None h = absurd (false≢true h)
-scalar_of_inv None p h = absurd (false≢true h)
+scalar_of_inv _ _ h = absurd (false≢true h)
 
 local_inv : (o : Option Scalar) → is_local o ≡ true → (c : Scalar) × (o ≡ Some c)
 local_inv (Some c) h = (c, refl)

@@ -33,17 +33,7 @@ use Rattle.command_text.proofs.PartLaws.{guarded_reads, guarded_spells, conditio
 -- a sequence has parts
 parts_there : (c : Simpl) → is_no_tree (sequence_parts c) ≡ false
 parts_there Skip = refl
-parts_there Throw = refl
-parts_there (Set x e) = refl
-parts_there (SetGlobal x path e) = refl
-parts_there (Store t p path e) = refl
-parts_there (Pick x) = refl
-parts_there (Seq c d) = refl
-parts_there (Cond e c d) = refl
-parts_there (Guard a c) = refl
-parts_there (Catch c d) = refl
-parts_there (While as' e c) = refl
-parts_there (Call x f es) = refl
+parts_there _ = refl
 
 more_is : (t : Tree) (ts : Trees) → is_no_tree ts ≡ false → sequence (more t ts) ≡ begins H.Seq (more t ts)
 more_is t no_trees e = absurd (false≢true (sym e))
@@ -166,18 +156,8 @@ is_seq (Seq c d) = true
 is_seq _ = false
 
 pub alone_parts : (c : Simpl) → is_seq c ≡ false → sequence_parts c ≡ more (command_tree c) no_trees
-alone_parts Skip e = refl
-alone_parts Throw e = refl
-alone_parts (Set x v) e = refl
-alone_parts (SetGlobal x path v) e = refl
-alone_parts (Store t p path v) e = refl
-alone_parts (Pick x) e = refl
 alone_parts (Seq c d) e = absurd (false≢true (sym e))
-alone_parts (Cond t c d) e = refl
-alone_parts (Guard a c) e = refl
-alone_parts (Catch c d) e = refl
-alone_parts (While as' t c) e = refl
-alone_parts (Call x f es) e = refl
+alone_parts _ _ = refl
 
 -- the tree of a command, of one that is no sequence where the tree isn't
 abbrev IsCommandText : Tree → Simpl → Type 0
@@ -244,9 +224,8 @@ pick_spells ts at inner c n (Some t) is read =
     alone_moved H.Pick ts (Pick x.0) c (value_ok (Pick x.0) x.1 c n last) (ap (begins H.Pick) (one_is ts t is ∙ ap (λ u. more u no_trees) h.0)) h.1 (refl {a = false})
 
 second_is : (ts : Trees) (x : Tree × Tree × Trees) → with_second (first_of ts) ≡ Some x → ts ≡ more x.0 (more x.1 x.2)
-second_is no_trees x e = absurd cc
-second_is (more t no_trees) x e = absurd cc
 second_is (more t (more u us)) x e = let same : ◌≡◌ {A = Tree × Tree × Trees} (t, u, us) x = cc in ap (λ (y : Tree × Tree × Trees). more y.0 (more y.1 y.2)) same
+second_is _ x e = absurd cc
 
 call_spells : (ts : Trees) (at inner : ℕ) (c : Simpl) (n : ℕ) (o : Option (Tree × Tree × Trees)) → with_second (first_of ts) ≡ o → call_row at inner o ≡ Ok (c, n) → IsAlone H.Call ts c
 call_spells ts at inner c n None is read = absurd cc
@@ -317,19 +296,16 @@ parts_spell t us at c n false d others no_seq spells more_spell read = more_spel
 mutual
   pub command_spells : (t : Tree) (at : ℕ) (c : Simpl) (n : ℕ) → command_at at t ≡ Ok (c, n) → IsCommandText t c
   command_spells (Atom word) at c n read = leaf_spells word at c n (same_name word skip_word) (same_name word throw_word) refl refl read
-  command_spells (Node no_trees) at c n read = absurd cc
-  command_spells (Node (more (Node us) ts)) at c n read = absurd cc
   command_spells (Node (more (Atom word) ts)) at c n read =
       built_spells word (looked_up command_word command_heads word) ts at (next (next at)) c n (λ h found. looked_up_is command_word command_heads word h found) read
+  command_spells _ at c n read = absurd cc
 
   built_spells : (word : Name) (o : Option CommandHead) (ts : Trees) (at inner : ℕ) (c : Simpl) (n : ℕ) → ((h : CommandHead) → o ≡ Some h → command_word h ≡ word) → built_command_at at inner o ts ≡ Ok (c, n) → IsCommandText (Node (more (Atom word) ts)) c
-  built_spells word None ts at inner c n found read = absurd cc
   built_spells word (Some H.Set) ts at inner c n found read = from_alone word H.Set ts c (found H.Set refl) (set_spells ts at inner c n (two_of ts) refl read)
   built_spells word (Some H.Gset) ts at inner c n found read = from_alone word H.Gset ts c (found H.Gset refl) (gset_spells ts at inner c n (three_of ts) refl read)
   built_spells word (Some H.Store) ts at inner c n found read = from_alone word H.Store ts c (found H.Store refl) (store_spells ts at inner c n (four_of ts) refl read)
   built_spells word (Some H.Pick) ts at inner c n found read = from_alone word H.Pick ts c (found H.Pick refl) (pick_spells ts at inner c n (one_of ts) refl read)
   built_spells word (Some H.Call) ts at inner c n found read = from_alone word H.Call ts c (found H.Call refl) (call_spells ts at inner c n (with_second (first_of ts)) refl read)
-  built_spells word (Some H.Seq) no_trees at inner c n found read = absurd cc
   built_spells word (Some H.Seq) (more t us) at inner c n found read =
       list_spells word t us at inner c n (found H.Seq refl) (is_no_tree us) refl
       (λ whole. seq_spells t us inner c n (λ k o j. command_spells t k o j) (λ k o j. sequence_spells us k o j) whole) read
@@ -343,10 +319,6 @@ mutual
       from_alone word H.Cond (more t (more u (more v no_trees))) c (found H.Cond refl)
       (alone_moved H.Cond (more t (more u (more v no_trees))) (Cond x.0 y.0 z.0) c (value_ok (Cond x.0 y.0 z.0) z.1 c n last) (ap (begins H.Cond) (three_same h.0 k.0 l.0))
       (and_from (is_exp x.0) (is_command y.0 && is_command z.0) h.1 (and_from (is_command y.0) (is_command z.0) k.1 l.1)) (refl {a = false}))
-  built_spells word (Some H.Cond) no_trees at inner c n found read = absurd cc
-  built_spells word (Some H.Cond) (more t no_trees) at inner c n found read = absurd cc
-  built_spells word (Some H.Cond) (more t (more u no_trees)) at inner c n found read = absurd cc
-  built_spells word (Some H.Cond) (more t (more u (more v (more w ws)))) at inner c n found read = absurd cc
   built_spells word (Some H.Guard) (more t (more u (more v no_trees))) at inner c n found read =
       let (x, read0, others0) = bind_ok (guarded_at inner t u) (λ x. command_at x.1 v >>= λ y. Ok (Guard x.0 y.0, y.1)) (c, n) read in
       let (y, read1, last) = bind_ok (command_at x.1 v) (λ y. Ok (Guard x.0 y.0, y.1)) (c, n) others0 in
@@ -355,10 +327,6 @@ mutual
       from_alone word H.Guard (more t (more u (more v no_trees))) c (found H.Guard refl)
       (alone_moved H.Guard (more t (more u (more v no_trees))) (Guard x.0 y.0) c (value_ok (Guard x.0 y.0) y.1 c n last) (ap (begins H.Guard) (three_same h.0 h.1 k.0))
       (and_from (is_exp x.0.exp) (is_command y.0) h.2 k.1) (refl {a = false}))
-  built_spells word (Some H.Guard) no_trees at inner c n found read = absurd cc
-  built_spells word (Some H.Guard) (more t no_trees) at inner c n found read = absurd cc
-  built_spells word (Some H.Guard) (more t (more u no_trees)) at inner c n found read = absurd cc
-  built_spells word (Some H.Guard) (more t (more u (more v (more w ws)))) at inner c n found read = absurd cc
   built_spells word (Some H.Catch) (more t (more u no_trees)) at inner c n found read =
       let (x, read0, others0) = bind_ok (command_at inner t) (λ x. command_at x.1 u >>= λ y. Ok (Catch x.0 y.0, y.1)) (c, n) read in
       let (y, read1, last) = bind_ok (command_at x.1 u) (λ y. Ok (Catch x.0 y.0, y.1)) (c, n) others0 in
@@ -367,9 +335,6 @@ mutual
       from_alone word H.Catch (more t (more u no_trees)) c (found H.Catch refl)
       (alone_moved H.Catch (more t (more u no_trees)) (Catch x.0 y.0) c (value_ok (Catch x.0 y.0) y.1 c n last) (ap (begins H.Catch) (ap₂ two h.0 k.0))
       (and_from (is_command x.0) (is_command y.0) h.1 k.1) (refl {a = false}))
-  built_spells word (Some H.Catch) no_trees at inner c n found read = absurd cc
-  built_spells word (Some H.Catch) (more t no_trees) at inner c n found read = absurd cc
-  built_spells word (Some H.Catch) (more t (more u (more v vs))) at inner c n found read = absurd cc
   built_spells word (Some H.While) (more t (more u (more v no_trees))) at inner c n found read =
       let (x, read0, others0) = bind_ok (conditions_at inner t) (λ x. exp_at x.1 u >>= λ y. command_at y.1 v >>= λ z. Ok (While x.0 y.0 z.0, z.1)) (c, n) read in
       let (y, read1, others1) = bind_ok (exp_at x.1 u) (λ y. command_at y.1 v >>= λ z. Ok (While x.0 y.0 z.0, z.1)) (c, n) others0 in
@@ -380,10 +345,7 @@ mutual
       from_alone word H.While (more t (more u (more v no_trees))) c (found H.While refl)
       (alone_moved H.While (more t (more u (more v no_trees))) (While x.0 y.0 z.0) c (value_ok (While x.0 y.0 z.0) z.1 c n last) (ap (begins H.While) (three_same h.0 k.0 l.0))
       (and_from (each is_condition x.0) (is_exp y.0 && is_command z.0) h.1 (and_from (is_exp y.0) (is_command z.0) k.1 l.1)) (refl {a = false}))
-  built_spells word (Some H.While) no_trees at inner c n found read = absurd cc
-  built_spells word (Some H.While) (more t no_trees) at inner c n found read = absurd cc
-  built_spells word (Some H.While) (more t (more u no_trees)) at inner c n found read = absurd cc
-  built_spells word (Some H.While) (more t (more u (more v (more w ws)))) at inner c n found read = absurd cc
+  built_spells word _ _ at inner c n found read = absurd cc
 
   sequence_spells : (ts : Trees) (at : ℕ) (c : Simpl) (n : ℕ) → sequence_at at ts ≡ Ok (c, n) → AreParts ts c
   sequence_spells no_trees at c n read = absurd cc

@@ -14,69 +14,43 @@ use Rattle.command_text.specs.CodeCommandRows.{seq_row, cond_row, guard_row, cat
 
 pub command_heads_found : AreFound command_word command_heads
 command_heads_found H.Set = refl
-command_heads_found H.Gset = refl
-command_heads_found H.Store = refl
-command_heads_found H.Pick = refl
-command_heads_found H.Seq = refl
-command_heads_found H.Cond = refl
-command_heads_found H.Guard = refl
-command_heads_found H.Catch = refl
-command_heads_found H.While = refl
-command_heads_found H.Call = refl
+command_heads_found _ = refl
 
 seq_is : (at inner : ℕ) (ts : Trees) → built_command_at at inner (Some H.Seq) ts ≡ seq_row at inner ts
-seq_is at inner no_trees = refl
 seq_is at inner (more t no_trees) = refl
-seq_is at inner (more t (more u us)) = refl
+seq_is _ _ _ = refl
 
 cond_is : (at inner : ℕ) (ts : Trees) → built_command_at at inner (Some H.Cond) ts ≡ cond_row at inner (three_of ts)
-cond_is at inner no_trees = refl
-cond_is at inner (more t no_trees) = refl
-cond_is at inner (more t (more u no_trees)) = refl
 cond_is at inner (more t (more u (more v no_trees))) = refl
-cond_is at inner (more t (more u (more v (more w ws)))) = refl
+cond_is _ _ _ = refl
 
 guard_is : (at inner : ℕ) (ts : Trees) → built_command_at at inner (Some H.Guard) ts ≡ guard_row at inner (three_of ts)
-guard_is at inner no_trees = refl
-guard_is at inner (more t no_trees) = refl
-guard_is at inner (more t (more u no_trees)) = refl
 guard_is at inner (more t (more u (more v no_trees))) = refl
-guard_is at inner (more t (more u (more v (more w ws)))) = refl
+guard_is _ _ _ = refl
 
 catch_is : (at inner : ℕ) (ts : Trees) → built_command_at at inner (Some H.Catch) ts ≡ catch_row at inner (two_of ts)
-catch_is at inner no_trees = refl
-catch_is at inner (more t no_trees) = refl
 catch_is at inner (more t (more u no_trees)) = refl
-catch_is at inner (more t (more u (more v vs))) = refl
+catch_is _ _ _ = refl
 
 while_is : (at inner : ℕ) (ts : Trees) → built_command_at at inner (Some H.While) ts ≡ while_row at inner (three_of ts)
-while_is at inner no_trees = refl
-while_is at inner (more t no_trees) = refl
-while_is at inner (more t (more u no_trees)) = refl
 while_is at inner (more t (more u (more v no_trees))) = refl
-while_is at inner (more t (more u (more v (more w ws)))) = refl
+while_is _ _ _ = refl
 
 row_is : (at inner : ℕ) (h : CommandHead) (ts : Trees) → built_command_at at inner (Some h) ts ≡ row_at at inner h ts
-row_is at inner H.Set ts = refl
-row_is at inner H.Gset ts = refl
-row_is at inner H.Store ts = refl
-row_is at inner H.Pick ts = refl
 row_is at inner H.Seq ts = seq_is at inner ts
 row_is at inner H.Cond ts = cond_is at inner ts
 row_is at inner H.Guard ts = guard_is at inner ts
 row_is at inner H.Catch ts = catch_is at inner ts
 row_is at inner H.While ts = while_is at inner ts
-row_is at inner H.Call ts = refl
+row_is _ _ _ _ = refl
 
 list_is : (at : ℕ) (o : Option CommandHead) (ts : Trees) → built_command_at at (next (next at)) o ts ≡ list_at at o ts
 list_is at None ts = refl
 list_is at (Some h) ts = row_is at (next (next at)) h ts
 
 command_is : (at : ℕ) (t : Tree) → command_at at t ≡ command_by at (word_in t) (headed_in t)
-command_is at (Atom word) = refl
-command_is at (Node no_trees) = refl
-command_is at (Node (more (Node us) ts)) = refl
 command_is at (Node (more (Atom head) ts)) = list_is at (looked_up command_word command_heads head) ts
+command_is _ _ = refl
 
 pub word_given : (at : ℕ) (word : Name) (t : Tree) → Some word ≡ word_in t → leaf_at at word ≡ command_at at t
 word_given at word t e = ap (λ (o : Option Name). command_by at o (headed_in t)) e ∙ sym (command_is at t)

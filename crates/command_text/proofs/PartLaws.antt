@@ -5,7 +5,7 @@ use Rattle.c_values.specs.Name.{Name, same_name}
 use Rattle.ac_sx.specs.Tree.{Tree, Atom, Node}
 use Rattle.ac_sx.specs.CodeSx.{word_in, two_of}
 use Rattle.expression_lang.specs.Expression.{Exp}
-use Rattle.expression_lang.specs.GuardKind.{GuardKind, Div, Signed, Shift, Pointer, Bounds, Unreached, Tag, Wrap}
+use Rattle.expression_lang.specs.GuardKind.{GuardKind, Div}
 use Rattle.expression_text.specs.Reading.{Read, next, ◌>>=◌}
 use Rattle.expression_text.specs.Names.{is_name}
 use Rattle.expression_text.specs.Words.{looked_up}
@@ -24,13 +24,7 @@ use Rattle.command_text.specs.CommandReading.{guard_kind_from, guard_kind_at, gu
 
 pub guard_kinds_found : AreFound guard_word guard_kinds
 guard_kinds_found Div = refl
-guard_kinds_found Signed = refl
-guard_kinds_found Shift = refl
-guard_kinds_found Pointer = refl
-guard_kinds_found Bounds = refl
-guard_kinds_found Unreached = refl
-guard_kinds_found Tag = refl
-guard_kinds_found Wrap = refl
+guard_kinds_found _ = refl
 
 guard_kind_reads : (k : GuardKind) → IsReadAs guard_kind_at (Atom (guard_word k)) k
 guard_kind_reads k = λ at. ap (guard_kind_from at) (guard_kinds_found k)

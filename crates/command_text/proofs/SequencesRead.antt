@@ -17,9 +17,8 @@ use Rattle.command_text.specs.CodeCommandRows.{front_of}
 
 -- two parts at least are read as a command and the others
 fronted : (at : ℕ) (ts : Trees) (x : Tree × Trees) → Some x ≡ front_of ts → sequence_at at ts ≡ (command_at at x.0 >>= λ y. sequence_at y.1 x.1 >>= λ z. Ok (Seq y.0 z.0, z.1))
-fronted at no_trees x e = absurd cc
-fronted at (more t no_trees) x e = absurd cc
 fronted at (more t (more u us)) x e = let same : ◌≡◌ {A = Tree × Trees} x (t, more u us) = cc in ap (λ (y : Tree × Trees). command_at at y.0 >>= λ v. sequence_at v.1 y.1 >>= λ z. Ok (Seq v.0 z.0, z.1)) (sym same)
+fronted at _ x e = absurd cc
 
 made_front : (before now : List F.Front) (f : F.Front) (c : Simpl) (r : Read Simpl) → now ≡ before ++ f ∷ [] → ((l : Simpl) → with_front f l ≡ Seq c l) → made (with_fronts now) r ≡ made (with_fronts before) (r >>= λ z. Ok (Seq c z.0, z.1))
 made_front before now f c (Ok (l, n)) pushed is = ap (λ y. Ok (y, n)) (ap (λ xs. with_fronts xs l) pushed ∙ with_fronts_push before f l ∙ ap (with_fronts before) (is l))

@@ -6,7 +6,7 @@ use Rattle.std.proofs.lemmas.Bool.{false≢true, and_from, cond-true, le-leb, lt
 use Rattle.std.proofs.lemmas.Int.{ints}
 use Rattle.std.proofs.Math.IntN.{+ℤ_assoc}
 use Rattle.std.specs.Cmp.{first_so, second_so}
-use Rattle.c_values.specs.Types.{Target, Ilp32, Lp64, IntType, CType, Integer, Void, Ptr, Struct, Array, width_of, address_width, is_signed}
+use Rattle.c_values.specs.Types.{Target, Ilp32, Lp64, IntType, CType, Integer, Ptr, width_of, address_width, is_signed}
 use Rattle.c_values.specs.Word.{Word, IsWord, unsigned, word, word_op, Wmul, Wand, Wor, Wxor}
 use Rattle.c_values.specs.Value as V
 use Rattle.c_values.specs.Layout.{Layout, IsLayout, Shape, Incomplete, Scalar, Record, Row, Fields, no_fields, field, size, size_of, shape_of, is_object, is_complete, is_scalar, scalar_width, largest_size}
@@ -86,9 +86,7 @@ truth_same l t u e = subst (λ b. HasNumber true 32 (F.truth t) (int_of l b)) e 
 
 compares_same : (r : C.Relation) (m n : ℤ) → F.compares r m n ≡ M.compares r m n
 compares_same C.Less m n = refl
-compares_same C.LessEqual m n = refl
-compares_same C.Greater m n = refl
-compares_same C.GreaterEqual m n = refl
+compares_same _ _ _ = refl
 
 equates_same : (q : C.Equality) (m n : ℤ) → F.equates q m n ≡ M.equates q m n
 equates_same C.Equal m n = refl
@@ -120,9 +118,7 @@ module _ (g : Scope) (layout : IsLayout g.layout) (locals : Env) (st : State) wh
       (ap (word (width_of l.target i)) (sym (number_of_type_is from v)))
   converted_same (Ptr u) from v h =
       of_same false A (some_scalar l.target (Ptr u)) (word A (number_by (is_signed_type from) (V.word_in v))) (word A (number_of_type from v)) (word_fits _ _) (ap (word A) (sym (number_of_type_is from v)))
-  converted_same Void from v h = absurd (false≢true h)
-  converted_same (Struct x) from v h = absurd (false≢true h)
-  converted_same (Array u n) from v h = absurd (false≢true h)
+  converted_same _ _ _ h = absurd (false≢true h)
 
   module _ (i : IntType) where
     abbrev b : Bool
@@ -204,11 +200,10 @@ module _ (g : Scope) (layout : IsLayout g.layout) (locals : Env) (st : State) wh
     where
       by_test : (t : Bool) → is_index i n ≡ t → (u : Bool) → is_index i (2 ^ 32) ≡ u →
           cond {A = Option Spot} u (cond {A = Option Spot} t (element s i true) None) None ≡ element s i t
-      by_test true e true f = refl
       by_test false e true f = refl
-      by_test false e false f = refl
       by_test true e false f =
           absurd (false≢true (sym f ∙ index_small i n (le_trans (elements_few n (size s) largest_size (size_some s h.0.element) h.1) (lit≤ {m = 65536} {n = 2 ^ 32} tt)) e))
+      by_test _ _ _ _ = refl
 
   -- an index that is in bounds, and then the rest of the path
   abbrev OnElement : ℤ → Shape → ℕ → C.Path → C.Expr → ℤ → Bool → Type 0
@@ -245,16 +240,13 @@ module _ (g : Scope) (layout : IsLayout g.layout) (locals : Env) (st : State) wh
       (option_and_then {T = Spot} (λ q. reached l path q.shape (F.moved_by l (unsigned (word A x)) q.offset)) (F.element_into (Row s n) i))) (sym (number_of_type_is (C.type_of e) v ∙ h.number))
       (subst (λ o. PathSame x (Row s n) (C.Element n e path) (indexed c path >>= λ ps. Ok (Index i ∷ ps)) (option_and_then {T = Spot} (λ q. reached l path q.shape (F.moved_by l (unsigned (word A x)) q.offset)) o))
       (sym (element_in s n i part)) (element_step x s n path e i rest (is_index i n) refl))
-  index_step x s n path e part rest None (Ok v) h = absurd h
-  index_step x s n path e part rest (Some i) (Err k) h = absurd h
+  index_step _ _ _ _ _ _ _ _ _ h = absurd h
 
   -- a root and a path from there
   place_same : (t : CType) (path : C.Path) (o : Option ℤ) (d : Defined V.Value) → Matches false A o d → ((y : ℤ) → PathSame y (shape_of g.layout t) path (indexed c path) (reached g.layout path (shape_of g.layout t) (unsigned (word A y)))) →
       Matches false A (option_and_then (λ m. reached g.layout path (shape_of g.layout t) m) o)
       ((d >>= λ v. indexed c path >>= λ ps. unless (are_in_bounds path ps) K.Bounds (Ok (InMemory t (V.word_in v) ps))) >>= λ s. Ok (address_of c s))
   place_same t path None (Err k) h rest = tt
-  place_same t path None (Ok v) h rest = absurd h
-  place_same t path (Some m) (Err k) h rest = absurd h
   place_same t path (Some m) (Ok v) h rest =
       let p = V.word_in v in
       let is = bits_word A v h.bits in
@@ -271,6 +263,7 @@ module _ (g : Scope) (layout : IsLayout g.layout) (locals : Env) (st : State) wh
           Matches false A o ((d >>= λ ps. unless (are_in_bounds path ps) K.Bounds (Ok (InMemory t p ps))) >>= λ s. Ok (address_of c s))
       by_steps p o (Err k) h = subst (λ x. Matches false A x (Err k)) (sym h) tt
       by_steps p o (Ok ps) h = in_bounds p ps o (are_in_bounds path ps) h
+  place_same _ _ _ _ h _ = absurd h
 
   object_part : (t : CType) → is_object g.layout t ≡ true → IsPart (shape_of g.layout t)
   object_part t h = ((shape_good l layout t (object_whole l t h)).formed, leb-true (size_of l t) largest_size (second_so _ _ h))
@@ -290,8 +283,6 @@ module _ (g : Scope) (layout : IsLayout g.layout) (locals : Env) (st : State) wh
   mutual
     same : (e : C.Expr) → is_typed g e ≡ true → is_constant e ≡ true → At (C.type_of e) e
     same (C.Constant i n) h k = of_number (is_signed i) (width_of l.target i) (some i) n h
-    same (C.Local x t) h k = absurd (false≢true k)
-    same (C.Value p) h k = absurd (false≢true k)
     same (C.Convert t a) h k = mapped _ _ _ _ (folded l a) (value c a) (F.number_at l t) (M.converted l t (C.type_of a)) (same a (second_so _ _ (second_so _ _ h)) k) (λ v q. converted_same t (C.type_of a) v (first_so _ _ h))
     same (C.ConvertNull t a) h k = mapped _ _ _ _ (folded l a) (value c a) (F.number_at l t) (M.converted l t (C.type_of a)) (same a (second_so _ _ (second_so _ _ h)) k) (λ v q. converted_same t (C.type_of a) v (first_so _ _ h))
     same (C.Negate i a) h k =
@@ -359,6 +350,7 @@ module _ (g : Scope) (layout : IsLayout g.layout) (locals : Env) (st : State) wh
         (moved_same C.Plus t (V.word_in v) (number_by (is_signed_type (C.type_of a)) (V.word_in z)) (first_so _ _ j) (word_at (Ptr t) v q))))
     same (C.Address p t) h k = address_same p (second_so _ _ (first_so _ _ h)) k
     same (C.Decay p t) h k = address_same p (second_so _ _ (first_so _ _ h)) k
+    same _ _ k = absurd (false≢true k)
 
     address_same : (p : C.Place) → is_typed_place g p ≡ true → is_constant_place p ≡ true → Matches false A (address g.layout p) (located c p >>= λ s. Ok (address_of c s))
     address_same (C.Through t p path u) h k =
@@ -400,8 +392,7 @@ module _ (g : Scope) (layout : IsLayout g.layout) (locals : Env) (st : State) wh
   as_word t (Some n) (Ok v) h =
       let w = scalar_width l.target t in
       (bits_are w v h.bits ∙ ap V.Bits (sym (word-number (is_signed_type t) w (V.word_in v) (bits_word w v h.bits)) ∙ ap (word w) h.number), number_of_type_is t v ∙ h.number)
-  as_word t None (Ok v) h = absurd h
-  as_word t (Some n) (Err k) h = absurd h
+  as_word _ _ _ h = absurd h
 
   constant_same : (e : C.Expr) → is_typed g e ≡ true → is_constant e ≡ true → IsSameValue g.layout (C.type_of e) (constant_value g.layout e) (value c e)
   constant_same e h k = subst (λ o. IsSameValue g.layout (C.type_of e) o (value c e)) (sym (cond-true (is_constant e) (folded l e) None k)) (as_word (C.type_of e) (folded l e) (value c e) (same e h k))

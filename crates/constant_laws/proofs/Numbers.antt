@@ -36,15 +36,13 @@ pub and_then : (b b' : Bool) (w w' : ℕ) (o : Option ℤ) (r : Defined V.Value)
     ((v : V.Value) → IsBits w v → Matches b' w' (f (number_by b (V.word_in v))) (g v)) → Matches b' w' (option_and_then f o) (r >>= g)
 and_then b b' w w' None (Err k) f g h q = tt
 and_then b b' w w' (Some n) (Ok v) f g h q = subst (λ m. Matches b' w' (f m) (g v)) h.number (q v h.bits)
-and_then b b' w w' None (Ok v) f g h q = absurd h
-and_then b b' w w' (Some n) (Err k) f g h q = absurd h
+and_then _ _ _ _ _ _ _ _ h _ = absurd h
 
 pub mapped : (b b' : Bool) (w w' : ℕ) (o : Option ℤ) (r : Defined V.Value) (f : ℤ → ℤ) (g : V.Value → V.Value) → Matches b w o r →
     ((v : V.Value) → IsBits w v → HasNumber b' w' (f (number_by b (V.word_in v))) (g v)) → Matches b' w' (option_map f o) (r >>= λ v. Ok (g v))
 mapped b b' w w' None (Err k) f g h q = tt
 mapped b b' w w' (Some n) (Ok v) f g h q = subst (λ m. HasNumber b' w' (f m) (g v)) h.number (q v h.bits)
-mapped b b' w w' None (Ok v) f g h q = absurd h
-mapped b b' w w' (Some n) (Err k) f g h q = absurd h
+mapped _ _ _ _ _ _ _ _ h _ = absurd h
 
 -- a test that is the same on both sides
 pub chosen : (b : Bool) (w : ℕ) (t u : Bool) (o o' : Option ℤ) (r r' : Defined V.Value) → t ≡ u → Matches b w o r → Matches b w o' r' → Matches b w (cond t o o') (cond u r r')
@@ -97,11 +95,9 @@ module _ (b : Bool) (w : ℕ) (some : 1 ≤ w) where
       by_sign : (s : Bool) → b ≡ s → (t u : Bool) → is_between (least b w) n (greatest b w) ≡ u →
           Matches b w (cond s (cond t (cond u (Some n) None) None) (cond t (Some (number_by b r)) None)) (unless t K.Div (unless u K.Signed (Ok (V.Bits (word w n)))))
       by_sign true h true true k = of_number n k
-      by_sign true h true false k = tt
-      by_sign true h false u k = tt
       by_sign false h true true k = of_same r (word w n) (word_fits w n) (e h).1
       by_sign false h true false k = clash (is_between (least b w) n (greatest b w)) (e h).0 k
-      by_sign false h false u k = tt
+      by_sign _ _ _ _ _ = tt
 
   -- a remainder, whose quotient is of the type
   rest_same : (t : Bool) (q n : ℤ) (r : Word) → is_between (least b w) n (greatest b w) ≡ true → (b ≡ false → (is_between (least b w) q (greatest b w) ≡ true) × (r ≡ word w n)) →
@@ -112,11 +108,9 @@ module _ (b : Bool) (w : ℕ) (some : 1 ≤ w) where
           Matches b w (cond s (cond t (option_and_then (λ k. cond x (Some n) None) (cond u (Some q) None)) None) (cond t (Some (number_by b r)) None)) (unless t K.Div (unless u K.Signed (Ok (V.Bits (word w n)))))
       by_sign true h true true k true d = of_number n within
       by_sign true h true true k false d = absurd (false≢true d)
-      by_sign true h true false k x d = tt
-      by_sign true h false u k x d = tt
       by_sign false h true true k x d = of_same r (word w n) (word_fits w n) (e h).1
       by_sign false h true false k x d = clash (is_between (least b w) q (greatest b w)) (e h).0 k
-      by_sign false h false u k x d = tt
+      by_sign _ _ _ _ _ _ _ = tt
 
   module _ (x : Word) (h : IsWord w x) where
     back : word w (number_by b x) ≡ x
@@ -200,10 +194,8 @@ module _ (b : Bool) (w : ℕ) (some : 1 ≤ w) where
               Matches b w (cond c (cond s (cond (not t) None (cond u (Some (number_by b x *ℤ power_of_two z)) None)) (Some (number_by b (word_shift Wshl (word w (number_by b x)) z)))) None)
               (unless c K.Shift (unless (not s || (t && u)) K.Shift (Ok (V.Bits (word w (number_by b x *ℤ power_of_two z))))))
           by_test true c true e true true k = of_number (number_by b x *ℤ power_of_two z) k
-          by_test true c true e true false k = tt
-          by_test true c true e false u k = tt
           by_test true c false e t u k = of_same _ (word w (number_by b x *ℤ power_of_two z)) (word_fits w _) (left_unsigned e c)
-          by_test false c s e t u k = tt
+          by_test _ _ _ _ _ _ _ = tt
 
       right_word : is_shift w z ≡ true → (s : Bool) → b ≡ s → cond s (word_shift Wsshr (word w (number_by b x)) z) (word_shift Wushr (word w (number_by b x)) z) ≡ word w (int_div_euclid (number_by b x) (power_of_two z))
       right_word c true e =

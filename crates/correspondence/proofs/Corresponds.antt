@@ -100,8 +100,7 @@ module _ {Function Function' : Type 1} {X Y A B F G : Type 0} (same : Function �
       (z : X ⊎ A) (z' : Y ⊎ B) → Either next answers z z' → Corresponds answers faults (continued r z) (continued r' z')
   continue_corresponds r r' h (inl x) (inl y) e = h x y e
   continue_corresponds r r' h (inr a) (inr b) e = done_corresponds answers faults a b e
-  continue_corresponds r r' h (inl x) (inr b) e = absurd e
-  continue_corresponds r r' h (inr a) (inl y) e = absurd e
+  continue_corresponds _ _ _ _ _ e = absurd e
 
   pub loop_corresponds : (fs : List Function) (gs : List Function') → Paired same fs gs → (x : X) (y : Y) → next x y → Corresponds answers faults (loop enter body fs x) (loop enter' body' gs y)
   loop_corresponds [] [] p x y h =
@@ -128,8 +127,7 @@ module _ {Function Function' : Type 1} {X Y A B F G : Type 0} (same : Function �
       (z : X ⊎ A) (z' : Y ⊎ B) → Either next answers z z' → Corresponds answers faults (continued r z) (continued r' z')
   enter_corresponds r r' h (inl x) (inl y) e = h x y e
   enter_corresponds r r' h (inr a) (inr b) e = done_corresponds answers faults a b e
-  enter_corresponds r r' h (inl x) (inr b) e = absurd e
-  enter_corresponds r r' h (inr a) (inl y) e = absurd e
+  enter_corresponds _ _ _ _ _ e = absurd e
 
   pub leaving_corresponds : (fs : List Function) (gs : List Function') → Paired same fs gs → (x : X) (y : Y) → next x y → Corresponds answers faults (loop enter body fs x) (loop enter' body' gs y)
   leaving_corresponds [] [] p x y h =

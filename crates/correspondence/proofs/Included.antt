@@ -62,5 +62,4 @@ done_within {A} {F} a p h = record { each = at }
   where
     at : (o : Outcome A F) → done a o → p o
     at (Done b) e = subst (λ c. p (Done c)) (sym e) h
-    at (Failed f) e = absurd e
-    at (Stopped w) e = absurd e
+    at _ e = absurd e

@@ -9,24 +9,21 @@ done_once {A} {F} a = record { end = Done a; is = refl; only = only }
   where
     only : (o : Outcome A F) → done a o → o ≡ Done a
     only (Done b) e = ap Done e
-    only (Failed f) e = absurd e
-    only (Stopped w) e = absurd e
+    only _ e = absurd e
 
 pub fault_once : {A F : Type 0} (f : F) → OneEnd {A = A} {F = F} (fault f)
 fault_once {A} {F} f = record { end = Failed f; is = refl; only = only }
   where
     only : (o : Outcome A F) → fault f o → o ≡ Failed f
-    only (Done b) e = absurd e
     only (Failed g) e = ap Failed e
-    only (Stopped w) e = absurd e
+    only _ e = absurd e
 
 pub stop_once : {A F : Type 0} (w : Limit) → OneEnd {A = A} {F = F} (stop w)
 stop_once {A} {F} w = record { end = Stopped w; is = refl; only = only }
   where
     only : (o : Outcome A F) → stop w o → o ≡ Stopped w
-    only (Done b) e = absurd e
-    only (Failed g) e = absurd e
     only (Stopped v) e = ap Stopped e
+    only _ e = absurd e
 
 pub given_once : {A F : Type 0} (r : Result A F) → OneEnd (given r)
 given_once (Ok a) = done_once a

@@ -47,9 +47,8 @@ module _ {A B F : Type 0} (f : F) (rest : A → Ends B F) where
   from_fault _ (stops h) = absurd h
 
   to_fault : (o : Outcome B F) → fault f o → Then (fault {A = A} f) rest o
-  to_fault (Done b) h = absurd h
   to_fault (Failed g) h = fails h
-  to_fault (Stopped w) h = absurd h
+  to_fault _ h = absurd h
 
   -- a first part that is undefined
   pub after_fault : SameEnds (Then (fault f) rest) (fault f)

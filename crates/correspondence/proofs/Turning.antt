@@ -12,8 +12,7 @@ module _ {Function Function' : Type 1} {X Y A B F G : Type 0} (same : Function �
       (z : X ⊎ A) (z' : Y ⊎ B) → Either holds answers z z' → Corresponds answers faults (continued r z) (continued r' z')
   go_on holds r r' h (inl x) (inl y) e = h x y e
   go_on holds r r' h (inr a) (inr b) e = done_corresponds answers faults a b e
-  go_on holds r r' h (inl x) (inr b) e = absurd e
-  go_on holds r r' h (inr a) (inl y) e = absurd e
+  go_on _ _ _ _ _ _ e = absurd e
 
   pub turning_corresponds : (fs : List Function) (gs : List Function') → Paired same fs gs → (x : X) (y : Y) → next x y → Corresponds answers faults (loop enter body fs x) (loop enter' body' gs y)
   turning_corresponds [] [] p x y h =

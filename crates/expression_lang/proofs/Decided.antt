@@ -14,10 +14,9 @@ pub is_number : (m n : ℤ) → m ≡ n → int_eq m n ≡ true
 is_number m n = (Decides-int_eq m n).1
 
 pub truth_is : (a b : Bool) → same_truth a b ≡ true → a ≡ b
-truth_is true true h = refl
 truth_is true false h = absurd (false≢true h)
 truth_is false true h = absurd (false≢true h)
-truth_is false false h = refl
+truth_is _ _ _ = refl
 
 pub is_truth : (a b : Bool) → a ≡ b → same_truth a b ≡ true
 is_truth true b e = let P : Bool → Type 0 = λ x. same_truth true x ≡ true in subst P e refl

@@ -8,7 +8,7 @@ use Rattle.c_values.specs.Types.{CType, address_width}
 use Rattle.c_values.specs.Width.{IsWidth}
 use Rattle.c_values.specs.Word.{Word, IsWord, word, WordOp, Wadd, Wsub, Wmul, Wand, Wor, Wxor, Wudiv, Wumod, Wsdiv, Wsmod, ShiftOp, Wshl, Wushr, Wsshr, UnaryOp, Wneg, Wnot, word_op, word_shift, word_unary, is_shift, power_of_two, unsigned, signed}
 use Rattle.c_values.specs.Number.{quotient, remainder}
-use Rattle.c_values.specs.Value.{Value, Bits, Number, Truth, Parts, word_in, number_in, truth_in}
+use Rattle.c_values.specs.Value.{Value, Bits, Parts, word_in, number_in, truth_in}
 use Rattle.c_values.specs.Layout.{Layout, IsLayout, Shape, Incomplete, Scalar, Record, Row, Fields, type_of, shape_of, size, is_object}
 use Rattle.c_values.specs.Path.{Step, Spot, spot, member_spot, and_then_spot, further, HasShape, IsBits}
 use Rattle.c_values.proofs.Parts.{laid_shape}
@@ -37,17 +37,14 @@ IsGoodSort l (PartsSort t) = Good l (shape_of l t)
 
 pub bits_word : (n : ℕ) (v : Value) → IsBits n v → IsWord n (word_in v)
 bits_word n (Bits w) h = h
-bits_word n (Number w) h = absurd h
-bits_word n (Truth w) h = absurd h
-bits_word n (Parts w) h = absurd h
+bits_word _ _ h = absurd h
 
 no_parts : (c : S.Scalar) (v : Value) → IsOfSort c v → has_parts v ≡ false
 no_parts c (Bits w) h = refl
-no_parts c (Number w) h = refl
-no_parts c (Truth w) h = refl
 no_parts (WordSort n) (Parts vs) h = absurd h
 no_parts NumberSort (Parts vs) h = absurd h
 no_parts TruthSort (Parts vs) h = absurd h
+no_parts _ _ _ = refl
 
 -- words
 pub word_at : (m n : ℕ) (z : ℤ) → m ≡ n → IsWord n (word m z)
@@ -389,13 +386,8 @@ module _ (g : Scope) (h : IsLayout g.layout) (env : Env) (s : State)
     pub fine_path : (path : X.Path) (r q : Shape) → shape_along g path r ≡ Some q → AreFine path r q
     fine_path X.Here r q e =
         record { ready = tt; end = record { offset = pos 0; shape = r }; leads = refl; shape = (let same : r ≡ q = cc in same) }
-    fine_path (X.IntoField k path) Incomplete q e = absurd cc
-    fine_path (X.IntoField k path) (Scalar t n) q e = absurd cc
-    fine_path (X.IntoField k path) (Row r n) q e = absurd cc
     fine_path (X.IntoField k path) (Record y n align fs) q e =
         field_fine k path y n align fs q (member_spot fs k) refl e (λ r. fine_path path r q)
-    fine_path (X.IntoElement i path) Incomplete q e = absurd cc
-    fine_path (X.IntoElement i path) (Scalar t n) q e = absurd cc
-    fine_path (X.IntoElement i path) (Record y n align fs) q e = absurd cc
     fine_path (X.IntoElement i path) (Row r n) q e =
         element_fine i path r n q (is_number (sort_of g i)) refl e (λ c. fine i (Of NumberSort) c) (fine_path path r q)
+    fine_path _ _ q e = absurd cc

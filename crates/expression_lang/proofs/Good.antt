@@ -61,14 +61,11 @@ module _ (l : Layout) where
   good_member (field offset s fs) align n at (suc k) q f h e = good_member fs align n (offset + size s) k q f.others h.others e
 
   pub good_step : (s : Shape) (p : Step) (q : Spot) → Good s → step_spot s p ≡ Some q → Good q.shape
-  good_step Incomplete p q g e = absurd cc
-  good_step (Scalar t width) p q g e = absurd cc
   good_step (Record x n align fs) (Field k) q g e = good_member fs align n 0 k q g.formed.members g.laid.members e
-  good_step (Record x n align fs) (Index i) q g e = absurd cc
-  good_step (Row r n) (Field k) q g e = absurd cc
   good_step (Row r n) (Index i) q g e =
       let same : r ≡ q.shape = ap (λ v. v.shape) (some_is e) in
       subst (λ s. Good s) same (record { formed = g.formed.element; laid = g.laid })
+  good_step _ _ q g e = absurd cc
 
   pub good_spot : (s : Shape) (ps : List Step) (q : Spot) → Good s → spot s ps ≡ Some q → Good q.shape
   good_spot s [] q g e = subst (λ r. Good r) (ap (λ (v : Spot). v.shape) (some_is e)) g
@@ -93,10 +90,9 @@ member_put (field at s fs) (more v vs) (suc k) q f h e g = (h.0, member_put fs v
 
 element_put : (P : Value → Type 0) (n : ℕ) (vs : Values) (k : ℕ) (f : Value → Value) → AreElements P n vs → ((v : Value) → P v → P (f v)) → AreElements P n (with_part vs k (f (part vs k)))
 element_put P zero no_values k f h g = tt
-element_put P zero (more v vs) k f h g = absurd h
-element_put P (suc n) no_values k f h g = absurd h
 element_put P (suc n) (more v vs) zero f h g = (g v h.0, h.1)
 element_put P (suc n) (more v vs) (suc k) f h g = (h.0, element_put P n vs k f h.1 g)
+element_put _ _ _ _ _ h _ = absurd h
 
 members_put : (fs : Fields) (vs : Values) (k : ℕ) (b : Bool) (q : Spot) (f : Value → Value) → AreMembers fs vs → member_spot fs k ≡ Some q →
     ((v : Value) → HasShape q.shape v → HasShape q.shape (f v)) → AreMembers fs (with_changed vs (cond b (Some k) None) f)

@@ -4,7 +4,7 @@ use Rattle.std.specs.Prelude.{None}
 use Rattle.c_values.specs.Layout.{Layout}
 use Rattle.expression_lang.specs.declared.faults.EvalFault as F
 use Rattle.expression_lang.specs.declared.arity.Arity.TheVariants.{Binary, Place, Part, Update}
-use Rattle.expression_lang.specs.Expression.{Exp, Var, WordLit, NumberLit, TruthLit, WordBinary, WordShift, WordUnary, WordCompare, Cast, ToNat, ToInt, ToWord, Arith, Negate, Lt, Le, Between, Eq, And, Or, Imp, Not, If, Padd, At, Load, Read, Tagged, PtrOk, Global, Sel, Upd}
+use Rattle.expression_lang.specs.Expression.{Exp, WordBinary, WordShift, WordCompare, Arith, Lt, Le, Between, Eq, And, Or, Imp, If, Padd, At, Load, Read, Global, Sel, Upd}
 use Rattle.expression_lang.specs.Evaluation.{Env, State}
 use Rattle.expression_lang.specs.Wide.{wide, wide_in}
 use Rattle.expression_lang.specs.CodeFault.{IsFault}
@@ -14,20 +14,10 @@ use Rattle.expression_lang.proofs.Meeting.{met_first, met_second, met_none}
 module _ (l : Layout) (env : Env) (s : State) where
   -- in the first
   pub first_fault : (e : Exp) (f : F.EvalFault) → IsFault f (wide l env s (first_part e)) → IsFault f (wide l env s e)
-  first_fault (Var x) f h = h
-  first_fault (WordLit w) f h = h
-  first_fault (NumberLit n) f h = h
-  first_fault (TruthLit b) f h = h
   first_fault (WordBinary op a b) f h = met_first f _ _ h
   first_fault (WordShift op a n) f h = met_first f _ _ h
-  first_fault (WordUnary op a) f h = h
   first_fault (WordCompare op a b) f h = met_first f _ _ h
-  first_fault (Cast op width a) f h = h
-  first_fault (ToNat a) f h = h
-  first_fault (ToInt a) f h = h
-  first_fault (ToWord width a) f h = h
   first_fault (Arith op a b) f h = met_first f _ _ (met_first f _ _ h)
-  first_fault (Negate a) f h = h
   first_fault (Lt a b) f h = met_first f _ _ h
   first_fault (Le a b) f h = met_first f _ _ h
   first_fault (Between low a high) f h = h
@@ -35,17 +25,14 @@ module _ (l : Layout) (env : Env) (s : State) where
   first_fault (And a b) f h = met_first f _ _ h
   first_fault (Or a b) f h = met_first f _ _ h
   first_fault (Imp a b) f h = met_first f _ _ h
-  first_fault (Not a) f h = h
   first_fault (If c a b) f h = met_first f _ _ h
   first_fault (Padd t p n) f h = met_first f _ _ h
   first_fault (At t p path) f h = met_first f _ _ h
   first_fault (Load t p path) f h = met_first f _ _ h
   first_fault (Read t p path) f h = met_first f _ _ h
-  first_fault (Tagged t p) f h = h
-  first_fault (PtrOk t p) f h = h
-  first_fault (Global x path) f h = h
   first_fault (Sel e path) f h = met_first f _ _ h
   first_fault (Upd e path v) f h = met_first f _ _ (met_first f _ _ h)
+  first_fault _ _ h = h
 
   -- in the second, where there is none in the first
   pub second_fault : (e : Exp) (f : F.EvalFault) → arity_of e ≡ Binary → wide l env s (first_part e) ≡ None → IsFault f (wide l env s (second_part e)) → IsFault f (wide l env s e)

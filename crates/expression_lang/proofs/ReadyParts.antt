@@ -1,27 +1,19 @@
 -- What is taken for granted at a whole is so at its parts.
 use Rattle.std.proofs.Common.{◌≡◌, subst, sym}
 use Rattle.c_values.specs.Layout.{Layout}
-use Rattle.expression_lang.specs.Expression.{Exp, Var, WordLit, NumberLit, TruthLit, WordBinary, WordShift, WordUnary, WordCompare, Cast, ToNat, ToInt, ToWord, Arith, Negate, Lt, Le, Between, Eq, And, Or, Imp, Not, If, Padd, At, Load, Read, Tagged, PtrOk, Global, Sel, Upd, Path}
+use Rattle.expression_lang.specs.Expression.{Exp, WordBinary, WordShift, WordCompare, Cast, ToWord, Arith, Lt, Le, Between, Eq, And, Or, Imp, If, Padd, At, Load, Read, Tagged, PtrOk, Global, Sel, Upd, Path}
 use Rattle.expression_lang.specs.Evaluation.{Env, State}
 use Rattle.expression_lang.specs.CodeArity.{first_part, second_part, path_part}
 use Rattle.expression_lang.specs.CodeReady.{IsReady, AreReady}
 
 module _ (l : Layout) (env : Env) (s : State) where
   first_is : (e : Exp) → IsReady l env s e → IsReady l env s (first_part e)
-  first_is (Var x) h = h
-  first_is (WordLit w) h = h
-  first_is (NumberLit n) h = h
-  first_is (TruthLit b) h = h
   first_is (WordBinary op a b) h = h.0
   first_is (WordShift op a n) h = h.0
-  first_is (WordUnary op a) h = h
   first_is (WordCompare op a b) h = h.0
   first_is (Cast op width a) h = h.0
-  first_is (ToNat a) h = h
-  first_is (ToInt a) h = h
   first_is (ToWord width a) h = h.0
   first_is (Arith op a b) h = h.0
-  first_is (Negate a) h = h
   first_is (Lt a b) h = h.0
   first_is (Le a b) h = h.0
   first_is (Between low a high) h = h
@@ -29,7 +21,6 @@ module _ (l : Layout) (env : Env) (s : State) where
   first_is (And a b) h = h.0
   first_is (Or a b) h = h.0
   first_is (Imp a b) h = h.0
-  first_is (Not a) h = h
   first_is (If c a b) h = h.0
   first_is (Padd t p n) h = h.0
   first_is (At t p path) h = h.0
@@ -37,9 +28,9 @@ module _ (l : Layout) (env : Env) (s : State) where
   first_is (Read t p path) h = h.0
   first_is (Tagged t p) h = h.0
   first_is (PtrOk t p) h = h.0
-  first_is (Global x path) h = h
   first_is (Sel e path) h = h.0
   first_is (Upd e path v) h = h.0
+  first_is _ h = h
 
   second_is : (e : Exp) → IsReady l env s e → IsReady l env s (second_part e)
   second_is (WordBinary op a b) h = h.1

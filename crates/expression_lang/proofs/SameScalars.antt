@@ -7,14 +7,9 @@ use Rattle.expression_lang.specs.Sorted.{same_scalars}
 
 pub same_scalar_is : (a b : Scalar) → same_scalar a b ≡ true → a ≡ b
 same_scalar_is (WordSort m) (WordSort n) h = ap (λ k. WordSort k) (eqb-true m n h)
-same_scalar_is (WordSort m) NumberSort h = absurd cc
-same_scalar_is (WordSort m) TruthSort h = absurd cc
-same_scalar_is NumberSort (WordSort n) h = absurd cc
 same_scalar_is NumberSort NumberSort h = refl
-same_scalar_is NumberSort TruthSort h = absurd cc
-same_scalar_is TruthSort (WordSort n) h = absurd cc
-same_scalar_is TruthSort NumberSort h = absurd cc
 same_scalar_is TruthSort TruthSort h = refl
+same_scalar_is _ _ h = absurd cc
 
 pub same_scalars_are : (as' bs : List Scalar) → same_scalars as' bs ≡ true → as' ≡ bs
 same_scalars_are [] [] h = refl
@@ -25,8 +20,7 @@ same_scalars_are (a ∷ as') (b ∷ bs) h =
 
 pub same_scalar-refl : (c : Scalar) → same_scalar c c ≡ true
 same_scalar-refl (WordSort n) = (Decides-eqb n n).1 refl
-same_scalar-refl NumberSort = refl
-same_scalar-refl TruthSort = refl
+same_scalar-refl _ = refl
 
 pub same_scalars-refl : (cs : List Scalar) → same_scalars cs cs ≡ true
 same_scalars-refl [] = refl

@@ -18,31 +18,15 @@ use Rattle.c_values.specs.declared.values.GlobalVar as G
 
 pub scalar_here : (c : S.Scalar) (v : Value) → IsOfSort c v → IsScalar v
 scalar_here (WordSort n) (Bits w) h = record { has_width = refl; fits = subst (λ k. w.bits < 2 ^ k) (sym h.has_width) h.fits }
-scalar_here (WordSort n) (Number z) h = absurd h
-scalar_here (WordSort n) (Truth b) h = absurd h
-scalar_here (WordSort n) (Parts vs) h = absurd h
 scalar_here NumberSort (Number z) h = tt
-scalar_here NumberSort (Bits w) h = absurd h
-scalar_here NumberSort (Truth b) h = absurd h
-scalar_here NumberSort (Parts vs) h = absurd h
 scalar_here TruthSort (Truth b) h = tt
-scalar_here TruthSort (Bits w) h = absurd h
-scalar_here TruthSort (Number z) h = absurd h
-scalar_here TruthSort (Parts vs) h = absurd h
+scalar_here _ _ h = absurd h
 
 pub scalar_is : (c : S.Scalar) (v : Value) → IsOfSort c v → scalar_of_value v ≡ Some c
 scalar_is (WordSort n) (Bits w) h = ap (λ k. Some (WordSort k)) h.has_width
-scalar_is (WordSort n) (Number z) h = absurd h
-scalar_is (WordSort n) (Truth b) h = absurd h
-scalar_is (WordSort n) (Parts vs) h = absurd h
 scalar_is NumberSort (Number z) h = refl
-scalar_is NumberSort (Bits w) h = absurd h
-scalar_is NumberSort (Truth b) h = absurd h
-scalar_is NumberSort (Parts vs) h = absurd h
 scalar_is TruthSort (Truth b) h = refl
-scalar_is TruthSort (Bits w) h = absurd h
-scalar_is TruthSort (Number z) h = absurd h
-scalar_is TruthSort (Parts vs) h = absurd h
+scalar_is _ _ h = absurd h
 
 pub scalar_has : (v : Value) (c : S.Scalar) → IsScalar v → scalar_of_value v ≡ Some c → IsOfSort c v
 scalar_has (Bits w) c h e = let same : WordSort w.width ≡ c = cc in subst (λ d. IsOfSort d (Bits w)) same h

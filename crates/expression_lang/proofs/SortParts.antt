@@ -6,7 +6,7 @@ use Rattle.c_values.specs.Value.{Value}
 use Rattle.c_values.specs.Path.{HasShape}
 use Rattle.c_values.proofs.Laid.{structs_of}
 use Rattle.c_values.proofs.Parts.{laid_shape}
-use Rattle.expression_lang.specs.Sort.{Scalar, Sort, Of, PartsSort, Scope, sort_of, sort_at}
+use Rattle.expression_lang.specs.Sort.{Scalar, Sort, Of, Scope, sort_of, sort_at}
 use Rattle.expression_lang.specs.Sorted.{with_scalar, scalar_in, program_sort, fits_place, sort_in}
 use Rattle.expression_lang.specs.Expression.{Exp}
 use Rattle.expression_lang.specs.Form.{has, is_part_of_value}
@@ -16,14 +16,12 @@ use Rattle.expression_lang.proofs.Fine.{HasSort}
 
 pub with_scalar_inv : (o : Option Scalar) (p : Option (List Scalar)) (cs : List Scalar) → with_scalar o p ≡ Some cs → (d : Scalar) × (ds : List Scalar) × (o ≡ Some d) × (p ≡ Some ds) × (d ∷ ds ≡ cs)
 with_scalar_inv (Some d) (Some ds) cs h = (d, ds, refl, refl, some_is h)
-with_scalar_inv (Some d) None cs h = absurd cc
 with_scalar_inv None (Some ds) cs h = absurd cc
-with_scalar_inv None None cs h = absurd cc
+with_scalar_inv _ _ cs h = absurd cc
 
 pub scalar_in_inv : (o : Option Sort) (c : Scalar) → scalar_in o ≡ Some c → o ≡ Some (Of c)
 scalar_in_inv (Some (Of d)) c h = ap (λ e. Some (Of e)) (some_is h)
-scalar_in_inv (Some (PartsSort t)) c h = absurd cc
-scalar_in_inv None c h = absurd cc
+scalar_in_inv _ c h = absurd cc
 
 pub without_parts : (b : Bool) (p : Option Sort) (o : Sort) → cond b None p ≡ Some o → p ≡ Some o
 without_parts true p o h = absurd cc
@@ -34,9 +32,8 @@ program_sort_inv g e o h = without_parts (has is_part_of_value e) (sort_of g e) 
 
 pub fits_inv : (a b : Option Sort) → fits_place a b ≡ true → (o : Sort) × (a ≡ Some o) × (b ≡ Some o)
 fits_inv (Some a) (Some b) h = same_inv (Some a) (Some b) h
-fits_inv (Some a) None h = absurd cc
 fits_inv None (Some b) h = absurd cc
-fits_inv None None h = absurd cc
+fits_inv _ _ h = absurd cc
 
 pub only_where : (b : Bool) (p : Option Sort) (o : Sort) → cond b p None ≡ Some o → (b ≡ true) × (p ≡ Some o)
 only_where true p o h = (refl, h)

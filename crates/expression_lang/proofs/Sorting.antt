@@ -33,10 +33,9 @@ pub struct_is : (l : Layout) (x : Name) → IsStructShape (shape_of l (Struct x)
 struct_is l x = structs_are l.target (λ y. Incomplete) l.structs (λ y. tt) x
 
 no_element : (s : Shape) → IsStructShape s → element_in s ≡ None
-no_element Incomplete h = refl
-no_element (Record x n align fs) h = refl
 no_element (Scalar t width) h = absurd h
 no_element (Row e n) h = absurd h
+no_element _ _ = refl
 
 pub struct_element : (l : Layout) (x : Name) → element_in (shape_of l (Struct x)) ≡ None
 struct_element l x = no_element (shape_of l (Struct x)) (struct_is l x)
@@ -44,8 +43,7 @@ struct_element l x = no_element (shape_of l (Struct x)) (struct_is l x)
 parts_sort_at : (s : Shape) (x : Name) → IsStructShape s → is_complete s ≡ true → type_of s ≡ Struct x → ◌≡◌ {A = Option Sort} (Some (PartsSort (Struct x))) (sort_at s)
 parts_sort_at Incomplete x h c e = absurd (false≢true c)
 parts_sort_at (Record y n align fs) x h c e = ap (λ t. Some (PartsSort t)) (sym e)
-parts_sort_at (Scalar t width) x h c e = absurd h
-parts_sort_at (Row s n) x h c e = absurd h
+parts_sort_at _ _ h _ _ = absurd h
 
 pub struct_sort : (l : Layout) (x : Name) → IsLayout l → is_complete (shape_of l (Struct x)) ≡ true → ◌≡◌ {A = Option Sort} (Some (PartsSort (Struct x))) (sort_at (shape_of l (Struct x)))
 struct_sort l x h c = parts_sort_at (shape_of l (Struct x)) x (struct_is l x) c (shape_type l h (Struct x) c)
@@ -63,23 +61,18 @@ member_complete (field at s fs) (suc k) q c e = member_complete fs k q (and_part
 
 pub along_complete : (g : Scope) (path : Path) (s q : Shape) → shape_along g path s ≡ Some q → is_complete s ≡ true → is_complete q ≡ true
 along_complete g Here s q e c = let same : s ≡ q = cc in subst (λ r. is_complete r ≡ true) same c
-along_complete g (IntoField k path) Incomplete q e c = absurd cc
-along_complete g (IntoField k path) (Scalar t width) q e c = absurd cc
-along_complete g (IntoField k path) (Row r n) q e c = absurd cc
 along_complete g (IntoField k path) (Record x n align fs) q e c = by_member (member_spot fs k) refl e (λ r. along_complete g path r q)
   where
     by_member : (o : Option Spot) → member_spot fs k ≡ o → shape_in o (λ s. shape_along g path s) ≡ Some q →
         ((r : Shape) → shape_along g path r ≡ Some q → is_complete r ≡ true → is_complete q ≡ true) → is_complete q ≡ true
     by_member None same h rest = absurd cc
     by_member (Some r) same h rest = rest r.shape h (member_complete fs k r c same)
-along_complete g (IntoElement i path) Incomplete q e c = absurd cc
-along_complete g (IntoElement i path) (Scalar t width) q e c = absurd cc
-along_complete g (IntoElement i path) (Record x n align fs) q e c = absurd cc
 along_complete g (IntoElement i path) (Row r n) q e c = by_index (is_number (sort_of g i)) e (along_complete g path r q)
   where
     by_index : (b : Bool) → cond b (shape_along g path r) None ≡ Some q → (shape_along g path r ≡ Some q → is_complete r ≡ true → is_complete q ≡ true) → is_complete q ≡ true
     by_index true h rest = rest h (and_parts (nat_lt 0 n) (is_complete r) c).1
     by_index false h rest = absurd cc
+along_complete g _ _ q e c = absurd cc
 
 -- the same of an answer that is there
 pub some_complete : (g : Scope) (path : Path) (s : Shape) (o : Option Shape) → o ≡ shape_along g path s → is_complete s ≡ true → IfSome o (λ q. is_complete q ≡ true)

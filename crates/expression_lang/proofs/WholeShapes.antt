@@ -2,7 +2,7 @@
 use Rattle.std.proofs.Common.{◌≡◌, ℕ, ◌^◌, ◌==◌, nat_lt, Bool, true, false, not, cond, ◌&&◌, Option, Some, None, refl, sym, ap, subst}
 use Rattle.std.proofs.lemmas.Bool.{and_parts}
 use Rattle.c_values.specs.Types.{CType, address_width}
-use Rattle.c_values.specs.Layout.{Layout, IsLayout, Shape, Incomplete, Scalar, Record, Row, shape_of, is_complete, is_object}
+use Rattle.c_values.specs.Layout.{Layout, IsLayout, Shape, Scalar, Record, Row, shape_of, is_complete, is_object}
 use Rattle.c_values.specs.Path.{Spot, member_spot}
 use Rattle.c_values.proofs.Laid.{structs_of}
 use Rattle.c_values.proofs.Parts.{laid_shape}
@@ -32,8 +32,7 @@ module _ (g : Scope) (h : IsLayout g.layout) where
 
   words_whole : (a b : Option ℕ) (f : ℕ → Option Sort) → ((n : ℕ) → IsWhole g.layout (f n)) → IsWhole g.layout (of_words a b f)
   words_whole (Some m) (Some n) f w = where_whole (m == n) (f m) (λ e. w m)
-  words_whole (Some m) None f w = tt
-  words_whole None b f w = tt
+  words_whole _ _ _ _ = tt
 
   word_whole : (a : Option ℕ) (f : ℕ → Option Sort) → ((n : ℕ) → IsWhole g.layout (f n)) → IsWhole g.layout (of_word a f)
   word_whole (Some n) f w = w n
@@ -53,30 +52,24 @@ module _ (g : Scope) (h : IsLayout g.layout) where
 
   -- what lies at a good shape
   place_whole : (s : Shape) → Good g.layout s → IsWhole g.layout (sort_at s)
-  place_whole Incomplete k = tt
-  place_whole (Scalar t n) k = tt
   place_whole (Record x n align fs) k = subst (λ r. Good g.layout r) (sym (laid_shape g.layout.target (structs_of g.layout) (Record x n align fs) k.laid)) k
   place_whole (Row r n) k = subst (λ r'. Good g.layout r') (sym (laid_shape g.layout.target (structs_of g.layout) (Row r n) k.laid)) k
+  place_whole _ _ = tt
 
   along_good : (path : X.Path) (s q : Shape) → shape_along g path s ≡ Some q → Good g.layout s → Good g.layout q
   along_good X.Here s q e k = let same : s ≡ q = cc in subst (λ r. Good g.layout r) same k
-  along_good (X.IntoField i path) Incomplete q e k = absurd cc
-  along_good (X.IntoField i path) (Scalar t n) q e k = absurd cc
-  along_good (X.IntoField i path) (Row r n) q e k = absurd cc
   along_good (X.IntoField i path) (Record x n align fs) q e k = by_member (member_spot fs i) refl e (λ r. along_good path r q)
     where
       by_member : (o : Option Spot) → member_spot fs i ≡ o → shape_in o (λ r. shape_along g path r) ≡ Some q →
           ((r : Shape) → shape_along g path r ≡ Some q → Good g.layout r → Good g.layout q) → Good g.layout q
       by_member None same e' rest = absurd cc
       by_member (Some r) same e' rest = rest r.shape e' (good_member g.layout fs align n 0 i r k.formed.members k.laid.members same)
-  along_good (X.IntoElement i path) Incomplete q e k = absurd cc
-  along_good (X.IntoElement i path) (Scalar t n) q e k = absurd cc
-  along_good (X.IntoElement i path) (Record x n align fs) q e k = absurd cc
   along_good (X.IntoElement i path) (Row r n) q e k = by_index (is_number (sort_of g i)) e (along_good path r q)
     where
       by_index : (b : Bool) → cond b (shape_along g path r) None ≡ Some q → (shape_along g path r ≡ Some q → Good g.layout r → Good g.layout q) → Good g.layout q
       by_index true e' rest = rest e' (record { formed = k.formed.element; laid = k.laid })
       by_index false e' rest = absurd cc
+  along_good _ _ q e k = absurd cc
 
   -- the sort of a part
   abbrev part_at : X.Path → Shape → Option Sort
@@ -91,15 +84,12 @@ module _ (g : Scope) (h : IsLayout g.layout) where
       (λ e. part_whole path (shape_of g.layout t) (good_object g.layout t h (and_parts (is_object g.layout t) b e).0))
 
   parts_whole : (o : Option Sort) (f : Shape → Option Sort) → IsWhole g.layout o → ((s : Shape) → Good g.layout s → IsWhole g.layout (f s)) → IsWhole g.layout (of_shape (parts_shape g.layout o) f)
-  parts_whole None f k w = tt
-  parts_whole (Some (Of c)) f k w = tt
   parts_whole (Some (PartsSort t)) f k w = w (shape_of g.layout t) k
+  parts_whole _ _ _ _ = tt
 
   pub sort_whole : (e : X.Exp) → IsWhole g.layout (sort_of g e)
   sort_whole (X.Var x) = scalar_whole (g.names x)
   sort_whole (X.WordLit w) = of_whole (is_width w.width && nat_lt w.bits (2 ^ w.width)) (WordSort w.width)
-  sort_whole (X.NumberLit n) = tt
-  sort_whole (X.TruthLit b) = tt
   sort_whole (X.WordBinary op a b) = words_whole (word_width (sort_of g a)) (word_width (sort_of g b)) word_sort (λ n. tt)
   sort_whole (X.WordShift op a n) =
       where_whole (is_number (sort_of g n)) (of_word (word_width (sort_of g a)) word_sort) (λ e. word_whole (word_width (sort_of g a)) word_sort (λ m. tt))
@@ -140,12 +130,12 @@ module _ (g : Scope) (h : IsLayout g.layout) where
       parts_whole (sort_of g a) (λ s. of_shape (shape_along g path s) (λ q. where_holds (are_same (sort_at q) (sort_of g v)) (sort_of g a))) (sort_whole a)
       (λ s k. shape_whole (shape_along g path s) (λ q. where_holds (are_same (sort_at q) (sort_of g v)) (sort_of g a))
       (λ q e. where_whole (are_same (sort_at q) (sort_of g v)) (sort_of g a) (λ e'. sort_whole a)))
+  sort_whole _ = tt
 
   -- the type whose parts an expression's value has
   pub parts_complete : (e : X.Exp) (t : CType) → sort_of g e ≡ Some (PartsSort t) → is_complete (shape_of g.layout t) ≡ true
   parts_complete e t is = good_whole g.layout (shape_of g.layout t) (subst (λ o. IsWhole g.layout o) is (sort_whole e))
 
 pub parts_are : (o : Option Sort) (t : CType) → Some t ≡ parts_type o → o ≡ Some (PartsSort t)
-parts_are None t e = absurd cc
-parts_are (Some (Of s)) t e = absurd cc
 parts_are (Some (PartsSort u)) t e = let same : t ≡ u = cc in ap (λ v. Some (PartsSort v)) (sym same)
+parts_are _ t e = absurd cc

@@ -1,6 +1,6 @@
 -- The first step in an expression is one there, or else one in a part.
 use Rattle.std.proofs.Common.{◌≡◌, List, Option, Some, None, refl, ap, ◌∙◌}
-use Rattle.expression_lang.specs.Expression.{Exp, Var, WordLit, NumberLit, TruthLit, WordBinary, WordShift, WordUnary, WordCompare, Cast, ToNat, ToInt, ToWord, Arith, Negate, Lt, Le, Between, Eq, And, Or, Imp, Not, If, Padd, At, Load, Read, Tagged, PtrOk, Global, Sel, Upd}
+use Rattle.expression_lang.specs.Expression.{Exp, Var, WordLit, NumberLit, TruthLit, Between, Sel, Upd}
 use Rattle.expression_lang.specs.CodeShape.{shape_of}
 use Rattle.ac_expr.specs.Fact.{Fact}
 use Rattle.expression_steps.specs.Rewritten.{Choice, or_else, first_step}
@@ -15,34 +15,10 @@ by_shape f fs (Var x) = or_none (f fs (Var x))
 by_shape f fs (WordLit w) = or_none (f fs (WordLit w))
 by_shape f fs (NumberLit n) = or_none (f fs (NumberLit n))
 by_shape f fs (TruthLit b) = or_none (f fs (TruthLit b))
-by_shape f fs (WordBinary op a b) = refl
-by_shape f fs (WordShift op a n) = refl
-by_shape f fs (WordUnary op a) = refl
-by_shape f fs (WordCompare op a b) = refl
-by_shape f fs (Cast op width a) = refl
-by_shape f fs (ToNat a) = refl
-by_shape f fs (ToInt a) = refl
-by_shape f fs (ToWord width a) = refl
-by_shape f fs (Arith op a b) = refl
-by_shape f fs (Negate a) = refl
-by_shape f fs (Lt a b) = refl
-by_shape f fs (Le a b) = refl
 by_shape f fs (Between low a high) = refl
-by_shape f fs (Eq a b) = refl
-by_shape f fs (And a b) = refl
-by_shape f fs (Or a b) = refl
-by_shape f fs (Imp a b) = refl
-by_shape f fs (Not a) = refl
-by_shape f fs (If c a b) = refl
-by_shape f fs (Padd t p n) = refl
-by_shape f fs (At t p path) = refl
-by_shape f fs (Load t p path) = refl
-by_shape f fs (Read t p path) = refl
-by_shape f fs (Tagged t p) = refl
-by_shape f fs (PtrOk t p) = refl
-by_shape f fs (Global x path) = refl
 by_shape f fs (Sel e path) = or_none (f fs (Sel e path))
 by_shape f fs (Upd e path v) = or_none (f fs (Upd e path v))
+by_shape _ _ _ = refl
 
 -- a step there
 pub step_itself : (f : Choice) (fs : List Fact) (e new : Exp) → f fs e ≡ Some new → first_step f fs e ≡ Some new

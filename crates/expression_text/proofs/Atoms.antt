@@ -61,16 +61,7 @@ number_atom (negsuc n) h = negative (decimal (n + 1)) (decimal_atom (n + 1) (ltb
 
 pub int_type_atom : (i : T.IntType) → is_atom (int_type_word i) ≡ true
 int_type_atom T.Char = refl
-int_type_atom T.SChar = refl
-int_type_atom T.UChar = refl
-int_type_atom T.Short = refl
-int_type_atom T.UShort = refl
-int_type_atom T.Int = refl
-int_type_atom T.UInt = refl
-int_type_atom T.Long = refl
-int_type_atom T.ULong = refl
-int_type_atom T.LLong = refl
-int_type_atom T.ULLong = refl
+int_type_atom _ = refl
 
 pub width_small : (n : ℕ) → is_width n ≡ true → n ≤ 64
 width_small n h = by_last (or_cases (n == 8 || n == 16 || n == 32) (n == 64) h)

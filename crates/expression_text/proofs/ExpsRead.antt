@@ -22,140 +22,45 @@ use Rattle.expression_text.specs.ExpRows.{row_at, list_at, exp_by, field_step, e
 use Rattle.expression_text.proofs.LookedUp.{AreFound, looked_up_from}
 
 row_is : (at inner : ℕ) (r : Row) (ts : Trees) → built_exp_at at inner (Some r) ts ≡ row_at at inner r ts
-row_is at inner WordRow no_trees = refl
-row_is at inner WordRow (more t no_trees) = refl
 row_is at inner WordRow (more t (more u no_trees)) = refl
-row_is at inner WordRow (more t (more u (more v us))) = refl
-row_is at inner (UnaryRow one) no_trees = refl
 row_is at inner (UnaryRow one) (more t no_trees) = refl
-row_is at inner (UnaryRow one) (more t (more u us)) = refl
-row_is at inner (SizedRow sized) no_trees = refl
-row_is at inner (SizedRow sized) (more t no_trees) = refl
 row_is at inner (SizedRow sized) (more t (more u no_trees)) = refl
-row_is at inner (SizedRow sized) (more t (more u (more v us))) = refl
-row_is at inner (TwoRow two) no_trees = refl
-row_is at inner (TwoRow two) (more t no_trees) = refl
 row_is at inner (TwoRow two) (more t (more u no_trees)) = refl
-row_is at inner (TwoRow two) (more t (more u (more v us))) = refl
-row_is at inner BetweenRow no_trees = refl
-row_is at inner BetweenRow (more t no_trees) = refl
-row_is at inner BetweenRow (more t (more u no_trees)) = refl
 row_is at inner BetweenRow (more t (more u (more v no_trees))) = refl
-row_is at inner BetweenRow (more t (more u (more v (more w us)))) = refl
-row_is at inner IfRow no_trees = refl
-row_is at inner IfRow (more t no_trees) = refl
-row_is at inner IfRow (more t (more u no_trees)) = refl
 row_is at inner IfRow (more t (more u (more v no_trees))) = refl
-row_is at inner IfRow (more t (more u (more v (more w us)))) = refl
-row_is at inner PaddRow no_trees = refl
-row_is at inner PaddRow (more t no_trees) = refl
-row_is at inner PaddRow (more t (more u no_trees)) = refl
 row_is at inner PaddRow (more t (more u (more v no_trees))) = refl
-row_is at inner PaddRow (more t (more u (more v (more w us)))) = refl
-row_is at inner (RootRow root) no_trees = refl
-row_is at inner (RootRow root) (more t no_trees) = refl
 row_is at inner (RootRow root) (more t (more u no_trees)) = refl
-row_is at inner (RootRow root) (more t (more u (more v us))) = refl
-row_is at inner (PlaceRow place) no_trees = refl
 row_is at inner (PlaceRow place) (more t no_trees) = refl
-row_is at inner (PlaceRow place) (more t (more u us)) = refl
 row_is at inner GlobalRow no_trees = refl
-row_is at inner GlobalRow (more t us) = refl
-row_is at inner SelRow no_trees = refl
-row_is at inner SelRow (more t no_trees) = refl
 row_is at inner SelRow (more t (more u no_trees)) = refl
-row_is at inner SelRow (more t (more u (more v us))) = refl
-row_is at inner UpdRow no_trees = refl
-row_is at inner UpdRow (more t no_trees) = refl
-row_is at inner UpdRow (more t (more u no_trees)) = refl
 row_is at inner UpdRow (more t (more u (more v no_trees))) = refl
-row_is at inner UpdRow (more t (more u (more v (more w us)))) = refl
+row_is _ _ _ _ = refl
 
 none_is : (at inner : ℕ) (ts : Trees) → built_exp_at at inner None ts ≡ Err at
-none_is at inner no_trees = refl
-none_is at inner (more t no_trees) = refl
-none_is at inner (more t (more u no_trees)) = refl
 none_is at inner (more t (more u (more v no_trees))) = refl
-none_is at inner (more t (more u (more v (more w us)))) = refl
+none_is _ _ _ = refl
 
 list_is : (at : ℕ) (r : Option Row) (ts : Trees) → built_exp_at at (next (next at)) r ts ≡ list_at at r ts
 list_is at None ts = none_is at (next (next at)) ts
 list_is at (Some r) ts = row_is at (next (next at)) r ts
 
 pub exp_is : (at : ℕ) (t : Tree) → exp_at at t ≡ exp_by at (word_in t) (headed_in t)
-exp_is at (Atom word) = refl
-exp_is at (Node no_trees) = refl
-exp_is at (Node (more (Node us) ts)) = refl
 exp_is at (Node (more (Atom head) ts)) = list_is at (row_in (looked_up head_word heads head)) ts
+exp_is _ _ = refl
 
 step_list_is : (at : ℕ) (h : Option StepHead) (ts : Trees) → built_step_at at (next (next at)) h ts ≡ step_list_at at h ts
-step_list_is at None no_trees = refl
 step_list_is at None (more t no_trees) = refl
-step_list_is at None (more t (more u us)) = refl
-step_list_is at (Some FieldStep) no_trees = refl
 step_list_is at (Some FieldStep) (more t no_trees) = refl
-step_list_is at (Some FieldStep) (more t (more u us)) = refl
-step_list_is at (Some ElementStep) no_trees = refl
 step_list_is at (Some ElementStep) (more t no_trees) = refl
-step_list_is at (Some ElementStep) (more t (more u us)) = refl
+step_list_is _ _ _ = refl
 
 pub step_is : (at : ℕ) (t : Tree) → step_at at t ≡ step_by at (headed_in t)
-step_is at (Atom word) = refl
-step_is at (Node no_trees) = refl
-step_is at (Node (more (Node us) ts)) = refl
 step_is at (Node (more (Atom head) ts)) = step_list_is at (step_head head) ts
+step_is _ _ = refl
 
 pub heads_found : AreFound head_word heads
 heads_found H.Word = refl
-heads_found H.Wadd = refl
-heads_found H.Wsub = refl
-heads_found H.Wmul = refl
-heads_found H.Wand = refl
-heads_found H.Wor = refl
-heads_found H.Wxor = refl
-heads_found H.Wudiv = refl
-heads_found H.Wumod = refl
-heads_found H.Wsdiv = refl
-heads_found H.Wsmod = refl
-heads_found H.Wshl = refl
-heads_found H.Wushr = refl
-heads_found H.Wsshr = refl
-heads_found H.Wneg = refl
-heads_found H.Wnot = refl
-heads_found H.Wult = refl
-heads_found H.Wule = refl
-heads_found H.Wslt = refl
-heads_found H.Wsle = refl
-heads_found H.Zext = refl
-heads_found H.Sext = refl
-heads_found H.Trunc = refl
-heads_found H.Nat = refl
-heads_found H.Int = refl
-heads_found H.ToWord = refl
-heads_found H.Add = refl
-heads_found H.Sub = refl
-heads_found H.Mul = refl
-heads_found H.Div = refl
-heads_found H.Mod = refl
-heads_found H.Neg = refl
-heads_found H.Lt = refl
-heads_found H.Le = refl
-heads_found H.Between = refl
-heads_found H.Eq = refl
-heads_found H.And = refl
-heads_found H.Or = refl
-heads_found H.Imp = refl
-heads_found H.Not = refl
-heads_found H.If = refl
-heads_found H.Padd = refl
-heads_found H.At = refl
-heads_found H.Load = refl
-heads_found H.Read = refl
-heads_found H.Tagged = refl
-heads_found H.PtrOk = refl
-heads_found H.Global = refl
-heads_found H.Sel = refl
-heads_found H.Upd = refl
+heads_found _ = refl
 
 pub word_given : (at : ℕ) (word : Name) (t : Tree) → Some word ≡ word_in t → leaf_at at word ≡ exp_at at t
 word_given at word t e = ap (λ (o : Option Name). exp_by at o (headed_in t)) e ∙ sym (exp_is at t)

@@ -218,22 +218,17 @@ row_word word (Some h) r found e =
     (sym (looked_up_is head_word heads word h found) ∙ ap head_word (sym (head_of_row h) ∙ ap row_head same), ap is_row (sym same) ∙ head_has_row h)
 
 one_text : (one : S.One) → is_bare one ≡ true → (a : E.Exp) → exp_tree (S.whole_one one a) ≡ headed (R.one_head one) (more (exp_tree a) no_trees)
-one_text (S.UnaryOne op) bare a = refl
 one_text (S.CastOne op width) bare a = absurd (false≢true bare)
-one_text S.ToNatOne bare a = refl
-one_text S.ToIntOne bare a = refl
 one_text (S.ToWordOne width) bare a = absurd (false≢true bare)
-one_text S.NegateOne bare a = refl
-one_text S.NotOne bare a = refl
+one_text _ _ _ = refl
 
 one_fine : (one : S.One) → is_bare one ≡ true → (a : E.Exp) → is_exp a ≡ true → is_exp (S.whole_one one a) ≡ true
 one_fine (S.UnaryOne op) bare a is = is
-one_fine (S.CastOne op width) bare a is = absurd (false≢true bare)
 one_fine S.ToNatOne bare a is = is
 one_fine S.ToIntOne bare a is = is
-one_fine (S.ToWordOne width) bare a is = absurd (false≢true bare)
 one_fine S.NegateOne bare a is = is
 one_fine S.NotOne bare a is = is
+one_fine _ bare _ _ = absurd (false≢true bare)
 
 sized_text : (sized : R.Sized) (width : ℕ) (a : E.Exp) → exp_tree (S.whole_one (R.sized_one sized width) a) ≡ headed (sized_head sized) (more (Atom (decimal width)) (more (exp_tree a) no_trees))
 sized_text (R.CastSized op) width a = refl
@@ -245,15 +240,7 @@ sized_fine R.ToWordSized width a w is = and_from (is_width width) (is_exp a) w i
 
 two_text : (two : S.Two) (a b : E.Exp) → exp_tree (S.whole_two two a b) ≡ headed (R.two_head two) (more (exp_tree a) (more (exp_tree b) no_trees))
 two_text (S.BinaryTwo op) a b = refl
-two_text (S.ShiftTwo op) a b = refl
-two_text (S.CompareTwo op) a b = refl
-two_text (S.ArithTwo op) a b = refl
-two_text S.LtTwo a b = refl
-two_text S.LeTwo a b = refl
-two_text S.EqTwo a b = refl
-two_text S.AndTwo a b = refl
-two_text S.OrTwo a b = refl
-two_text S.ImpTwo a b = refl
+two_text _ _ _ = refl
 
 two_fine : (two : S.Two) → is_pair two ≡ true → (a b : E.Exp) → is_exp a ≡ true → is_exp b ≡ true → is_exp (S.whole_two two a b) ≡ true
 two_fine (S.BinaryTwo op) pair a b f g = and_from (is_exp a) (is_exp b) f g
@@ -277,8 +264,7 @@ root_fine S.PtrOkRoot ty p f g = and_from (is_type ty) (is_exp p) f g
 
 place_text : (place : S.PlaceHead) (ty : CType) (p : E.Exp) (path : E.Path) → exp_tree (S.whole_place place ty p path) ≡ headed (R.place_head place) (more (type_tree ty) (more (exp_tree p) (step_trees path)))
 place_text S.AtPlace ty p path = refl
-place_text S.LoadPlace ty p path = refl
-place_text S.ReadPlace ty p path = refl
+place_text _ _ _ _ = refl
 
 place_fine : (place : S.PlaceHead) (ty : CType) (p : E.Exp) (path : E.Path) → is_type ty ≡ true → is_exp p ≡ true → is_path path ≡ true → is_exp (S.whole_place place ty p path) ≡ true
 place_fine S.AtPlace ty p path f g h = and_from (is_type ty) (is_exp p && is_path path) f (and_from (is_exp p) (is_path path) g h)
@@ -317,10 +303,9 @@ element_found word e = (step_found word ElementStep (same_name word field_word) 
 mutual
   pub exp_spells : (t : Tree) (at : ℕ) (e : E.Exp) (n : ℕ) → exp_at at t ≡ Ok (e, n) → IsExpText t e
   exp_spells (Atom word) at e n read = leaf_spells word at e n read
-  exp_spells (Node no_trees) at e n read = absurd cc
-  exp_spells (Node (more (Node us) ts)) at e n read = absurd cc
   exp_spells (Node (more (Atom word) ts)) at e n read =
       built_spells word (row_in (looked_up head_word heads word)) ts at (next (next at)) e n (λ r found. row_word word (looked_up head_word heads word) r refl found) read
+  exp_spells _ at e n read = absurd cc
 
   built_spells : (word : Name) (o : Option R.Row) (ts : Trees) (at inner : ℕ) (e : E.Exp) (n : ℕ) → ((r : R.Row) → o ≡ Some r → (word ≡ head_word (row_head r)) × (is_row r ≡ true)) → built_exp_at at inner o ts ≡ Ok (e, n) →
       IsExpText (Node (more (Atom word) ts)) e
@@ -440,46 +425,8 @@ mutual
       exp_moved (E.Upd x.0 y.0 z.0) e (value_ok (E.Upd x.0 y.0 z.0) z.1 e n last)
       (headed_as word (head_word H.Upd) (more t (more u (more v no_trees))) w.0 ∙ three (head_word H.Upd) h.0 k.0 l.0)
       (and_from (is_exp x.0) (is_path y.0 && is_exp z.0) h.1 (and_from (is_path y.0) (is_exp z.0) k.1 l.1))
-  built_spells word (Some R.WordRow) no_trees at inner e n found read = absurd cc
-  built_spells word (Some R.WordRow) (more t no_trees) at inner e n found read = absurd cc
-  built_spells word (Some R.WordRow) (more t (more u (more w ws))) at inner e n found read = absurd cc
-  built_spells word (Some (R.UnaryRow one)) no_trees at inner e n found read = absurd cc
-  built_spells word (Some (R.UnaryRow one)) (more t (more w ws)) at inner e n found read = absurd cc
-  built_spells word (Some (R.SizedRow sized)) no_trees at inner e n found read = absurd cc
-  built_spells word (Some (R.SizedRow sized)) (more t no_trees) at inner e n found read = absurd cc
-  built_spells word (Some (R.SizedRow sized)) (more t (more u (more w ws))) at inner e n found read = absurd cc
-  built_spells word (Some (R.TwoRow two)) no_trees at inner e n found read = absurd cc
-  built_spells word (Some (R.TwoRow two)) (more t no_trees) at inner e n found read = absurd cc
-  built_spells word (Some (R.TwoRow two)) (more t (more u (more w ws))) at inner e n found read = absurd cc
-  built_spells word (Some R.BetweenRow) no_trees at inner e n found read = absurd cc
-  built_spells word (Some R.BetweenRow) (more t no_trees) at inner e n found read = absurd cc
-  built_spells word (Some R.BetweenRow) (more t (more u no_trees)) at inner e n found read = absurd cc
-  built_spells word (Some R.BetweenRow) (more t (more u (more v (more w ws)))) at inner e n found read = absurd cc
-  built_spells word (Some R.IfRow) no_trees at inner e n found read = absurd cc
-  built_spells word (Some R.IfRow) (more t no_trees) at inner e n found read = absurd cc
-  built_spells word (Some R.IfRow) (more t (more u no_trees)) at inner e n found read = absurd cc
-  built_spells word (Some R.IfRow) (more t (more u (more v (more w ws)))) at inner e n found read = absurd cc
-  built_spells word (Some R.PaddRow) no_trees at inner e n found read = absurd cc
-  built_spells word (Some R.PaddRow) (more t no_trees) at inner e n found read = absurd cc
-  built_spells word (Some R.PaddRow) (more t (more u no_trees)) at inner e n found read = absurd cc
-  built_spells word (Some R.PaddRow) (more t (more u (more v (more w ws)))) at inner e n found read = absurd cc
-  built_spells word (Some (R.RootRow root)) no_trees at inner e n found read = absurd cc
-  built_spells word (Some (R.RootRow root)) (more t no_trees) at inner e n found read = absurd cc
-  built_spells word (Some (R.RootRow root)) (more t (more u (more w ws))) at inner e n found read = absurd cc
-  built_spells word (Some (R.PlaceRow place)) no_trees at inner e n found read = absurd cc
-  built_spells word (Some (R.PlaceRow place)) (more t no_trees) at inner e n found read = absurd cc
-  built_spells word (Some R.GlobalRow) no_trees at inner e n found read = absurd cc
-  built_spells word (Some R.SelRow) no_trees at inner e n found read = absurd cc
-  built_spells word (Some R.SelRow) (more t no_trees) at inner e n found read = absurd cc
-  built_spells word (Some R.SelRow) (more t (more u (more w ws))) at inner e n found read = absurd cc
-  built_spells word (Some R.UpdRow) no_trees at inner e n found read = absurd cc
-  built_spells word (Some R.UpdRow) (more t no_trees) at inner e n found read = absurd cc
-  built_spells word (Some R.UpdRow) (more t (more u no_trees)) at inner e n found read = absurd cc
-  built_spells word (Some R.UpdRow) (more t (more u (more v (more w ws)))) at inner e n found read = absurd cc
-  built_spells word None no_trees at inner e n found read = absurd cc
-  built_spells word None (more t no_trees) at inner e n found read = absurd cc
   built_spells word None (more t (more u no_trees)) at inner e n found read = absurd cc
-  built_spells word None (more t (more u (more v ws))) at inner e n found read = absurd cc
+  built_spells word _ _ at inner e n found read = absurd cc
 
   pub path_spells : (t : Tree) (at : ℕ) (path : E.Path) (n : ℕ) → path_at at t ≡ Ok (path, n) → (t ≡ Node (step_trees path)) × (is_path path ≡ true)
   path_spells (Atom word) at path n read = absurd cc
@@ -495,10 +442,8 @@ mutual
       path_moved (x.0 y.0) path (value_ok (x.0 y.0) y.1 path n last) (ap (λ us. more s us) k.0 ∙ h.1 y.0) (h.0 y.0 k.1)
 
   step_spells : (t : Tree) (at : ℕ) (step : E.Path → E.Path) (n : ℕ) → step_at at t ≡ Ok (step, n) → StepText t step
-  step_spells (Atom word) at step n read = absurd cc
-  step_spells (Node no_trees) at step n read = absurd cc
-  step_spells (Node (more (Node us) ts)) at step n read = absurd cc
   step_spells (Node (more (Atom word) ts)) at step n read = built_step_spells word (step_head word) ts at (next (next at)) step n refl read
+  step_spells _ at step n read = absurd cc
 
   built_step_spells : (word : Name) (o : Option StepHead) (ts : Trees) (at inner : ℕ) (step : E.Path → E.Path) (n : ℕ) → step_head word ≡ o → built_step_at at inner o ts ≡ Ok (step, n) → StepText (Node (more (Atom word) ts)) step
   built_step_spells word (Some FieldStep) (more u no_trees) at inner step n found read =
@@ -511,10 +456,5 @@ mutual
       let h = exp_spells u inner x.0 x.1 first in
       step_moved (Node (more (Atom word) (more u no_trees))) (E.IntoElement x.0) step (value_ok (E.IntoElement x.0) x.1 step n last)
       (element_text (Node (more (Atom word) (more u no_trees))) x.0 (headed_as word element_word (more u no_trees) (element_found word found) ∙ first_parts element_word h.0 refl) h.1)
-  built_step_spells word (Some FieldStep) no_trees at inner step n found read = absurd cc
-  built_step_spells word (Some FieldStep) (more u (more v vs)) at inner step n found read = absurd cc
-  built_step_spells word (Some ElementStep) no_trees at inner step n found read = absurd cc
-  built_step_spells word (Some ElementStep) (more u (more v vs)) at inner step n found read = absurd cc
-  built_step_spells word None no_trees at inner step n found read = absurd cc
   built_step_spells word None (more u no_trees) at inner step n found read = absurd cc
-  built_step_spells word None (more u (more v vs)) at inner step n found read = absurd cc
+  built_step_spells word _ _ at inner step n found read = absurd cc

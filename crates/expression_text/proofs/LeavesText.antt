@@ -1,5 +1,5 @@
 -- Words that are numbers, names and truth values.
-use Rattle.std.proofs.Common.{◌≡◌, ℕ, zero, suc, ◌+◌, ◌%◌, ◌^◌, ◌<◌, ◌≤◌, inl, inr, Bool, true, false, cond, ◌||◌, ℤ, List, [], ◌∷◌, ◌++◌, Option, Some, None, Ok, Err, refl, ap, sym, ◌∙◌, arith, add-one, eqb-true, subst, lit<, lit≤, if◌then◌else◌}
+use Rattle.std.proofs.Common.{◌≡◌, ℕ, suc, ◌+◌, ◌%◌, ◌^◌, ◌<◌, ◌≤◌, inl, inr, Bool, true, false, cond, ◌||◌, ℤ, List, [], ◌∷◌, ◌++◌, Option, Some, None, Ok, Err, refl, ap, sym, ◌∙◌, arith, add-one, eqb-true, subst, lit<, lit≤, if◌then◌else◌}
 use Rattle.std.specs.Prelude.{◌==◌, ◌&&◌, pos, negsuc}
 use Rattle.std.specs.List.{list_all}
 use Rattle.std.specs.Fmt.{decimal}
@@ -69,9 +69,8 @@ number_text_is (negsuc n) is =
     minus_no_truth false ds = refl
 
 negated_is : (o : Option ℕ) (z : ℤ) → negated o ≡ Some z → (m : ℕ) × (o ≡ Some (suc m)) × (z ≡ negsuc m)
-negated_is None z e = absurd cc
-negated_is (Some zero) z e = absurd cc
 negated_is (Some (suc m)) z e = let same : negsuc m ≡ z = cc in (m, refl, sym same)
+negated_is _ z e = absurd cc
 
 not_negated_is : (o : Option ℕ) (z : ℤ) → not_negated o ≡ Some z → (m : ℕ) × (o ≡ Some m) × (z ≡ pos m)
 not_negated_is None z e = absurd cc

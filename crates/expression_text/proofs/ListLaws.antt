@@ -55,11 +55,9 @@ none_of_none [] = refl
 none_of_none (x ∷ xs) = none_of_none xs
 
 split : (a b c d : Bool) → (not (a || (b || false)) && (c && not d)) ≡ ((not a && c) && not (b || d))
-split true b c d = refl
 split false true false d = refl
-split false true true d = refl
 split false false false d = refl
-split false false true d = refl
+split _ _ _ _ = refl
 
 none_more : (before : List Name) (x : Name) (ys : List Name) → none_among (before ++ x ∷ []) ys ≡ (none_among before ys && not (is_among x ys))
 none_more before x [] = refl
@@ -70,8 +68,7 @@ none_more before x (y ∷ ys) =
 
 regroup : (a b c d : Bool) → (a && ((b && c) && d)) ≡ ((a && b) && (c && d))
 regroup true true c d = refl
-regroup true false c d = refl
-regroup false b c d = refl
+regroup _ _ _ _ = refl
 
 new_is : (before xs : List Name) → are_new before xs ≡ (none_among before xs && are_distinct xs)
 new_is before [] = refl

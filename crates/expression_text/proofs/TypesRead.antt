@@ -3,7 +3,7 @@ use Rattle.std.proofs.Common.{◌≡◌, ◌≢◌, ℕ, false, Option, Some, No
 use Rattle.std.specs.Prelude.{codes}
 use Rattle.std.proofs.lemmas.Bool.{cond-false}
 use Rattle.c_values.specs.Name.{Name, same_name}
-use Rattle.c_values.specs.Types.{Void, IntType, Char, SChar, UChar, Short, UShort, Int, UInt, Long, ULong, LLong, ULLong}
+use Rattle.c_values.specs.Types.{Void, IntType, Char}
 use Rattle.ac_sx.specs.Tree.{Tree, Trees, Atom, Node, no_trees, more}
 use Rattle.ac_sx.specs.CodeSx.{word_in, headed_in}
 use Rattle.expression_text.specs.Words.{looked_up, int_type_word, int_types, TypeHead, PtrHead, StructHead, ArrayHead, type_head_word, type_heads}
@@ -13,48 +13,26 @@ use Rattle.expression_text.proofs.LookedUp.{AreFound, looked_up_from}
 
 pub int_types_found : AreFound int_type_word int_types
 int_types_found Char = refl
-int_types_found SChar = refl
-int_types_found UChar = refl
-int_types_found Short = refl
-int_types_found UShort = refl
-int_types_found Int = refl
-int_types_found UInt = refl
-int_types_found Long = refl
-int_types_found ULong = refl
-int_types_found LLong = refl
-int_types_found ULLong = refl
+int_types_found _ = refl
 
 pub type_heads_found : AreFound type_head_word type_heads
 type_heads_found PtrHead = refl
-type_heads_found StructHead = refl
-type_heads_found ArrayHead = refl
+type_heads_found _ = refl
 
 built_is : (at inner : ℕ) (h : Option TypeHead) (ts : Trees) → built_type_at at inner h ts ≡ built_by at inner h ts
 built_is at inner None ts = none ts
   where
     none : (ts : Trees) → built_type_at at inner None ts ≡ built_by at inner None ts
-    none no_trees = refl
-    none (more t no_trees) = refl
     none (more t (more u no_trees)) = refl
-    none (more t (more u (more v vs))) = refl
-built_is at inner (Some PtrHead) no_trees = refl
-built_is at inner (Some PtrHead) (more t no_trees) = refl
+    none _ = refl
 built_is at inner (Some PtrHead) (more t (more u no_trees)) = refl
-built_is at inner (Some PtrHead) (more t (more u (more v vs))) = refl
-built_is at inner (Some StructHead) no_trees = refl
-built_is at inner (Some StructHead) (more t no_trees) = refl
 built_is at inner (Some StructHead) (more t (more u no_trees)) = refl
-built_is at inner (Some StructHead) (more t (more u (more v vs))) = refl
-built_is at inner (Some ArrayHead) no_trees = refl
-built_is at inner (Some ArrayHead) (more t no_trees) = refl
 built_is at inner (Some ArrayHead) (more t (more u no_trees)) = refl
-built_is at inner (Some ArrayHead) (more t (more u (more v vs))) = refl
+built_is _ _ _ _ = refl
 
 pub type_is : (at : ℕ) (t : Tree) → type_at at t ≡ type_by at (word_in t) (headed_in t)
-type_is at (Atom word) = refl
-type_is at (Node no_trees) = refl
-type_is at (Node (more (Node us) ts)) = refl
 type_is at (Node (more (Atom head) ts)) = built_is at (next (next at)) (looked_up type_head_word type_heads head) ts
+type_is _ _ = refl
 
 -- no type has this word
 pub plain_bad : (at : ℕ) (word : Name) → ((i : IntType) → word ≢ int_type_word i) → same_name word (codes "void") ≡ false → plain_type_at at word (looked_up int_type_word int_types word) ≡ Err at

@@ -85,9 +85,8 @@ plain_spells word None at t n found e =
 mutual
   pub type_spells : (tree : Tree) (at : ℕ) (t : CType) (n : ℕ) → type_at at tree ≡ Ok (t, n) → IsTextOf tree t
   type_spells (Atom word) at t n e = plain_spells word (looked_up int_type_word int_types word) at t n refl e
-  type_spells (Node no_trees) at t n e = absurd cc
-  type_spells (Node (more (Node us) ts)) at t n e = absurd cc
   type_spells (Node (more (Atom head) ts)) at t n e = built_spells head (looked_up type_head_word type_heads head) ts at (next (next at)) t n refl e
+  type_spells _ at t n e = absurd cc
 
   built_spells : (head : Name) (o : Option TypeHead) (ts : Trees) (at inner : ℕ) (t : CType) (n : ℕ) → looked_up type_head_word type_heads head ≡ o → built_type_at at inner o ts ≡ Ok (t, n) → IsTextOf (Node (more (Atom head) ts)) t
   built_spells head (Some PtrHead) (more u no_trees) at inner t n found e =
@@ -105,13 +104,5 @@ mutual
       let k = natural_spells (2 ^ 32) v x.1 y.0 y.1 second in
       moved (Array x.0 y.0) t (value_ok (Array x.0 y.0) y.1 t n last) (list_two (sym (looked_up_is type_head_word type_heads head ArrayHead found)) h.0 k.0)
       (and_from (is_type x.0) (nat_lt y.0 (2 ^ 32)) h.1 (lt-ltb y.0 (2 ^ 32) k.1))
-  built_spells head None no_trees at inner t n found e = absurd cc
   built_spells head None (more u no_trees) at inner t n found e = absurd cc
-  built_spells head None (more u (more v vs)) at inner t n found e = absurd cc
-  built_spells head (Some PtrHead) no_trees at inner t n found e = absurd cc
-  built_spells head (Some PtrHead) (more u (more v vs)) at inner t n found e = absurd cc
-  built_spells head (Some StructHead) no_trees at inner t n found e = absurd cc
-  built_spells head (Some StructHead) (more u (more v vs)) at inner t n found e = absurd cc
-  built_spells head (Some ArrayHead) no_trees at inner t n found e = absurd cc
-  built_spells head (Some ArrayHead) (more u no_trees) at inner t n found e = absurd cc
-  built_spells head (Some ArrayHead) (more u (more v (more w ws))) at inner t n found e = absurd cc
+  built_spells head _ _ at inner t n found e = absurd cc

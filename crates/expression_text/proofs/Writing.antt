@@ -65,38 +65,8 @@ pub last_smaller : (n : ℕ) (o : Option (Bor X.Exp)) (last : Bor X.Exp) → o �
 last_smaller n o last is less = subst (λ p. LastIsSmaller p n) is less
 
 pub shape_text : (e : E.Exp) → shape_tree (shape_of e) ≡ exp_tree e
-shape_text (E.Var x) = refl
-shape_text (E.WordLit w) = refl
-shape_text (E.NumberLit n) = refl
-shape_text (E.TruthLit b) = refl
-shape_text (E.WordBinary op a b) = refl
-shape_text (E.WordShift op a n) = refl
-shape_text (E.WordUnary op a) = refl
-shape_text (E.WordCompare op a b) = refl
-shape_text (E.Cast op width a) = refl
-shape_text (E.ToNat a) = refl
-shape_text (E.ToInt a) = refl
-shape_text (E.ToWord width a) = refl
-shape_text (E.Arith op a b) = refl
-shape_text (E.Negate a) = refl
-shape_text (E.Lt a b) = refl
-shape_text (E.Le a b) = refl
 shape_text (E.Between low a high) = refl
-shape_text (E.Eq a b) = refl
-shape_text (E.And a b) = refl
-shape_text (E.Or a b) = refl
-shape_text (E.Imp a b) = refl
-shape_text (E.Not a) = refl
-shape_text (E.If c a b) = refl
-shape_text (E.Padd t p n) = refl
-shape_text (E.At t p path) = refl
-shape_text (E.Load t p path) = refl
-shape_text (E.Read t p path) = refl
-shape_text (E.Tagged t p) = refl
-shape_text (E.PtrOk t p) = refl
-shape_text (E.Global x path) = refl
-shape_text (E.Sel e path) = refl
-shape_text (E.Upd e path v) = refl
+shape_text _ = refl
 
 pub text_shape : (e : E.Exp) → exp_tree e ≡ shape_tree (shape_of e)
 text_shape e = sym (shape_text e)

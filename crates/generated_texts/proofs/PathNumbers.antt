@@ -4,7 +4,7 @@ use Rattle.std.proofs.lemmas.Bool.{false≢true, and_parts, leb-true, eqb-true, 
 use Rattle.std.proofs.Math.Nat.{mul-le-mul_left, mul-le-mul_right}
 use Rattle.c_values.specs.Name.{Name, same_name}
 use Rattle.c_values.specs.Types.{CType}
-use Rattle.c_values.specs.Layout.{Layout, IsLayout, GlobalVar, Shape, Incomplete, Scalar, Record, Row, Fields, no_fields, field, size, shape_of, is_object, is_complete, global_type, largest_size}
+use Rattle.c_values.specs.Layout.{Layout, IsLayout, GlobalVar, Shape, Record, Row, Fields, no_fields, field, size, shape_of, is_object, is_complete, global_type, largest_size}
 use Rattle.c_values.proofs.Formed.{IsFormed, AreFormed, size_some, members_end}
 use Rattle.c_values.proofs.Laid.{shape_good}
 use Rattle.c_values.proofs.Options.{none_some, some_is}
@@ -46,22 +46,17 @@ module _ (u : CType) (path : C.Path) (later : (s : Shape) → IsFormed s → siz
 
 path_fits : (u : CType) (path : C.Path) (s : Shape) → IsFormed s → size s ≤ 65536 → leads_to (shape_along (Some s) path) u ≡ true → PathFits path
 path_fits u C.Here s h l e = tt
-path_fits u (C.Member k path) Incomplete h l e = absurd (false≢true e)
-path_fits u (C.Member k path) (Scalar t w) h l e = absurd (false≢true e)
-path_fits u (C.Member k path) (Row s n) h l e = absurd (false≢true e)
 path_fits u (C.Member k path) (Record x n align fs) h l e =
     let found = member_fits u path (path_fits u path) align n 0 fs h.members l k e in
     let below : 0 + k < n = found.0 in
     (omega arith, found.1)
-path_fits u (C.Element n e' path) Incomplete h l e = absurd (false≢true e)
-path_fits u (C.Element n e' path) (Scalar t w) h l e = absurd (false≢true e)
-path_fits u (C.Element n e' path) (Record x m align fs) h l e = absurd (false≢true e)
 path_fits u (C.Element n e' path) (Row s m) h l e =
     let some : 0 < size s = size_some s h.element in
     let few : m < 2 ^ 32 = as_many m (size s) some l in
     by_cases _ (n == m)
     (λ b. (subst (λ k. k < 2 ^ 32) (sym (eqb-true n m b)) few, path_fits u path s h.element (element_within m (size s) h.some l) (sym (ap (λ o. leads_to o u) (where_true (n == m) (shape_along (Some s) path) None b)) ∙ e)))
     (λ b. absurd (no_way C.Here u (sym (ap (λ o. leads_to o u) (where_false (n == m) (shape_along (Some s) path) None b)) ∙ e)))
+path_fits _ _ _ _ _ e = absurd (false≢true e)
 
 object_fits : (l : Layout) → IsLayout l → (t u : CType) → is_object l t ≡ true → (path : C.Path) → leads_to (shape_along (Some (shape_of l t)) path) u ≡ true → PathFits path
 object_fits l w t u h path e =

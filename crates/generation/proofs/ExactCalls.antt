@@ -91,14 +91,11 @@ module _ (g : Scope) (level : Level) (p : Choice) (locals : List Binder) (h : St
         (subst (λ z. IsOfType g.layout z v) (type_is t from q.0) x) in
         return_same (converted g.layout to from v) (conversion g.layout.target to from (Exp.Var (call_local n'))) (machine_with m.locals s) o (result_kept v s is) w.0
         (subst (λ z. IsResultOf g.layout z (Some (converted g.layout to from v))) (sym b) w.1)
-    used_same None i (C.Ignored from) u o s x is = absurd (false≢true u)
-    used_same None i (C.Assigned from target) u o s x is = absurd (false≢true u)
-    used_same None i (C.Returned from to) u o s x is = absurd (false≢true u)
-    used_same (Some t) i C.NoResult u o s x is = absurd (false≢true u)
     used_same None i C.NoResult u (Some v) s x is = absurd x
     used_same (Some t) i (C.Ignored from) u None s x is = absurd x
     used_same (Some t) i (C.Assigned from target) u None s x is = absurd x
     used_same (Some t) i (C.Returned from to) u None s x is = absurd x
+    used_same _ _ _ u _ _ _ _ = absurd (false≢true u)
 
     abbrev calling : Name → List V.Value → Machine → Invocation
     calling f vs o = record { name = f; arguments = vs; state = o.state }

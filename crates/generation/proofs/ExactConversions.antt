@@ -2,7 +2,7 @@
 use Rattle.std.proofs.Common.{◌≡◌, ℕ, suc, ◌+◌, ◌-◌, ◌*◌, ◌^◌, ◌<◌, ◌≤◌, ◌⊎◌, inl, inr, ◌==◌, nat_lt, Bool, true, false, cond, ℤ, pos, negsuc, ◌+ℤ◌, refl, sym, ap, ◌∙◌, subst, arith, pow-add, eqb-true, ltb-true}
 use Rattle.std.proofs.lemmas.Int.{ints}
 use Rattle.std.proofs.lemmas.Bool.{cases_Bool, cond-true, cond-false}
-use Rattle.c_values.specs.Types.{CType, Integer, Void, Ptr, Struct, Array}
+use Rattle.c_values.specs.Types.{CType, Integer, Ptr}
 use Rattle.c_values.specs.Word.{Word, IsWord, unsigned, signed, word}
 use Rattle.c_values.specs.Value.{Value, Bits, word_in}
 use Rattle.c_values.specs.Layout.{Layout, is_scalar, scalar_width}
@@ -64,9 +64,7 @@ module _ (l : Layout) (env : Env) (s : State) where
   converted_is : (to from : CType) (v : Value) → is_scalar to ≡ true → converted l to from v ≡ Bits (word (scalar_width l.target to) (number_of_type from v))
   converted_is (Integer i) from v h = refl
   converted_is (Ptr t) from v h = refl
-  converted_is Void from v h = absurd cc
-  converted_is (Struct x) from v h = absurd cc
-  converted_is (Array t n) from v h = absurd cc
+  converted_is _ from v h = absurd cc
 
   pub conversion_exact : (to from : CType) (e : X.Exp) (v : Value) → is_scalar to ≡ true → E.value l env s e ≡ v → IsOfType l from v →
       (E.value l env s (conversion l.target to from e) ≡ converted l to from v) × IsOfType l to (converted l to from v)

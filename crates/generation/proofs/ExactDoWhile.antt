@@ -55,8 +55,7 @@ module _ (g : Scope) (level : Level) (p : Choice) (locals : List Binder) (h : St
   later_same : (z : Machine ⊎ R.Flow) (z' : Machine ⊎ X.Flow) → IsTurnEnd g z z' → Corresponds AreTurns SameKind (later z) (done z')
   later_same (inl m) (inl n) a = done_corresponds AreTurns SameKind (inl (false, m)) (inl n) a
   later_same (inr f) (inr f') a = done_corresponds AreTurns SameKind (inr f) (inr f') a
-  later_same (inl m) (inr f') a = absurd a
-  later_same (inr f) (inl n) a = absurd a
+  later_same _ _ a = absurd a
 
   abbrev entered_here : Machine → Ends (Machine ⊎ X.Flow) GuardKind
   entered_here n = entered g.layout (after_first k (guards g.layout level e)) (Exp.Or (Exp.Var (first_local k)) (truth g.layout e)) n
@@ -84,10 +83,7 @@ module _ (g : Scope) (level : Level) (p : Choice) (locals : List Binder) (h : St
   turn_ends (Continued m) (Normal n) a = same_on_left (after_done (inl m) later) (done_corresponds AreTurns SameKind (inl (false, m)) (inl n) a)
   turn_ends (Broken m) (Abrupt n) a = same_on_left (after_done (inr (Next m)) later) (done_corresponds AreTurns SameKind (inr (Next m)) (inr (Abrupt n)) a)
   turn_ends (Returning v m) (Abrupt n) a = same_on_left (after_done (inr (Returning v m)) later) (done_corresponds AreTurns SameKind (inr (Returning v m)) (inr (Abrupt n)) a)
-  turn_ends (Next m) (Abrupt n) a = absurd a
-  turn_ends (Continued m) (Abrupt n) a = absurd a
-  turn_ends (Broken m) (Normal n) a = absurd a
-  turn_ends (Returning v m) (Normal n) a = absurd a
+  turn_ends _ _ a = absurd a
 
   -- the machine that the loop begins with
   first_set : (m n : Machine) → Alike g m n → IsTurn g k (true, m) (with_local (first_local k) (V.Truth true) n)

@@ -84,10 +84,7 @@ module _ (g : Scope) (r : Around) where
   next_same rest rest' k (Broken m) (Abrupt n) h = done_corresponds (IsEnd g r) SameKind (Broken m) (Abrupt n) h
   next_same rest rest' k (Continued m) (Abrupt n) h = done_corresponds (IsEnd g r) SameKind (Continued m) (Abrupt n) h
   next_same rest rest' k (Returning v m) (Abrupt n) h = done_corresponds (IsEnd g r) SameKind (Returning v m) (Abrupt n) h
-  next_same rest rest' k (Next m) (Abrupt n) h = absurd h
-  next_same rest rest' k (Broken m) (Normal n) h = absurd h
-  next_same rest rest' k (Continued m) (Normal n) h = absurd h
-  next_same rest rest' k (Returning v m) (Normal n) h = absurd h
+  next_same _ _ _ _ _ h = absurd h
 
 -- the machine behind a jump's flag
 abbrev pub flagged : ℤ → Machine → Machine

@@ -4,12 +4,12 @@ use Rattle.std.specs.Prelude.{not, if◌then◌else◌}
 use Rattle.std.proofs.lemmas.Bool.{false≢true, or_parts, not-true, and_parts}
 use Rattle.std.proofs.lemmas.Nat.{pow_pos}
 use Rattle.c_values.specs.Name.{Name, same_name, with_name, is_among, are_distinct}
-use Rattle.c_values.specs.Types.{Target, CType, Integer, Void, Ptr, Struct, Array, is_signed, width_of}
+use Rattle.c_values.specs.Types.{Target, CType, Integer, Void, Struct, Array, is_signed, width_of}
 use Rattle.c_values.specs.Value as V
 use Rattle.c_values.specs.Layout.{Layout, is_scalar, scalar_width}
 use Rattle.c_values.proofs.Laid.{name_is, other_name}
 use Rattle.c_values.proofs.Options.{none_some, some_is}
-use Rattle.expression_lang.specs.Sort.{Level, Bytes, Words, Numbers, Kind, WordKind, NatKind, IntKind, BoolKind}
+use Rattle.expression_lang.specs.Sort.{Level, Numbers, Kind, WordKind, NatKind, IntKind}
 use Rattle.expression_lang.specs.View.{zero_word_at}
 use Rattle.expression_lang.specs.Evaluation.{Env}
 use Rattle.expression_lang.specs.Signature.{Binder, names_of, bound, kind_at}
@@ -92,13 +92,11 @@ pub zero_typed : (l : Layout) (u : CType) → IsOfType l u (zero l.target u)
 zero_typed l u = record { has_width = refl; fits = pow_pos (scalar_width l.target u) }
 
 zero_is : (t : Target) (level : Level) (u : CType) → is_scalar u ≡ true → zero_word_at (kind_at t level u) ≡ zero t u
-zero_is t Bytes u h = refl
-zero_is t Words u h = refl
 zero_is t Numbers (Integer i) h = by_test (λ k. zero_word_at k ≡ zero t (Integer i)) (is_signed i) (IntKind (width_of t i)) (NatKind (width_of t i)) (λ e. refl) (λ e. refl)
-zero_is t Numbers (Ptr u) h = refl
 zero_is t Numbers Void h = absurd (false≢true h)
 zero_is t Numbers (Struct x) h = absurd (false≢true h)
 zero_is t Numbers (Array u n) h = absurd (false≢true h)
+zero_is _ _ _ _ = refl
 
 module _ (l : Layout) (level : Level) (x : Name) where
   pub c_zero : (vs : List C.Variable) (t : CType) → variable_type vs x ≡ Some t → R.zero_locals l vs x ≡ zero l.target t
@@ -138,9 +136,7 @@ module _ (l : Layout) (level : Level) (x : Name) where
 -- no local begins with a truth
 zero_untrue : (k : Kind) → V.truth_in (zero_word_at k) ≡ false
 zero_untrue (WordKind n) = refl
-zero_untrue (NatKind n) = refl
-zero_untrue (IntKind n) = refl
-zero_untrue BoolKind = refl
+zero_untrue _ = refl
 
 pub zeros_untrue : (bs : List Binder) (x : Name) → V.truth_in (X.zero_locals bs x) ≡ false
 zeros_untrue [] x = refl

@@ -2,7 +2,7 @@
 use Rattle.std.proofs.Common.{◌≡◌, ℕ, ◌-◌, ◌^◌, ◌<◌, Bool, true, false, not, ◌||◌, [], ◌∷◌, None, Ok, cond, ℤ, pos, int_eq, refl, sym, ap, ap₂, ◌∙◌, subst, arith}
 use Rattle.std.proofs.lemmas.Int.{ints}
 use Rattle.std.proofs.Math.Bool.{or-false, or-true}
-use Rattle.c_values.specs.Types.{IntType, CType, Integer, Void, Ptr, Struct, Array, width_of, is_signed}
+use Rattle.c_values.specs.Types.{IntType, CType, Integer, width_of, is_signed}
 use Rattle.c_values.specs.Number.{is_between, least, greatest, is_of_type, quotient, NumberOp, Div, number_op}
 use Rattle.c_values.specs.Word.{Word, IsWord, unsigned, signed, word, word_op, Wudiv}
 use Rattle.c_values.specs.Value.{Value, Bits, word_in, number_in, same_value}
@@ -43,10 +43,7 @@ module _ (l : Layout) (env : Env) (s : State) where
       by_sign : (b : Bool) → number_in (E.value l env s (cond b (X.ToInt e) (X.ToNat e))) ≡ number_by b (word_in (E.value l env s e))
       by_sign true = refl
       by_sign false = refl
-  number_value Void e = refl
-  number_value (Ptr t) e = refl
-  number_value (Struct x) e = refl
-  number_value (Array t n) e = refl
+  number_value _ _ = refl
 
   -- the value of a type, of a number that is of it where the type is signed
   abbrev pub IsFitted : IntType → ℤ → Value → Type 0

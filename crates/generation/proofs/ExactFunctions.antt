@@ -103,10 +103,8 @@ module _ (g : Scope) (p : Choice) (locals : List Binder) (depth : Option ℕ) (f
   nothing_ended e (Returning (Some v) m) (Abrupt n) a = absurd (subst (λ z. IsResultOf g.layout z (Some v)) e a.0)
   nothing_ended e (Broken m) (Abrupt n) a = absurd (false≢true a.0)
   nothing_ended e (Continued m) (Abrupt n) a = absurd (false≢true a.0)
-  nothing_ended e (Next m) (Abrupt n) a = absurd a
-  nothing_ended e (Broken m) (Normal n) a = absurd a
-  nothing_ended e (Continued m) (Normal n) a = absurd a
   nothing_ended e (Returning v m) (Normal n) a = absurd a
+  nothing_ended _ _ _ a = absurd a
 
   abbrev unreached : Simpl
   unreached = Guard (when K.Unreached (Exp.TruthLit false)) Skip
@@ -126,10 +124,8 @@ module _ (g : Scope) (p : Choice) (locals : List Binder) (depth : Option ℕ) (f
   value_ended t k e (Returning None m) (Abrupt n) a = absurd (subst (λ z. IsResultOf g.layout z None) e a.0)
   value_ended t k e (Broken m) (Abrupt n) a = absurd (false≢true a.0)
   value_ended t k e (Continued m) (Abrupt n) a = absurd (false≢true a.0)
-  value_ended t k e (Next m) (Abrupt n) a = absurd a
-  value_ended t k e (Broken m) (Normal n) a = absurd a
-  value_ended t k e (Continued m) (Normal n) a = absurd a
   value_ended t k e (Returning v m) (Normal n) a = absurd a
+  value_ended _ _ _ _ _ a = absurd a
 
   pub whole_ended : (target : _) (level : Level) (t : Option CType) → g.result ≡ t → (q : Ended) (s : Simpl) (n : Machine) → Corresponds (IsEnd g nowhere) SameKind q (execs g.layout p locals s depth fs n) →
       Corresponds (Gives t) SameKind (Then q (R.ended t)) (Then (execs g.layout p locals (whole_body t s) depth fs n) (X.ended (result_kind target level t)))

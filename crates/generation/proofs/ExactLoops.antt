@@ -50,9 +50,7 @@ module _ (g : Scope) (p : Choice) (locals : List Binder) (depth : Option ℕ) (f
   break_caught r (Next m) (Normal n) h = done_corresponds (IsEnd g r) SameKind (Next m) (Normal n) h
   break_caught r (Next m) (Abrupt n) h = stops_here (IsEnd g r) g.layout p locals depth fs n (done (Next m)) broken broken h.1 refl (done_corresponds (IsEnd g r) SameKind (Next m) (Normal n) h.0)
   break_caught r (Returning v m) (Abrupt n) h = thrown_on (IsEnd g r) g.layout p locals depth fs n (done (Returning v m)) broken returned h.2 refl (done_corresponds (IsEnd g r) SameKind (Returning v m) (Abrupt n) h)
-  break_caught r (Returning v m) (Normal n) h = absurd h
-  break_caught r (Broken m) f h = absurd h
-  break_caught r (Continued m) f h = absurd h
+  break_caught _ _ _ h = absurd h
 
   pub looped_same : (r : Around) (gs : List Condition) (e : Exp.Exp) (s : Simpl) (n : Machine) (q : Ended) → Corresponds (IsLoopEnd g) SameKind q (execs g.layout p locals (While gs e s) depth fs n) →
       Corresponds (IsEnd g r) SameKind q (execs g.layout p locals (looped gs e s) depth fs n)
@@ -64,10 +62,7 @@ module _ (g : Scope) (p : Choice) (locals : List Binder) (depth : Option ℕ) (f
   continue_caught (Continued m) (Abrupt n) h = stops_here (IsBodyEnd g) g.layout p locals depth fs n (done (Continued m)) continued continued h.2 refl (done_corresponds (IsBodyEnd g) SameKind (Continued m) (Normal n) h.1)
   continue_caught (Broken m) (Abrupt n) h = thrown_on (IsBodyEnd g) g.layout p locals depth fs n (done (Broken m)) continued broken h.2 refl (done_corresponds (IsBodyEnd g) SameKind (Broken m) (Abrupt n) (h.1, h.2))
   continue_caught (Returning v m) (Abrupt n) h = thrown_on (IsBodyEnd g) g.layout p locals depth fs n (done (Returning v m)) continued returned h.2 refl (done_corresponds (IsBodyEnd g) SameKind (Returning v m) (Abrupt n) h)
-  continue_caught (Next m) (Abrupt n) h = absurd h
-  continue_caught (Continued m) (Normal n) h = absurd h
-  continue_caught (Broken m) (Normal n) h = absurd h
-  continue_caught (Returning v m) (Normal n) h = absurd h
+  continue_caught _ _ h = absurd h
 
   pub body_same : (s : Simpl) (n : Machine) (q : Ended) → Corresponds (IsEnd g in_a_loop) SameKind q (execs g.layout p locals s depth fs n) →
       Corresponds (IsBodyEnd g) SameKind q (execs g.layout p locals (body_of_loop s) depth fs n)
@@ -84,20 +79,14 @@ module _ (g : Scope) where
   body_turned (Continued m) (Normal n) h = done_corresponds (IsTurnEnd g) SameKind (inl m) (inl n) h
   body_turned (Broken m) (Abrupt n) h = done_corresponds (IsTurnEnd g) SameKind (inr (Next m)) (inr (Abrupt n)) h
   body_turned (Returning v m) (Abrupt n) h = done_corresponds (IsTurnEnd g) SameKind (inr (Returning v m)) (inr (Abrupt n)) h
-  body_turned (Next m) (Abrupt n) h = absurd h
-  body_turned (Continued m) (Abrupt n) h = absurd h
-  body_turned (Broken m) (Normal n) h = absurd h
-  body_turned (Returning v m) (Normal n) h = absurd h
+  body_turned _ _ h = absurd h
 
   step_turned : (f : R.Flow) (f' : X.Flow) → IsEnd g nowhere f f' → Corresponds (IsTurnEnd g) SameKind (turned (λ m. done (inl m)) f) (X.turned f')
   step_turned (Next m) (Normal n) h = done_corresponds (IsTurnEnd g) SameKind (inl m) (inl n) h
   step_turned (Returning v m) (Abrupt n) h = done_corresponds (IsTurnEnd g) SameKind (inr (Returning v m)) (inr (Abrupt n)) h
   step_turned (Broken m) (Abrupt n) h = absurd (false≢true h.0)
   step_turned (Continued m) (Abrupt n) h = absurd (false≢true h.0)
-  step_turned (Next m) (Abrupt n) h = absurd h
-  step_turned (Broken m) (Normal n) h = absurd h
-  step_turned (Continued m) (Normal n) h = absurd h
-  step_turned (Returning v m) (Normal n) h = absurd h
+  step_turned _ _ h = absurd h
 
   -- a body, and then the step of a `for`
   stepped_same : (step : Machine → Ended) (step' : Machine → Ends X.Flow GuardKind) → ((m n : Machine) → Alike g m n → Corresponds (IsEnd g nowhere) SameKind (step m) (step' n)) →
@@ -106,10 +95,7 @@ module _ (g : Scope) where
   stepped_same step step' k (Continued m) (Normal n) h = then_corresponds (IsEnd g nowhere) (IsTurnEnd g) SameKind (step m) (step' n) (turned (λ o. done (inl o))) X.turned (k m n h) step_turned
   stepped_same step step' k (Broken m) (Abrupt n) h = same_on_right (after_done (Abrupt n) X.turned) (done_corresponds (IsTurnEnd g) SameKind (inr (Next m)) (inr (Abrupt n)) h)
   stepped_same step step' k (Returning v m) (Abrupt n) h = same_on_right (after_done (Abrupt n) X.turned) (done_corresponds (IsTurnEnd g) SameKind (inr (Returning v m)) (inr (Abrupt n)) h)
-  stepped_same step step' k (Next m) (Abrupt n) h = absurd h
-  stepped_same step step' k (Continued m) (Abrupt n) h = absurd h
-  stepped_same step step' k (Broken m) (Normal n) h = absurd h
-  stepped_same step step' k (Returning v m) (Normal n) h = absurd h
+  stepped_same _ _ _ _ _ h = absurd h
 
 module _ (g : Scope) (level : Level) (p : Choice) (locals : List Binder) (h : Stands g level locals) where
   pub tested_same : (test : C.Test) → is_typed_test g test ≡ true → (m n : Machine) → Alike g m n →

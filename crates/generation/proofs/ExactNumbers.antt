@@ -8,7 +8,7 @@ use Rattle.std.specs.Prelude.{Decides}
 use Rattle.c_values.specs.Types.{Target, IntType, CType, Integer, Void, Ptr, Struct, Array, width_of, is_signed}
 use Rattle.c_values.specs.Number.{is_between, least, greatest, is_of_type}
 use Rattle.c_values.specs.Word.{Word, IsWord, unsigned, signed, word}
-use Rattle.c_values.specs.Value.{Value, Bits, Number, Truth, Parts, word_in, same_value}
+use Rattle.c_values.specs.Value.{Value, Bits, word_in, same_value}
 use Rattle.c_values.specs.Layout.{scalar_width}
 use Rattle.c_values.specs.Path.{IsBits}
 use Rattle.c_values.proofs.WordValues.{word-unsigned, word-signed, unsigned-word, signed-word}
@@ -31,9 +31,7 @@ some_scalar t (Array u n) = some_address t
 
 pub bits_are : (n : ℕ) (v : Value) → IsBits n v → v ≡ Bits (word_in v)
 bits_are n (Bits w) h = refl
-bits_are n (Number z) h = absurd h
-bits_are n (Truth b) h = absurd h
-bits_are n (Parts vs) h = absurd h
+bits_are _ _ h = absurd h
 
 -- the word of a word's own width
 pub word_at : (width : ℕ) (a : Word) (n : ℤ) → IsWord width a → word a.width n ≡ word width n
@@ -54,10 +52,7 @@ number-word false width n w h = unsigned-word width n h
 
 pub number_of_type_is : (t : CType) (v : Value) → number_of_type t v ≡ number_by (is_signed_type t) (word_in v)
 number_of_type_is (Integer i) v = refl
-number_of_type_is Void v = refl
-number_of_type_is (Ptr t) v = refl
-number_of_type_is (Struct x) v = refl
-number_of_type_is (Array t n) v = refl
+number_of_type_is _ _ = refl
 
 between_halves : (m : ℕ) → 0 < m → is_between (neg_ℤ (pos m)) (pos 0) (pos (m - 1)) ≡ true
 between_halves zero h = absurd (omega arith)

@@ -154,8 +154,7 @@ module _ (l : Layout) (env : Env) (s : State) where
 
       bits_of : (op : C.Bitwise) → combined op (word_in v) (word_in w) ≡ Bits (word_op (combine_op op) (word_in v) (word_in w))
       bits_of C.BitAnd = refl
-      bits_of C.BitOr = refl
-      bits_of C.BitXor = refl
+      bits_of _ = refl
 
       pub combined_value : (op : C.Bitwise) → IsValueOf l env s (C.Combine op i a b) (combined op (word_in v) (word_in w))
       combined_value op = subst (IsValueOf l env s (C.Combine op i a b)) (sym (bits_of op))

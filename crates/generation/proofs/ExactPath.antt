@@ -8,7 +8,7 @@ use Rattle.c_values.specs.Types.{CType}
 use Rattle.c_values.specs.Number.{is_between}
 use Rattle.c_values.specs.Value.{number_in}
 use Rattle.c_values.specs.Layout as L
-use Rattle.c_values.specs.Layout.{Layout, IsLayout, Shape, Incomplete, Scalar, Record, Row, Fields, no_fields, field, size, shape_of, is_complete, are_complete}
+use Rattle.c_values.specs.Layout.{Layout, IsLayout, Shape, Record, Row, Fields, no_fields, field, size, shape_of, is_complete, are_complete}
 use Rattle.c_values.specs.Path.{Step, Field, Index, is_index}
 use Rattle.c_values.proofs.Laid.{shape_good, structs_of}
 use Rattle.c_values.proofs.Leads.{Leads, ends, by_member, by_element}
@@ -63,12 +63,7 @@ elements_along (Row s m) (C.Element n i path) q h e =
     let p = into_row n m s path q e in
     let c = and_parts (nat_lt 0 m) (is_complete s) h in
     (subst (λ k. 0 < k) (sym p.0) (ltb-true 0 m c.0), elements_along s path q c.1 p.1)
-elements_along Incomplete (C.Member k path) q h e = absurd cc
-elements_along Incomplete (C.Element n i path) q h e = absurd cc
-elements_along (Scalar t w) (C.Member k path) q h e = absurd cc
-elements_along (Scalar t w) (C.Element n i path) q h e = absurd cc
-elements_along (Record x n align fs) (C.Element m i path) q h e = absurd cc
-elements_along (Row s m) (C.Member k path) q h e = absurd cc
+elements_along _ _ q h e = absurd cc
 
 index_between : (m n : ℕ) → 0 < n → is_between (pos 0) (pos m) (pos (n - 1)) ≡ nat_lt m n
 index_between m n h = grind (arith, nat_tests)
@@ -112,12 +107,7 @@ module _ (l : Layout) (env : Env) (s : State) where
       let p = into_row n m r path q e in
       let c = and_parts (is_index z n) (are_in_bounds path (E.steps l env s (path_of l path))) b in
       index_leads z m r q (E.steps l env s (path_of l path)) (subst (λ k. is_index z k ≡ true) p.0 c.0) (path_leads r path q p.1 c.1)
-  path_leads Incomplete (C.Member k path) q e b = absurd cc
-  path_leads Incomplete (C.Element n i path) q e b = absurd cc
-  path_leads (Scalar t w) (C.Member k path) q e b = absurd cc
-  path_leads (Scalar t w) (C.Element n i path) q e b = absurd cc
-  path_leads (Record x n align fs) (C.Element m i path) q e b = absurd cc
-  path_leads (Row r m) (C.Member k path) q e b = absurd cc
+  path_leads _ _ q e b = absurd cc
 
   module _ (h : IsLayout l) (t : CType) (complete : is_complete (shape_of l t) ≡ true) (path : C.Path) (u : CType) (typed : leads_to (shape_along (Some (shape_of l t)) path) u ≡ true) where
     pub path_has_elements : HasElements path

@@ -4,7 +4,7 @@ use Rattle.std.proofs.lemmas.Bool.{false≢true}
 use Rattle.correspondence.specs.Outcome.{Then, done}
 use Rattle.correspondence.specs.Corresponds.{Corresponds}
 use Rattle.correspondence.proofs.Corresponds.{done_corresponds, any_corresponds}
-use Rattle.c_values.specs.Types.{Target, CType, Integer, Void, Ptr, Struct, Array, is_signed, width_of}
+use Rattle.c_values.specs.Types.{Target, CType, Integer, Ptr, is_signed, width_of}
 use Rattle.c_values.specs.Word.{Word, IsWord, word}
 use Rattle.c_values.specs.Value as V
 use Rattle.c_values.specs.Layout.{is_scalar, scalar_width}
@@ -42,6 +42,4 @@ kind_picked p t Numbers (Integer i) h =
     by_test (λ k. Corresponds (IsWordIn (width_of t i)) SameKind (picked p (width_of t i)) (picked_word_at p k)) (is_signed i) (IntKind (width_of t i)) (NatKind (width_of t i))
     (λ e. word_picked p (width_of t i)) (λ e. word_picked p (width_of t i))
 kind_picked p t Numbers (Ptr u) h = word_picked p (scalar_width t (Ptr u))
-kind_picked p t Numbers Void h = absurd (false≢true h)
-kind_picked p t Numbers (Struct x) h = absurd (false≢true h)
-kind_picked p t Numbers (Array u n) h = absurd (false≢true h)
+kind_picked _ _ _ _ h = absurd (false≢true h)

@@ -92,8 +92,7 @@ same_twice l env s b c k e f a Q h i q = subst (λ x. Same (unless (b && c) k (O
   where
     by_case : (b c : Bool) → ((b && c) ≡ true → Q a) → Same (unless (b && c) k (Ok a)) (cond b (cond c None (Some k)) (Some k)) Q
     by_case true true q = (refl, q refl)
-    by_case true false q = refl
-    by_case false c q = refl
+    by_case _ _ _ = refl
 
 is_natural : (w : ℕ) (z : ℤ) → is_shift w z ≡ true → (m : ℕ) × (z ≡ pos m)
 is_natural w (pos m) h = (m, refl)

@@ -58,10 +58,7 @@ module _ (g : Scope) (level : Level) (p : Choice) (locals : List Binder) (h : St
     last_ended (Broken m) (Abrupt n) e = done_corresponds (IsEnd g r) SameKind (Broken m) (Abrupt n) e
     last_ended (Continued m) (Abrupt n) e = done_corresponds (IsEnd g r) SameKind (Continued m) (Abrupt n) e
     last_ended (Returning v m) (Abrupt n) e = done_corresponds (IsEnd g r) SameKind (Returning v m) (Abrupt n) e
-    last_ended (Next m) (Abrupt n) e = absurd e
-    last_ended (Broken m) (Normal n) e = absurd e
-    last_ended (Continued m) (Normal n) e = absurd e
-    last_ended (Returning v m) (Normal n) e = absurd e
+    last_ended _ _ e = absurd e
 
     in_order_same : (s : C.Statement) (ss : C.Statements) → Same s → SameAll ss → SameAll (C.next s ss)
     in_order_same s C.no_statements k ks fs fs' paired m n a =
@@ -86,10 +83,7 @@ module _ (g : Scope) (level : Level) (p : Choice) (locals : List Binder) (h : St
     before_then fs q q' k (Returning v m) (Abrupt n) e = same_on_left (after_done (Returning v m) (and_next (λ o. rest fs o))) (done_corresponds (IsEnd g r) SameKind (Returning v m) (Abrupt n) e)
     before_then fs q q' k (Broken m) (Abrupt n) e = absurd (false≢true e.0)
     before_then fs q q' k (Continued m) (Abrupt n) e = absurd (false≢true e.0)
-    before_then fs q q' k (Next m) (Abrupt n) e = absurd e
-    before_then fs q q' k (Broken m) (Normal n) e = absurd e
-    before_then fs q q' k (Continued m) (Normal n) e = absurd e
-    before_then fs q q' k (Returning v m) (Normal n) e = absurd e
+    before_then _ _ _ _ _ _ e = absurd e
 
     before_same : (ss : C.Statements) → SameStatements nowhere depth ss →
         SameRuns g level p locals h r depth (λ fs m. Then (statements (setting g p level) ss depth fs m) (and_next (λ n. rest fs n))) (before g.layout level ss s)

@@ -43,10 +43,7 @@ module _ (g : Scope) (p : Choice) (locals : List Binder) (r : Around) (depth : O
   switch_caught (Broken m) (Abrupt n) h = stops_here (IsEnd g r) g.layout p locals depth fs n (done (Next m)) broken broken h.2 refl (done_corresponds (IsEnd g r) SameKind (Next m) (Normal n) h.1)
   switch_caught (Continued m) (Abrupt n) h = thrown_on (IsEnd g r) g.layout p locals depth fs n (done (Continued m)) broken continued h.2 refl (done_corresponds (IsEnd g r) SameKind (Continued m) (Abrupt n) h)
   switch_caught (Returning v m) (Abrupt n) h = thrown_on (IsEnd g r) g.layout p locals depth fs n (done (Returning v m)) broken returned h.2 refl (done_corresponds (IsEnd g r) SameKind (Returning v m) (Abrupt n) h)
-  switch_caught (Next m) (Abrupt n) h = absurd h
-  switch_caught (Broken m) (Normal n) h = absurd h
-  switch_caught (Continued m) (Normal n) h = absurd h
-  switch_caught (Returning v m) (Normal n) h = absurd h
+  switch_caught _ _ h = absurd h
 
   pub caught_same : (q : Ended) (q' : Ends X.Flow GuardKind) → Corresponds (IsEnd g (in_a_switch r)) SameKind q q' →
       Corresponds (IsEnd g r) SameKind (Then q switched) (Then q' (X.handled (λ n. execs g.layout p locals (stops_at broken) depth fs n)))

@@ -5,24 +5,15 @@ use Rattle.std.proofs.lemmas.Bool.{false≢true}
 
 pub all_of_three : (a b c : Bool) → (a && b && c) ≡ true → (a ≡ true) × (b ≡ true) × (c ≡ true)
 all_of_three true true true h = (refl, refl, refl)
-all_of_three true true false h = absurd (false≢true h)
-all_of_three true false c h = absurd (false≢true h)
-all_of_three false b c h = absurd (false≢true h)
+all_of_three _ _ _ h = absurd (false≢true h)
 
 pub all_of_four : (a b c d : Bool) → (a && b && c && d) ≡ true → (a ≡ true) × (b ≡ true) × (c ≡ true) × (d ≡ true)
 all_of_four true true true true h = (refl, refl, refl, refl)
-all_of_four true true true false h = absurd (false≢true h)
-all_of_four true true false d h = absurd (false≢true h)
-all_of_four true false c d h = absurd (false≢true h)
-all_of_four false b c d h = absurd (false≢true h)
+all_of_four _ _ _ _ h = absurd (false≢true h)
 
 pub all_of_five : (a b c d e : Bool) → (a && b && c && d && e) ≡ true → (a ≡ true) × (b ≡ true) × (c ≡ true) × (d ≡ true) × (e ≡ true)
 all_of_five true true true true true h = (refl, refl, refl, refl, refl)
-all_of_five true true true true false h = absurd (false≢true h)
-all_of_five true true true false e h = absurd (false≢true h)
-all_of_five true true false d e h = absurd (false≢true h)
-all_of_five true false c d e h = absurd (false≢true h)
-all_of_five false b c d e h = absurd (false≢true h)
+all_of_five _ _ _ _ _ h = absurd (false≢true h)
 
 -- what holds of both choices, each under its test
 pub by_test : {A : Type 0} (P : A → Type 0) (b : Bool) (x y : A) → (b ≡ true → P x) → (b ≡ false → P y) → P (if b then x else y)

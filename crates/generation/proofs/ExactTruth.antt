@@ -1,6 +1,6 @@
 -- Truth: a scalar is true where its word isn't zero, and an int of a truth value is true where that is.
 use Rattle.std.proofs.Common.{◌≡◌, Bool, true, false, not, pos, refl, ap, ◌∙◌, subst, sym}
-use Rattle.c_values.specs.Types.{CType, Integer, Int, Void, Ptr, Struct, Array}
+use Rattle.c_values.specs.Types.{CType, Integer, Int, Ptr}
 use Rattle.c_values.specs.Word.{word}
 use Rattle.c_values.specs.Value.{Value, Bits, same_value}
 use Rattle.c_values.specs.Layout.{Layout, is_scalar, scalar_width, shape_of}
@@ -19,16 +19,12 @@ use Rattle.generation.proofs.ExactNumbers.{some_scalar, same_as_number, zero_bet
 pub scalar_bits : (l : Layout) (t : CType) (v : Value) → is_scalar t ≡ true → HasShape (shape_of l t) v → IsBits (scalar_width l.target t) v
 scalar_bits l (Integer i) v h k = k
 scalar_bits l (Ptr t) v h k = k
-scalar_bits l Void v h k = absurd cc
-scalar_bits l (Struct x) v h k = absurd cc
-scalar_bits l (Array t n) v h k = absurd cc
+scalar_bits l _ v h k = absurd cc
 
 pub scalar_shaped : (l : Layout) (t : CType) (v : Value) → is_scalar t ≡ true → IsBits (scalar_width l.target t) v → HasShape (shape_of l t) v
 scalar_shaped l (Integer i) v h k = k
 scalar_shaped l (Ptr t) v h k = k
-scalar_shaped l Void v h k = absurd cc
-scalar_shaped l (Struct x) v h k = absurd cc
-scalar_shaped l (Array t n) v h k = absurd cc
+scalar_shaped l _ v h k = absurd cc
 
 is_true_int : (l : Layout) (b : Bool) → is_true (int_of l b) ≡ b
 is_true_int l true = refl

@@ -44,9 +44,7 @@ result_others t level (Some u) = (refl, tt)
 
 use_others : (t : Target) (level : Level) (n : ℕ) (u : C.Use) → OthersAlone (use_binder t level n u)
 use_others t level n C.NoResult = tt
-use_others t level n (C.Ignored from) = (refl, tt)
-use_others t level n (C.Assigned from d) = (refl, tt)
-use_others t level n (C.Returned from to) = (refl, tt)
+use_others _ _ _ _ = (refl, tt)
 
 record AddedOthers (a : Added) : Type 0 where
   pub calls : OthersAlone a.calls

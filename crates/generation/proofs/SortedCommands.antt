@@ -3,7 +3,7 @@ use Rattle.std.proofs.Common.{◌≡◌, ℕ, Bool, true, false, List, [], ◌�
 use Rattle.std.proofs.lemmas.Bool.{false≢true, and_from, cond-true, cond-false}
 use Rattle.std.specs.Cmp.{first_so, second_so}
 use Rattle.c_values.specs.Name.{Name}
-use Rattle.c_values.specs.Types.{Target, IntType, CType, Integer, Void, Ptr, Struct, Array, is_signed, width_of, address_width}
+use Rattle.c_values.specs.Types.{Target, IntType, CType, Integer, is_signed, width_of, address_width}
 use Rattle.c_values.specs.Layout.{Layout, Shape, Incomplete, Scalar, Record, Row, type_of, shape_of, is_object, is_scalar, scalar_width}
 use Rattle.c_values.specs.CodeSameType.{type_is, same_type-refl}
 use Rattle.c_values.proofs.Laid.{IsLaid, structs_of}
@@ -11,7 +11,7 @@ use Rattle.c_values.proofs.Options.{none_some}
 use Rattle.expression_lang.specs.Expression as E
 use Rattle.expression_lang.specs.Form.{path_has, is_part_of_value}
 use Rattle.expression_lang.specs.Sort as S
-use Rattle.expression_lang.specs.Sort.{Level, Bytes, Words, Numbers, NatKind, IntKind, BoolKind, Of, WordSort, TruthSort, word_sort_of, is_word_of, scalar_sort, sort_at, shape_along}
+use Rattle.expression_lang.specs.Sort.{Level, Numbers, NatKind, IntKind, BoolKind, Of, WordSort, TruthSort, word_sort_of, is_word_of, scalar_sort, sort_at, shape_along}
 use Rattle.expression_lang.specs.Signature.{Binder, Signature, signature, kinds_of, kind_at, result_kind, binder}
 use Rattle.expression_lang.specs.Sorted.{program_sort, part_place, global_place, fits_place, sort_in, scalars_of, scalar_in, with_scalar, same_scalars, call_scalars, result_scalars}
 use Rattle.expression_lang.proofs.SameScalars.{same_scalars-refl, same_scalar-refl}
@@ -34,13 +34,8 @@ use Rattle.generation.proofs.SortedExpressions.{IsScope, simpl_scope, scalar_wid
 -- kinds of scalar types
 
 pub kind_word : (t : Target) (level : Level) (u : CType) → word_sort_of (kind_at t level u) ≡ WordSort (scalar_width t u)
-kind_word t Bytes u = refl
-kind_word t Words u = refl
 kind_word t Numbers (Integer i) = by_test (λ k. word_sort_of k ≡ WordSort (width_of t i)) (is_signed i) (IntKind (width_of t i)) (NatKind (width_of t i)) (λ b. refl) (λ b. refl)
-kind_word t Numbers Void = refl
-kind_word t Numbers (Ptr u) = refl
-kind_word t Numbers (Struct x) = refl
-kind_word t Numbers (Array u n) = refl
+kind_word _ _ _ = refl
 
 -- a part that is whole fits its place
 part_fits : (t : Target) (structs : Name → Shape) (q : Shape) → IsLaid t structs q → fits_place (sort_at q) (sort_at q) ≡ true
@@ -280,10 +275,7 @@ module _ (g : Scope) (names : Name → Option S.Scalar) (sigs : List Signature) 
   use_sorted (Some t) n f es (C.Returned from to) h k d =
       seq_sorted s sigs (called_into n f es t from h (type_is t from (first_so _ _ k)) d.0)
       (seq_sorted s sigs (set_result to _ (is_declared g.result to (second_so _ _ k)) (call_value n from to d.0)) (jumps returned))
-  use_sorted None n f es (C.Ignored from) h k d = absurd (false≢true k)
-  use_sorted None n f es (C.Assigned from target) h k d = absurd (false≢true k)
-  use_sorted None n f es (C.Returned from to) h k d = absurd (false≢true k)
-  use_sorted (Some t) n f es C.NoResult h k d = absurd (false≢true k)
+  use_sorted _ _ _ _ _ _ k _ = absurd (false≢true k)
 
   call_sorted : (o : Option C.TypedFn) (n : ℕ) (f : Name) (es : List C.Expr) (u : C.Use) → C.typed_fn g.functions f ≡ o → is_call_of g o es u ≡ true → AreIn names (use_binder g.layout.target level n u) → Good (call_of g.layout level n f es u)
   call_sorted None n f es u e h d = absurd (false≢true h)

@@ -6,11 +6,11 @@ use Rattle.std.proofs.lemmas.Bool.{false≢true}
 use Rattle.std.proofs.lemmas.Bool.Decides.{nat_tests}
 use Rattle.std.specs.Cmp.{first_so, second_so}
 use Rattle.c_values.specs.Name.{Name}
-use Rattle.c_values.specs.Types.{Target, Ilp32, Lp64, IntType, Char, SChar, UChar, Short, UShort, Int, UInt, Long, ULong, LLong, ULLong, CType, Integer, Void, Ptr, Struct, Array, width_of, address_width, is_signed}
+use Rattle.c_values.specs.Types.{Target, Ilp32, Lp64, IntType, Short, UShort, Int, UInt, Long, ULong, LLong, ULLong, CType, Integer, Void, Ptr, Struct, Array, width_of, address_width, is_signed}
 use Rattle.c_values.specs.Width.{IsWidth}
 use Rattle.c_values.specs.Number.{NumberOp, Add, Sub, Mul, Div, greatest_of}
 use Rattle.c_values.specs.Word.{Wushr, Wsshr, Wshl, Wneg, Wnot}
-use Rattle.c_values.specs.Layout.{Layout, IsLayout, Shape, Incomplete, Scalar, Record, Row, Fields, no_fields, field, shape_of, is_object, is_scalar, scalar_width, global_type}
+use Rattle.c_values.specs.Layout.{Layout, IsLayout, Shape, Scalar, Record, Row, Fields, no_fields, field, shape_of, is_object, is_scalar, scalar_width, global_type}
 use Rattle.c_values.specs.Path.{Spot, member_spot}
 use Rattle.c_values.specs.CodeSameType.{type_is}
 use Rattle.c_values.proofs.Laid.{IsLaid, AreLaid, structs_of, shape_good}
@@ -38,9 +38,6 @@ address_wide Ilp32 = inr (inr (inl refl))
 address_wide Lp64 = inr (inr (inr refl))
 
 integer_wide : (t : Target) (i : IntType) → IsWidth (width_of t i)
-integer_wide t Char = inl refl
-integer_wide t SChar = inl refl
-integer_wide t UChar = inl refl
 integer_wide t Short = inr (inl refl)
 integer_wide t UShort = inr (inl refl)
 integer_wide t Int = inr (inr (inl refl))
@@ -49,6 +46,7 @@ integer_wide t Long = address_wide t
 integer_wide t ULong = address_wide t
 integer_wide t LLong = inr (inr (inr refl))
 integer_wide t ULLong = inr (inr (inr refl))
+integer_wide _ _ = inl refl
 
 pub scalar_wide : (t : Target) (u : CType) → IsWidth (scalar_width t u)
 scalar_wide t (Integer i) = integer_wide t i
@@ -62,16 +60,11 @@ scalar_wide t (Array u n) = address_wide t
 pub type_word : (l : Layout) (t : CType) → is_scalar t ≡ true → sort_at (shape_of l t) ≡ word_sort (scalar_width l.target t)
 type_word l (Integer i) h = refl
 type_word l (Ptr t) h = refl
-type_word l Void h = absurd (false≢true h)
-type_word l (Struct x) h = absurd (false≢true h)
-type_word l (Array t n) h = absurd (false≢true h)
+type_word _ _ h = absurd (false≢true h)
 
 integer_scalar : (t : CType) → is_integer t ≡ true → is_scalar t ≡ true
 integer_scalar (Integer i) h = refl
-integer_scalar Void h = absurd (false≢true h)
-integer_scalar (Ptr t) h = absurd (false≢true h)
-integer_scalar (Struct x) h = absurd (false≢true h)
-integer_scalar (Array t n) h = absurd (false≢true h)
+integer_scalar _ h = absurd (false≢true h)
 
 -- shapes along paths
 
@@ -94,12 +87,7 @@ module _ (t : Target) (structs : Name → Shape) where
       by_member None c d rest = absurd (none_some (sym (none_along path) ∙ d))
       by_member (Some r) c d rest = rest r d (member_laid fs k r h.members c)
   along_laid (Row s m) (C.Element n i path) q e h = along_laid s path q (into_row n m s path q e).1 h
-  along_laid Incomplete (C.Member k path) q e h = absurd (none_some e)
-  along_laid Incomplete (C.Element n i path) q e h = absurd (none_some e)
-  along_laid (Scalar u w) (C.Member k path) q e h = absurd (none_some e)
-  along_laid (Scalar u w) (C.Element n i path) q e h = absurd (none_some e)
-  along_laid (Record x n align fs) (C.Element m i path) q e h = absurd (none_some e)
-  along_laid (Row s m) (C.Member k path) q e h = absurd (none_some e)
+  along_laid _ _ _ e _ = absurd (none_some e)
 
 larger : (to from : ℕ) → (to == from) ≡ false → nat_lt to from ≡ false → nat_lt from to ≡ true
 larger to from h k = grind (arith, nat_tests)
@@ -311,12 +299,7 @@ module _ (g : Scope) (names : Name → Option S.Scalar) (is : IsScope g names) w
         by_member (Some r) c d rest =
             let m = member_found fs k r c in R.into_field s x n align fs k m.0 _ q m.1 (subst (λ z. HasPath s (path_of l path) z q) (sym m.2) (rest r q d))
     path_sorted (C.Element n i path) h (Row r m) q e = R.into_element s r m _ _ q (number_read i (first_so _ _ (first_so _ _ h)) (expression_sorted i (second_so _ _ (first_so _ _ h)))) (path_sorted path (second_so _ _ h) r q (into_row n m r path q e).1)
-    path_sorted (C.Member k path) h Incomplete q e = absurd (none_some e)
-    path_sorted (C.Member k path) h (Scalar u w) q e = absurd (none_some e)
-    path_sorted (C.Member k path) h (Row r m) q e = absurd (none_some e)
-    path_sorted (C.Element n i path) h Incomplete q e = absurd (none_some e)
-    path_sorted (C.Element n i path) h (Scalar u w) q e = absurd (none_some e)
-    path_sorted (C.Element n i path) h (Record x m align fs) q e = absurd (none_some e)
+    path_sorted _ _ _ _ e = absurd (none_some e)
 
   -- the path of a typed place, from a root that is an object
   pub path_in_memory : (t : CType) (p : C.Expr) (path : C.Path) (u : CType) → is_typed_place g (C.Through t p path u) ≡ true → Leads t path u

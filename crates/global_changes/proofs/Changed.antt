@@ -74,8 +74,7 @@ of_are l (g ∷ gs) (v ∷ vs) h = (h.0, of_are l gs vs h.1)
 both_tests : (a b : Bool) (n v u r : Value) → (b ≡ true → a ≡ false) → cond b v (cond a n r) ≡ cond a n (cond b v r)
 both_tests true true n v u r h = absurd (false≢true (sym (h refl)))
 both_tests false true n v u r h = refl
-both_tests true false n v u r h = refl
-both_tests false false n v u r h = refl
+both_tests _ _ _ _ _ _ _ = refl
 
 module _ (l : Layout) (x : Name) (ps : List Step) (w : Value) where
   change_values : (t : CType) (gs : List GlobalVar) (vs : List Value) → AreOf l gs vs → global_type gs x ≡ Some t → (y : Name) →
@@ -99,11 +98,10 @@ module _ (l : Layout) (x : Name) (ps : List Step) (w : Value) where
       ∙ ap (λ n. cond (same_name x y) (upd n ps w) (cond (same_name g.name y) v (values_at gs vs y))) (sym (cond-false (same_name g.name x) v (values_at gs vs x) b)))
     where
       here : (a b : Bool) → b ≡ true → (d : Bool) → d ≡ a → cond a (upd v ps w) (values_at gs vs y) ≡ cond a (upd (cond b v (values_at gs vs x)) ps w) (cond d v (values_at gs vs y))
-      here true true q true r = refl
-      here false true q false r = refl
       here true true q false r = absurd (false≢true r)
       here false true q true r = absurd (false≢true (sym r))
       here a false q d r = absurd (false≢true q)
+      here _ _ _ _ _ = refl
 
   change_types : (gs : List GlobalVar) (vs : List Value) → AreOf l gs vs → ((t : CType) (v : Value) → global_type gs x ≡ Some t → HasShape (shape_of l t) v → HasShape (shape_of l t) (upd v ps w)) →
       AreOf l gs (change_in (position_of x gs) ps w vs)

@@ -7,7 +7,7 @@ use Rattle.std.proofs.lemmas.List.{map-append}
 use Rattle.c_values.specs.Name.{Name, same_name, is_among}
 use Rattle.c_values.proofs.Laid.{name_is}
 use Rattle.c_values.specs.Path.{IsBits}
-use Rattle.c_values.specs.Value.{Value, Bits, Number, Truth, Parts, word_in}
+use Rattle.c_values.specs.Value.{Value, Bits, word_in}
 use Rattle.global_changes.proofs.Changed.{by_test}
 
 pub or_second : (a b : Bool) → a ≡ false → (a || b) ≡ true → b ≡ true
@@ -39,6 +39,4 @@ one_more f xs ys x b rest all grown same h =
 
 pub bits_below : (n : ℕ) (v : Value) → IsBits n v → (word_in v).bits < 2 ^ n
 bits_below n (Bits w) h = h.fits
-bits_below n (Number z) h = absurd h
-bits_below n (Truth b) h = absurd h
-bits_below n (Parts vs) h = absurd h
+bits_below _ _ h = absurd h

@@ -1,6 +1,6 @@
 -- What an expression is lifted to, at its shape.
 use Rattle.std.proofs.Common.{◌≡◌, refl, ap, sym, ◌∙◌}
-use Rattle.expression_lang.specs.Expression.{Exp, Var, WordLit, NumberLit, TruthLit, WordBinary, WordShift, WordUnary, WordCompare, Cast, ToNat, ToInt, ToWord, Arith, Negate, Lt, Le, Between, Eq, And, Or, Imp, Not, If, Padd, At, Load, Read, Tagged, PtrOk, Global, Sel, Upd}
+use Rattle.expression_lang.specs.Expression.{Exp, Between, If, Padd, Global, Sel, Upd}
 use Rattle.expression_lang.specs.CodeShape.{Shape, LeafShape, OneShape, TwoShape, BetweenShape, IfShape, PaddShape, RootShape, PlaceShape, GlobalShape, SelShape, UpdShape, shape_of, whole_leaf, whole_one, whole_two, whole_root, whole_place}
 use Rattle.rule_trees.specs.RuleTree.{node, no_trees, tree}
 use Rattle.rule_heap.specs.Rule as R
@@ -27,38 +27,8 @@ shape_lifted (UpdShape e path v) = record {
 }
 
 exp_shape : (e : Exp) → lifted_exp e ≡ shape_lifted (shape_of e)
-exp_shape (Var x) = refl
-exp_shape (WordLit x) = refl
-exp_shape (NumberLit x) = refl
-exp_shape (TruthLit x) = refl
-exp_shape (WordBinary op a b) = refl
-exp_shape (WordShift op a b) = refl
-exp_shape (WordUnary op a) = refl
-exp_shape (WordCompare op a b) = refl
-exp_shape (Cast op n a) = refl
-exp_shape (ToNat a) = refl
-exp_shape (ToInt a) = refl
-exp_shape (ToWord n a) = refl
-exp_shape (Arith op a b) = refl
-exp_shape (Negate a) = refl
-exp_shape (Lt a b) = refl
-exp_shape (Le a b) = refl
 exp_shape (Between low a high) = refl
-exp_shape (Eq a b) = refl
-exp_shape (And a b) = refl
-exp_shape (Or a b) = refl
-exp_shape (Imp a b) = refl
-exp_shape (Not a) = refl
-exp_shape (If a b c) = refl
-exp_shape (Padd t a b) = refl
-exp_shape (At t a path) = refl
-exp_shape (Load t a path) = refl
-exp_shape (Read t a path) = refl
-exp_shape (Tagged t a) = refl
-exp_shape (PtrOk t a) = refl
-exp_shape (Global x path) = refl
-exp_shape (Sel a path) = refl
-exp_shape (Upd a path b) = refl
+exp_shape _ = refl
 
 pub lifted_shape : (e : Exp) (s : Shape) → s ≡ shape_of e → lifted_exp e ≡ shape_lifted s
 lifted_shape e s same = exp_shape e ∙ ap shape_lifted (sym same)

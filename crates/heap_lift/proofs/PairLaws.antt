@@ -26,8 +26,7 @@ no_pointer_no_pair m xs n h = refl
 
 pub no_tag_no_pair : (m : Mon) (xs : List Name) (n : Mon) → IsNoTagTest n → is_pair m xs n ≡ false
 no_tag_no_pair (M.Guard (E.PtrOk t p)) [] (M.Bind (M.Guard (E.Tagged u q)) [] r) h = absurd h
-no_tag_no_pair (M.Guard (E.PtrOk t p)) [] n h = refl
-no_tag_no_pair m xs n h = refl
+no_tag_no_pair _ _ _ _ = refl
 
 -- the tests are of different types, or look at different pointers
 tests_no_pair : (t u : CType) (p q : Exp) (r m n : Mon) (xs : List Name) → m ≡ M.Guard (E.PtrOk t p) → xs ≡ [] → n ≡ M.Bind (M.Guard (E.Tagged u q)) [] r →

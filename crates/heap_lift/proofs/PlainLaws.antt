@@ -11,11 +11,9 @@ use Rattle.heap_lift.specs.Lifted.{is_plain_exp, are_plain_starts}
 
 -- neither of the one nor of the other
 neither : (a b c d : Bool) → (not (a || b) && not (c || d)) ≡ ((not a && not c) && (not b && not d))
-neither true b c d = refl
 neither false true true d = refl
-neither false true false d = refl
 neither false false true d = refl
-neither false false false d = refl
+neither _ _ _ _ = refl
 
 pub plain_bind : (m : Mon) (xs : List Name) (n : Mon) → is_plain (M.Bind m xs n) ≡ (is_plain m && is_plain n)
 plain_bind m xs n = neither (program_has is_load is_stored m) (program_has is_load is_stored n) (program_has is_ptrok no_place m) (program_has is_ptrok no_place n)

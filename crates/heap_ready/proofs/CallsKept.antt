@@ -47,15 +47,13 @@ module _ (test : Name → Bool) where
 
   module _ (l : Layout) (level : Level) where
     assignment_calls : (d : C.Destination) (e : E.Exp) → CallsOnly (assignment l d e)
-    assignment_calls (C.ToLocal x t) e = tt
     assignment_calls (C.ToPlace (C.Through t p path u)) e = tt
-    assignment_calls (C.ToPlace (C.InGlobal x path u)) e = tt
+    assignment_calls _ _ = tt
 
     use_calls : (n : ℕ) (f : Name) (es : List E.Exp) (u : C.Use) → test f ≡ true → CallsOnly (call l level n f es u)
-    use_calls n f es C.NoResult h = h
-    use_calls n f es (C.Ignored from) h = h
     use_calls n f es (C.Assigned from d) h = (h, guarded_calls (target_guards l level d) _ (assignment_calls d _))
     use_calls n f es (C.Returned from to) h = (h, (tt, (tt, tt)))
+    use_calls _ _ _ _ h = h
 
     in_order_calls : (a : Simpl) (b : Bool) (c : Simpl) → CallsOnly a → CallsOnly c → CallsOnly (in_order a b c)
     in_order_calls a true c h k = h
@@ -63,9 +61,7 @@ module _ (test : Name → Bool) where
 
     mutual
       command_calls : (s : C.Statement) → list_all test (callees s) ≡ true → CallsOnly (command l level s)
-      command_calls C.Empty h = tt
       command_calls (C.Block ss) h = commands_calls ss h
-      command_calls (C.Declare x t) h = tt
       command_calls (C.Assign d e) h = guarded_calls (guards l level e ++ target_guards l level d) _ (assignment_calls d (exp l e))
       command_calls (C.Call n f es u) h = guarded_calls (argument_guards l level es) _ (use_calls n f (exps l es) u (and_parts (test f) true h).0)
       command_calls (C.If e a b) h =
@@ -82,6 +78,7 @@ module _ (test : Name → Bool) where
       command_calls C.Continue h = (tt, tt)
       command_calls C.ReturnNothing h = (tt, tt)
       command_calls (C.Return e) h = guarded_calls (guards l level e) _ (tt, (tt, tt))
+      command_calls _ _ = tt
 
       pub commands_calls : (ss : C.Statements) → list_all test (callees_in ss) ≡ true → CallsOnly (commands l level ss)
       commands_calls C.no_statements h = tt
@@ -122,18 +119,13 @@ module _ (test : Name → Bool) where
   repeated_calls false cs e r h = h
 
   pub eliminated_calls : (a : Simpl) → CallsOnly a → CallsOnly (exceptions_eliminated a).right
-  eliminated_calls Skip h = tt
-  eliminated_calls Throw h = tt
-  eliminated_calls (Set x e) h = tt
-  eliminated_calls (SetGlobal x path e) h = tt
-  eliminated_calls (Store t p path e) h = tt
-  eliminated_calls (Pick x) h = tt
   eliminated_calls (Call x f es) h = h
   eliminated_calls (Seq a b) h = sequence_calls (quiet a) _ _ (eliminated_calls a h.0) (eliminated_calls b h.1)
   eliminated_calls (Cond e a b) h = (eliminated_calls a h.0, eliminated_calls b h.1)
   eliminated_calls (Guard c a) h = eliminated_calls a h
   eliminated_calls (Catch a b) h = caught_calls (quiet a) b _ _ (eliminated_calls a h.0) (eliminated_calls b h.1)
   eliminated_calls (While cs e a) h = repeated_calls (quiet a) cs e _ (eliminated_calls a h)
+  eliminated_calls _ _ = tt
 
   -- programs
 
@@ -142,12 +134,7 @@ module _ (test : Name → Bool) where
   set_calls false x e vs = refl
 
   lifted_calls : (bs : List Binder) (a : Simpl) (vs : List Name) → CallsOnly a → calls_only test (lifted bs a vs).right ≡ true
-  lifted_calls bs Skip vs h = refl
-  lifted_calls bs Throw vs h = refl
   lifted_calls bs (Set x e) vs h = set_calls (is_among x vs) x e vs
-  lifted_calls bs (SetGlobal x path e) vs h = refl
-  lifted_calls bs (Store t p path e) vs h = refl
-  lifted_calls bs (Pick x) vs h = refl
   lifted_calls bs (Seq a b) vs h = and_from _ _ (lifted_calls bs a _ h.0) (lifted_calls bs b vs h.1)
   lifted_calls bs (Cond e a b) vs h = and_from _ _ (lifted_calls bs a vs h.0) (lifted_calls bs b vs h.1)
   lifted_calls bs (Guard c a) vs h = lifted_calls bs a vs h
@@ -155,6 +142,7 @@ module _ (test : Name → Bool) where
   lifted_calls bs (While cs e a) vs h = and_from _ true (lifted_calls bs a _ h) refl
   lifted_calls bs (Call (Some x) f es) vs h = and_from (test f) true h refl
   lifted_calls bs (Call None f es) vs h = and_from (test f) true h refl
+  lifted_calls _ _ _ _ = refl
 
   begun_calls : (ctx : Context) (xs : List Name) (inner : Lifted) → calls_only test inner.right ≡ true → calls_only test (begun ctx xs inner).right ≡ true
   begun_calls ctx [] inner h = h

@@ -2,7 +2,7 @@
 use Rattle.std.proofs.Common.{◌≡◌, List, [], ◌∷◌, ◌++◌, refl, sym, ap, subst}
 use Rattle.std.proofs.lemmas.List.{append-nil}
 use Rattle.c_values.specs.Layout.{Layout}
-use Rattle.simpl_lang.specs.Command.{Condition, Simpl, Skip, Throw, Set, SetGlobal, Store, Pick, Seq, Cond, Guard, Catch, While, Call}
+use Rattle.simpl_lang.specs.Command.{Condition, Simpl, Set, SetGlobal, Store, Seq, Cond, Guard, Catch, While, Call}
 use Rattle.ac_expr.specs.Fact.{Fact}
 use Rattle.generation.specs.Generate.{guarded}
 use Rattle.heap_ready.specs.CommandReady.{AllGiven, AreInOrder, IsCommandReady}
@@ -19,12 +19,9 @@ guarded_ready l before (g ∷ gs) c h k = (h.0, guarded_ready l (before ++ (g �
 
 -- what is ready from some conditions is ready from any that give them
 pub command_from_more : (l : Layout) (before now : List Condition) → ((fs : List Fact) → AllGiven fs now → AllGiven fs before) → (a : Simpl) → IsCommandReady l before a → IsCommandReady l now a
-command_from_more l before now k Skip h = tt
-command_from_more l before now k Throw h = tt
 command_from_more l before now k (Set x e) h = λ fs g. h fs (k fs g)
 command_from_more l before now k (SetGlobal x path e) h = λ fs g. h fs (k fs g)
 command_from_more l before now k (Store t p path e) h = λ fs g. h fs (k fs g)
-command_from_more l before now k (Pick x) h = tt
 command_from_more l before now k (Seq a b) h = (command_from_more l before now k a h.0, h.1)
 command_from_more l before now k (Cond e a b) h = ((λ fs g. h.0 fs (k fs g)), h.1, h.2)
 command_from_more l before now k (Guard c a) h = (
@@ -34,3 +31,4 @@ command_from_more l before now k (Guard c a) h = (
 command_from_more l before now k (Catch a b) h = h
 command_from_more l before now k (While cs e a) h = h
 command_from_more l before now k (Call x f es) h = λ fs g. h fs (k fs g)
+command_from_more _ _ _ _ _ _ = tt

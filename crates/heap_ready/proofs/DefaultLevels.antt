@@ -34,10 +34,7 @@ module _ (g : W.Scope) where
 
   mutual
     calls_there : (r : W.Around) (s : C.Statement) → W.is_statement g r s ≡ true → There (callees s)
-    calls_there r C.Empty h = tt
     calls_there r (C.Block ss) h = all_there r ss h
-    calls_there r (C.Declare x t) h = tt
-    calls_there r (C.Assign d e) h = tt
     calls_there r (C.Call n f es u) h = (called_there f (C.typed_fn g.functions f) es u refl h, tt)
     calls_there r (C.If e a b) h =
         let p = and_parts (W.is_typed_scalar g e && W.is_statement g r a) (W.is_statement g r b) h in
@@ -51,10 +48,7 @@ module _ (g : W.Scope) where
         both g.functions (callees_in init ++ callees step) (callees a)
         (both g.functions (callees_in init) (callees step) (all_there W.nowhere init i.0) (calls_there W.nowhere step q.1)) (calls_there W.in_a_loop a p.1)
     calls_there r (C.Switch n i e gs) h = groups_there (W.in_a_switch r) gs (and_parts _ (W.are_groups g (W.in_a_switch r) gs) h).1
-    calls_there r C.Break h = tt
-    calls_there r C.Continue h = tt
-    calls_there r C.ReturnNothing h = tt
-    calls_there r (C.Return e) h = tt
+    calls_there _ _ _ = tt
 
     all_there : (r : W.Around) (ss : C.Statements) → W.are_statements g r ss ≡ true → There (callees_in ss)
     all_there r C.no_statements h = tt

@@ -3,7 +3,7 @@
 use Rattle.std.proofs.Common.{◌≡◌, Bool, true, false, List, [], ◌∷◌, ◌++◌, refl, sym, ap, subst}
 use Rattle.c_values.specs.Layout.{Layout}
 use Rattle.expression_lang.specs.Expression.{Exp, And, Not}
-use Rattle.simpl_lang.specs.Command.{Condition, Simpl, Skip, Throw, Set, SetGlobal, Store, Pick, Seq, Cond, Guard, Catch, While, Call}
+use Rattle.simpl_lang.specs.Command.{Condition, Simpl, Skip, Throw, Pick, Seq, Cond, Guard, Catch, While}
 use Rattle.rule_heap.specs.ExpLifted.{IsReady}
 use Rattle.rule_exn.specs.Quiet.{quiet}
 use Rattle.rule_exn.specs.Table.{is_thrown, asked_unless_thrown, unless_thrown}
@@ -49,13 +49,10 @@ module _ (l : Layout) where
   pub eliminated_ready : (gs : List Condition) (a : Simpl) → IsCommandReady l gs a → IsCommandReady l gs (exceptions_eliminated a).right
   eliminated_ready gs Skip h = tt
   eliminated_ready gs Throw h = λ fs g. tt
-  eliminated_ready gs (Set x e) h = h
-  eliminated_ready gs (SetGlobal x path e) h = h
-  eliminated_ready gs (Store t p path e) h = h
   eliminated_ready gs (Pick x) h = tt
-  eliminated_ready gs (Call x f es) h = h
   eliminated_ready gs (Seq a b) h = sequence_ready (quiet a) gs _ _ (eliminated_ready gs a h.0) (eliminated_ready [] b h.1)
   eliminated_ready gs (Cond e a b) h = (h.0, eliminated_ready [] a h.1, eliminated_ready [] b h.2)
   eliminated_ready gs (Guard c a) h = (h.0, eliminated_ready (gs ++ (c ∷ [])) a h.1)
   eliminated_ready gs (Catch a b) h = caught_ready (quiet a) gs b _ _ (eliminated_ready [] a h.0) (eliminated_ready [] b h.1)
   eliminated_ready gs (While cs e a) h = repeated_ready (quiet a) gs cs e _ h.0 h.1 (eliminated_ready [] a h.2)
+  eliminated_ready _ _ h = h

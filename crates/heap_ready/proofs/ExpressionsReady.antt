@@ -3,7 +3,7 @@
 use Rattle.std.proofs.Common.{◌≡◌, ℕ, zero, suc, ◌==◌, ◌-◌, nat_lt, Bool, true, false, cond, ◌&&◌, List, [], ◌∷◌, ◌++◌, Option, Some, None, pos, inr, refl, sym, subst, arith}
 use Rattle.std.proofs.lemmas.Bool.{and_parts, eqb-true, false≢true}
 use Rattle.c_values.specs.Types.{IntType, CType, Integer, Ptr, is_signed}
-use Rattle.c_values.specs.Layout.{Layout, Shape, Incomplete, Scalar as WordShape, Record, Row, Fields, no_fields, field, shape_of, is_complete, are_complete, is_object}
+use Rattle.c_values.specs.Layout.{Layout, Shape, Record, Row, Fields, no_fields, field, shape_of, is_complete, are_complete, is_object}
 use Rattle.c_values.specs.Path.{Spot, member_spot}
 use Rattle.expression_lang.specs.Expression as E
 use Rattle.expression_lang.specs.Sort.{Level, is_lifted}
@@ -92,12 +92,7 @@ module _ (l : Layout) where
           let same : n - 1 ≡ m = omega (arith, eqb-true n (suc m) e) in
           (inr (subst (λ x. IsGiven fs (E.Between (pos 0) (exp_lifted (number (C.type_of i) (reading l i).value)) (pos x))) same k.0), rest (and_parts (nat_lt 0 (suc m)) (is_complete r) c).1 h)
       by_length rest false e h = absurd (no_lead u h)
-  in_range fs (C.Member j path) Incomplete u c h k = absurd (no_lead u h)
-  in_range fs (C.Member j path) (WordShape t n) u c h k = absurd (no_lead u h)
-  in_range fs (C.Member j path) (Row r m) u c h k = absurd (no_lead u h)
-  in_range fs (C.Element n i path) Incomplete u c h k = absurd (no_lead u h)
-  in_range fs (C.Element n i path) (WordShape t m) u c h k = absurd (no_lead u h)
-  in_range fs (C.Element n i path) (Record x m align ms) u c h k = absurd (no_lead u h)
+  in_range _ _ _ u _ h _ = absurd (no_lead u h)
 
 -- values and truths
 
@@ -119,10 +114,8 @@ pub cast_ready : (l : Layout) (fs : List Fact) (to from : ℕ) (s : Bool) (e : E
 cast_ready l fs to from s e h = by_widths (to == from) (nat_lt to from) s
   where
     by_widths : (a b c : Bool) → IsReady l fs (cond a e (cond b (E.Cast E.Trunc to e) (cond c (E.Cast E.Sext to e) (E.Cast E.Zext to e))))
-    by_widths true b c = h
-    by_widths false true c = h
     by_widths false false true = h
-    by_widths false false false = h
+    by_widths _ _ _ = h
 
 shift_ready : (l : Layout) (fs : List Fact) (i : IntType) (d : C.Direction) (a n : E.Exp) → IsReady l fs a → IsReady l fs n → IsReady l fs (shift i d a n)
 shift_ready l fs i C.Left a n h k = (h, k)

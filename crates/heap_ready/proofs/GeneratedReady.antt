@@ -110,8 +110,6 @@ module _ (g : Scope) (level : Level) (lifted : is_lifted level ≡ true) where
 
   use_ready : (gs : List Condition) (n : ℕ) (f : Name) (es : List E.Exp) (o : Option CType) (u : C.Use) → is_use_of g o u ≡ true → Under gs (λ fs. AreReady l fs es) →
       IsCommandReady l gs (call l level n f es u)
-  use_ready gs n f es o C.NoResult w h = h
-  use_ready gs n f es o (C.Ignored from) w h = h
   use_ready gs n f es None (C.Assigned from d) w h = absurd (false≢true w)
   use_ready gs n f es (Some t) (C.Assigned from d) w h =
       let typed = (and_parts (same_type t from && is_scalar (C.target_type d)) (is_typed_target g d) w).1 in
@@ -121,6 +119,7 @@ module _ (g : Scope) (level : Level) (lifted : is_lifted level ≡ true) where
             (assignment_ready (target_guards l level d) d e typed (λ fs a. a) (λ fs a. conversion_ready fs (C.target_type d) from (call_local n))),
       )
   use_ready gs n f es o (C.Returned from to) w h = (h, ((λ fs a. conversion_ready fs to from (call_local n)), jump_ready returned))
+  use_ready _ _ _ _ _ _ _ h = h
 
   called_ready : (n : ℕ) (f : Name) (es : List C.Expr) (u : C.Use) (o : Option C.TypedFn) → is_call_of g o es u ≡ true → Ready (call_of l level n f es u)
   called_ready n f es u None w = absurd (false≢true w)
@@ -145,9 +144,7 @@ module _ (g : Scope) (level : Level) (lifted : is_lifted level ≡ true) where
 
   mutual
     pub command_ready : (r : Around) (s : C.Statement) → is_statement g r s ≡ true → Ready (command l level s)
-    command_ready r C.Empty w = tt
     command_ready r (C.Block ss) w = commands_ready r ss w
-    command_ready r (C.Declare x t) w = tt
     command_ready r (C.Assign d e) w =
         let p = and_parts (is_typed_target g d) (is_typed_at g (C.target_type d) e) w in
         let typed = at_type (C.target_type d) e p.1 in
@@ -193,6 +190,7 @@ module _ (g : Scope) (level : Level) (lifted : is_lifted level ≡ true) where
     command_ready r (C.Return e) w =
         let typed = (and_parts (is_type g.result (C.type_of e)) (is_typed g e) w).1 in
         around (guards l level e) _ (guards_ready g level lifted e typed) ((λ fs k. value_there g level lifted e typed fs k), jump_ready returned)
+    command_ready _ _ _ = tt
 
     pub commands_ready : (r : Around) (ss : C.Statements) → are_statements g r ss ≡ true → Ready (commands l level ss)
     commands_ready r C.no_statements w = tt

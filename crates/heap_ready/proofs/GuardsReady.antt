@@ -85,8 +85,6 @@ module _ (g : Scope) (level : Level) (lifted : is_lifted level ≡ true) where
 
   mutual
     pub guards_ready : (e : C.Expr) → is_typed g e ≡ true → InOrder [] (guards l level e)
-    guards_ready (C.Constant i n) t = tt
-    guards_ready (C.Local x u) t = tt
     guards_ready (C.Value p) t =
         in_order_after l [] (place_guards l level p) (accesses l level p) (place_ready p t) (in_any_order l (place_guards l level p) (accesses l level p) (λ fs h. accesses_ready p t fs h))
     guards_ready (C.Convert u a) t = guards_ready a (and_parts (has_scalar_type a) (is_typed g a) (and_parts (is_scalar u) (has_scalar_type a && is_typed g a) t).1).1
@@ -137,6 +135,7 @@ module _ (g : Scope) (level : Level) (lifted : is_lifted level ≡ true) where
         let k = three_typed (is_object l u) (has_integer_type a) (is_typed g a) (has_type (Ptr u) p) (is_typed g p) t in two (guards l level a) (guards l level p) (guards_ready a k.0) (guards_ready p k.1)
     guards_ready (C.Address p u) t = place_ready p (and_parts (is_in_memory p) (is_typed_place g p) (and_parts (is_in_memory p && is_typed_place g p) _ t).0).1
     guards_ready (C.Decay p u) t = place_ready p (and_parts (is_in_memory p) (is_typed_place g p) (and_parts (is_in_memory p && is_typed_place g p) _ t).0).1
+    guards_ready _ _ = tt
 
     pub place_ready : (p : C.Place) → is_typed_place g p ≡ true → InOrder [] (place_guards l level p)
     place_ready (C.Through u p path v) w =

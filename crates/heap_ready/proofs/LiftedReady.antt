@@ -4,7 +4,7 @@ use Rattle.std.proofs.Common.{◌≡◌, Bool, true, false, cond, List, [], ◌�
 use Rattle.c_values.specs.Name.{Name, same_name, is_among}
 use Rattle.c_values.specs.Layout.{Layout}
 use Rattle.expression_lang.specs.Expression as E
-use Rattle.expression_lang.specs.Sort.{Kind, WordKind, NatKind, IntKind, BoolKind}
+use Rattle.expression_lang.specs.Sort.{Kind, WordKind}
 use Rattle.expression_lang.specs.Signature.{Binder}
 use Rattle.simpl_lang.specs.Command.{Condition, Simpl, Skip, Throw, Set, SetGlobal, Store, Pick, Seq, Cond, Guard, Catch, While, Call, kind_of}
 use Rattle.monad_lang.specs.Program as M
@@ -27,19 +27,10 @@ set_is_no_pair true x e us vs n = refl
 set_is_no_pair false x e us vs n = refl
 
 pub lifted_is_no_pair : (bs : List Binder) (a : Simpl) (us vs : List Name) (n : M.Mon) → is_pair (lifted bs a us).right vs n ≡ false
-lifted_is_no_pair bs Skip us vs n = refl
-lifted_is_no_pair bs Throw us vs n = refl
 lifted_is_no_pair bs (Set x e) us vs n = set_is_no_pair (is_among x us) x e us vs n
-lifted_is_no_pair bs (SetGlobal x path e) us vs n = refl
-lifted_is_no_pair bs (Store t p path e) us vs n = refl
-lifted_is_no_pair bs (Pick x) us vs n = refl
-lifted_is_no_pair bs (Seq a b) us vs n = refl
-lifted_is_no_pair bs (Cond e a b) us vs n = refl
-lifted_is_no_pair bs (Guard c a) us vs n = refl
 lifted_is_no_pair bs (Catch a b) us vs n = lifted_is_no_pair bs a us vs n
-lifted_is_no_pair bs (While cs e a) us vs n = refl
 lifted_is_no_pair bs (Call (Some x) f es) us vs n = refl
-lifted_is_no_pair bs (Call None f es) us vs n = refl
+lifted_is_no_pair _ _ _ _ _ = refl
 
 pub pair_is_of_pointer : (e : E.Exp) (m : M.Mon) → is_pair (M.Guard e) [] m ≡ true → is_ptrok e ≡ true
 pair_is_of_pointer (E.PtrOk t p) m h = refl
@@ -92,9 +83,7 @@ module _ (l : Layout) where
 
   zero_ready : (fs : List Fact) (k : Kind) → IsReady l fs (zero_exp k)
   zero_ready fs (WordKind n) = tt
-  zero_ready fs (NatKind n) = tt
-  zero_ready fs (IntKind n) = tt
-  zero_ready fs BoolKind = tt
+  zero_ready _ _ = tt
 
   zeros_ready : (fs : List Fact) (bs : List Binder) (xs : List Name) → AreReady l fs (zeros_there (zeros bs xs))
   zeros_ready fs bs [] = tt
@@ -102,8 +91,7 @@ module _ (l : Layout) where
     where
       first : (o : Option Kind) (r : Option (List E.Exp)) → AreReady l fs (zeros_there r) → AreReady l fs (zeros_there (zero_first o r))
       first (Some k) (Some es) h = (zero_ready fs k, h)
-      first (Some k) None h = tt
-      first None r h = tt
+      first _ _ _ = tt
 
   -- a program around which a condition stands
 

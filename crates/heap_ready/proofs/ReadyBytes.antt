@@ -27,10 +27,6 @@ pair_none m xs n h k = absurd cc
 module _ (l : Layout) where
   mutual
     exp_none : (fs : List Fact) (e : E.Exp) → IsReady l fs e → has is_read e ≡ false
-    exp_none fs (E.Var x) h = refl
-    exp_none fs (E.WordLit x) h = refl
-    exp_none fs (E.NumberLit x) h = refl
-    exp_none fs (E.TruthLit x) h = refl
     exp_none fs (E.WordBinary op a b) h = or_from (has is_read a) (has is_read b) (exp_none fs a h.0) (exp_none fs b h.1)
     exp_none fs (E.WordShift op a b) h = or_from (has is_read a) (has is_read b) (exp_none fs a h.0) (exp_none fs b h.1)
     exp_none fs (E.WordUnary op a) h = exp_none fs a h
@@ -61,6 +57,7 @@ module _ (l : Layout) where
     exp_none fs (E.Sel a path) h = or_from (has is_read a) (path_has is_read path) (exp_none fs a h.0) (path_none fs path h.1)
     exp_none fs (E.Upd a path b) h =
         or_from (has is_read a || path_has is_read path) (has is_read b) (or_from (has is_read a) (path_has is_read path) (exp_none fs a h.0) (path_none fs path h.1)) (exp_none fs b h.2)
+    exp_none _ _ _ = refl
 
     path_none : (fs : List Fact) (path : E.Path) → IsPathReady l fs path → path_has is_read path ≡ false
     path_none fs E.Here h = refl

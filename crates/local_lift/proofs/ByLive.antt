@@ -1,5 +1,5 @@
 -- Lifted by what is live is lifted.
-use Rattle.std.proofs.Common.{◌≡◌, not, ◌&&◌, List, [], Some, None, refl, sym, ap, ap₂, ◌∙◌}
+use Rattle.std.proofs.Common.{◌≡◌, not, ◌&&◌, List, [], Some, refl, sym, ap, ap₂, ◌∙◌}
 use Rattle.c_values.specs.Name.{Name, is_among}
 use Rattle.expression_lang.specs.Signature.{Binder, names_of}
 use Rattle.simpl_lang.specs.Command as C
@@ -15,12 +15,6 @@ use Rattle.local_lift.proofs.LiveIsFree.{chosen_same, first_owned, second_owned,
 
 module _ (bs : List Binder) where
   pub by_live_is : (a : Simpl) → AssignsThese bs a → (vs : List Name) → by_live bs a vs ≡ lifted bs a vs
-  by_live_is C.Skip o vs = refl
-  by_live_is C.Throw o vs = refl
-  by_live_is (C.Set x e) o vs = refl
-  by_live_is (C.SetGlobal x path e) o vs = refl
-  by_live_is (C.Store t a path e) o vs = refl
-  by_live_is (C.Pick x) o vs = refl
   by_live_is (C.Seq a b) o vs =
       let first = first_owned bs a b o in
       let us = carried (names_of bs) a (live (names_of bs) b (among vs)) in
@@ -33,7 +27,7 @@ module _ (bs : List Binder) where
       let us = carried (names_of bs) a (live (names_of bs) (C.While gs e a) (among vs)) in
       ap (λ l. while_lifted gs e vs us (λ ws. l)) (by_live_is a o us) ∙ ap (λ ws. while_lifted gs e vs ws (λ w. lifted bs a w)) (sym (loop_hands_on bs gs e a o vs))
   by_live_is (C.Call (Some x) f es) o vs = refl
-  by_live_is (C.Call None f es) o vs = refl
+  by_live_is _ _ _ = refl
 
 pub whole_by_live_is : (ctx : Context) (a : Simpl) → AssignsThese ctx.locals a → (vs : List Name) → whole_by_live ctx a vs ≡ locals_lifted ctx a vs
 whole_by_live_is ctx a o vs =

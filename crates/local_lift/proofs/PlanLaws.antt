@@ -25,8 +25,7 @@ left (F.Guard' g p fs) = fs
 
 left_smaller : (fs : F.Fronts) → size-Fronts (left fs) ≤ size-Fronts fs
 left_smaller F.None = omega arith
-left_smaller (F.Seq' p a row q fs) = search (rules, F.the_lemmas)
-left_smaller (F.Guard' g p fs) = search (rules, F.the_lemmas)
+left_smaller _ = search (rules, F.the_lemmas)
 
 pub less_left : (n : ℕ) (fs others : F.Fronts) → others ≡ left fs → size-Fronts fs ≤ n → size-Fronts others ≤ n
 less_left n fs others e h = let s = left_smaller fs in subst (λ x. size-Fronts x ≤ n) (sym e) (omega (arith, s, h))

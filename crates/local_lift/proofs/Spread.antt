@@ -1,6 +1,6 @@
 -- What names lead to, in steps; and that liveness grows, is the sum of what it is for each name, and passes what isn't assigned.
 use Rattle.std.proofs.Common.{◌≡◌, Bool, true, false, not, ◌&&◌, ◌||◌, List, [], ◌∷◌, ◌⊎◌, inl, inr, sym, subst, ◌∙◌}
-use Rattle.std.proofs.lemmas.Bool.{false≢true, true≢false, and_parts, and_from, or_cases, or_parts, or_left, or_right, not_from_false}
+use Rattle.std.proofs.lemmas.Bool.{false≢true, true≢false, and_parts, and_from, or_parts, or_left, or_right, not_from_false}
 use Rattle.c_values.specs.Name.{Name, same_name, is_among}
 use Rattle.c_values.proofs.Laid.{name_is, same_name-refl}
 use Rattle.expression_lang.specs.Mentions.{names}
@@ -240,8 +240,6 @@ module _ (xs : List Name) where
 
   -- what isn't assigned stays live
   pub live_stays : (a : Simpl) (p : Name → Bool) (y : Name) → assigns y a ≡ false → p y ≡ true → live xs a p y ≡ true
-  live_stays Skip p y n h = h
-  live_stays Throw p y n h = h
   live_stays (Set x e) p y n h = or_right ((is_among x xs && p x) && names y e) (not (same_name y x) && p y) (and_from (not (same_name y x)) (p y) (not_from_false (same_name y x) n) h)
   live_stays (SetGlobal x path e) p y n h = or_right (path_names y path || names y e) (p y) h
   live_stays (Store t a path e) p y n h = or_right (names y a || path_names y path || names y e) (p y) h
@@ -254,6 +252,7 @@ module _ (xs : List Name) where
       let own = λ (z : Name). (names z (conj gs) || names z e) || live xs a none z in
       spread_from xs (λ z. live xs a (same_name z)) (λ z. own z || p z) y (or_right (own y) (p y) h)
   live_stays (Call x f es) p y n h = or_right (is_in_some y es) (not (is_target y x) && p y) (and_from (not (is_target y x)) (p y) (not_from_false (is_target y x) n) h)
+  live_stays _ _ _ _ h = h
 
   -- and nothing else is live for it, nor for what is no local
   abbrev pub OnlyItself : Simpl → Name → Name → Type 0

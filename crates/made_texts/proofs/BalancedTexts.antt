@@ -38,10 +38,9 @@ from_text true (before t m c) h = (h.0, h.1, paired_text c h.2)
 from_text false c h = paired_text c h
 
 one_text : (k : ℕ) (c : Chain) → HasText c → is_tree (as_one k c) ≡ true
-one_text zero (single t) h = h
-one_text (suc k) (single t) h = h
 one_text zero (before t m c) h = pair_text m t (as_one zero c) h.1 h.0 (one_text zero c h.2)
 one_text (suc k) (before t m c) h = one_text k (round (before t m c)) (from_text (nat_eq (suc (links c) % 2) 0) (before t m c) h)
+one_text _ _ h = h
 
 same_count : (ts : Trees Rule) → count (all_balanced ts) ≡ count ts
 same_count no_trees = refl

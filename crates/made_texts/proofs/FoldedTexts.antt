@@ -14,7 +14,7 @@ use Rattle.c_values.specs.Path.{Spot, Field, Index, step_spot}
 use Rattle.c_memory.specs.CodePlace.{place_from}
 use Rattle.c_memory.specs.Memory.{address_at}
 use Rattle.c_memory.specs.Tags.{is_pointer_ok}
-use Rattle.expression_lang.specs.Expression.{Exp, Var, WordLit, NumberLit, TruthLit, WordBinary, WordShift, WordUnary, WordCompare, Cast, CastOp, Zext, Sext, Trunc, ToNat, ToInt, ToWord, Arith, Negate, Lt, Le, Between, Eq, And, Or, Imp, Not, If, Padd, At, Load, Read, Tagged, PtrOk, Global, Sel, Upd, Path, Here, IntoField, IntoElement}
+use Rattle.expression_lang.specs.Expression.{Exp, WordLit, NumberLit, TruthLit, WordBinary, WordShift, WordUnary, WordCompare, Cast, CastOp, Zext, Sext, Trunc, ToNat, ToInt, ToWord, Arith, Negate, Lt, Le, Between, Eq, And, Or, Imp, Not, If, Padd, At, PtrOk, Path, Here, IntoField, IntoElement}
 use Rattle.expression_lang.specs.Evaluation.{cast_op, if_truth}
 use Rattle.expression_lang.proofs.Good.{rem_below, address_below}
 use Rattle.expression_text.specs.Numbers.{is_number}
@@ -97,28 +97,21 @@ one_fits (Some v) f h k = k v h
 
 two_fit : (o p : Option Value) (f : Value → Value → Option Value) → Fits o → Fits p →
     ((v w : Value) → FitsValue v → FitsValue w → Fits (f v w)) → Fits (of_two o p f)
-two_fit None p f h i k = tt
-two_fit (Some v) None f h i k = tt
 two_fit (Some v) (Some w) f h i k = k v w h i
+two_fit _ _ _ _ _ _ = tt
 
 word_there : (f : Word → Option Value) (v : Value) → FitsValue v → ((w : Word) → FitsValue (Bits w) → Fits (f w)) →
     Fits (by_word f v)
 word_there f (Bits w) h k = k w h
-word_there f (Number n) h k = tt
-word_there f (Truth b) h k = tt
-word_there f (Parts vs) h k = tt
+word_there _ _ _ _ = tt
 
 number_there : (f : ℤ → Option Value) (v : Value) → ((n : ℤ) → Fits (f n)) → Fits (by_number f v)
-number_there f (Bits w) k = tt
 number_there f (Number n) k = k n
-number_there f (Truth b) k = tt
-number_there f (Parts vs) k = tt
+number_there _ _ _ = tt
 
 truth_there : (f : Bool → Option Value) (v : Value) → ((b : Bool) → Fits (f b)) → Fits (by_truth f v)
-truth_there f (Bits w) k = tt
-truth_there f (Number n) k = tt
 truth_there f (Truth b) k = k b
-truth_there f (Parts vs) k = tt
+truth_there _ _ _ = tt
 
 where_fits : (b : Bool) (o : Option Value) → Fits o → Fits (cond b o None)
 where_fits true o h = h
@@ -127,30 +120,15 @@ where_fits false o h = tt
 words_there : (f : Word → Word → Option Value) (v w : Value) → FitsValue v →
     ((a b : Word) → FitsValue (Bits a) → Fits (f a b)) → Fits (by_words f v w)
 words_there f (Bits a) (Bits b) h k = where_fits (a.width == b.width) (f a b) (k a b h)
-words_there f (Bits a) (Number n) h k = tt
-words_there f (Bits a) (Truth b) h k = tt
-words_there f (Bits a) (Parts vs) h k = tt
-words_there f (Number n) w h k = tt
-words_there f (Truth b) w h k = tt
-words_there f (Parts vs) w h k = tt
+words_there _ _ _ _ _ = tt
 
 numbers_there : (f : ℤ → ℤ → Option Value) (v w : Value) → ((m n : ℤ) → Fits (f m n)) → Fits (by_numbers f v w)
 numbers_there f (Number m) (Number n) k = k m n
-numbers_there f (Number m) (Bits w) k = tt
-numbers_there f (Number m) (Truth b) k = tt
-numbers_there f (Number m) (Parts vs) k = tt
-numbers_there f (Bits v) w k = tt
-numbers_there f (Truth b) w k = tt
-numbers_there f (Parts vs) w k = tt
+numbers_there _ _ _ _ = tt
 
 truths_there : (f : Bool → Bool → Bool) (v w : Value) → Fits (by_truths f v w)
 truths_there f (Truth a) (Truth b) = tt
-truths_there f (Truth a) (Bits w) = tt
-truths_there f (Truth a) (Number n) = tt
-truths_there f (Truth a) (Parts vs) = tt
-truths_there f (Bits v) w = tt
-truths_there f (Number n) w = tt
-truths_there f (Parts vs) w = tt
+truths_there _ _ _ = tt
 
 width_fits : (n : ℕ) (w : Word) → (is_width n ≡ true → FitsValue (Bits w)) → Fits (of_width n w)
 width_fits n w h = by_test (is_width n) h
@@ -181,9 +159,7 @@ address_there l f (Bits w) k =
     by_test true e =
         k w.bits (ltb-true w.bits (space l) (and_parts (w.width == address_width l.target) (nat_lt w.bits (space l)) e).1)
     by_test false e = tt
-address_there l f (Number n) k = tt
-address_there l f (Truth b) k = tt
-address_there l f (Parts vs) k = tt
+address_there _ _ _ _ = tt
 
 place_there : (l : Layout) (a : ℕ) (o : Option Spot) (f : Shape → ℕ → Option Value) →
     ((s : Shape) (b : ℕ) → b < space l → Fits (f s b)) → Fits (at_place (place_from (space l) a o) f)
@@ -208,7 +184,6 @@ at_fits l (IntoElement e path) s a h =
 fits : (l : Layout) (e : Exp) → is_exp e ≡ true → Fits (computed l e)
 fits l (WordLit w) h = h
 fits l (NumberLit n) h = narrow_fits n
-fits l (TruthLit b) h = tt
 fits l (WordBinary op a b) h =
     let p = and_parts (is_exp a) (is_exp b) h in
     two_fit (computed l a) (computed l b) (by_words (join_words op)) (fits l a p.0) (fits l b p.1)
@@ -284,23 +259,16 @@ fits l (PtrOk t p) h =
     let q = and_parts (is_type t) (is_exp p) h in
     one_fits (computed l p) _ (fits l p q.1)
     (λ v i. address_there l _ v (λ a m. where_fits (is_object l t) (Some (Truth (is_pointer_ok l t a))) tt))
-fits l (Var x) h = tt
-fits l (Load t p path) h = tt
-fits l (Read t p path) h = tt
-fits l (Tagged t p) h = tt
-fits l (Global x path) h = tt
-fits l (Sel e path) h = tt
-fits l (Upd e path v) h = tt
+fits _ _ _ = tt
 
 some_same : (a b : Exp) → ◌≡◌ {A = Option Exp} (Some a) (Some b) → a ≡ b
 some_same a b h = cc
 
 constant_text : (o : Option Value) (r : Exp) → Fits o → as_constant o ≡ Some r → is_exp r ≡ true
-constant_text None r h e = absurd cc
 constant_text (Some (Bits w)) r h e = subst (λ a. is_exp a ≡ true) (some_same (WordLit w) r e) h
 constant_text (Some (Number n)) r h e = subst (λ a. is_exp a ≡ true) (some_same (NumberLit n) r e) h
 constant_text (Some (Truth b)) r h e = subst (λ a. is_exp a ≡ true) (some_same (TruthLit b) r e) refl
-constant_text (Some (Parts vs)) r h e = absurd cc
+constant_text _ r h e = absurd cc
 
 pub folded_text : (l : Layout) (a r : Exp) → folded l a ≡ Some r → is_exp a ≡ true → is_exp r ≡ true
 folded_text l (WordLit w) r e h = absurd cc

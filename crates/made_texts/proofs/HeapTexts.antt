@@ -63,13 +63,9 @@ leaf_or_text no_trees h = refl
 leaf_or_text (tree t ts) h = and_from _ _ (and_from _ _ (least_one (count ts)) refl) h
 
 one_step_lifted : (path : Path) → is_one_step (path_lifted path) ≡ is_one_step path
-one_step_lifted Here = refl
 one_step_lifted (IntoField k Here) = refl
-one_step_lifted (IntoField k (IntoField j path)) = refl
-one_step_lifted (IntoField k (IntoElement e path)) = refl
 one_step_lifted (IntoElement e Here) = refl
-one_step_lifted (IntoElement e (IntoField j path)) = refl
-one_step_lifted (IntoElement e (IntoElement a path)) = refl
+one_step_lifted _ = refl
 
 leaf_text : (e : Exp) → is_exp (exp_lifted e) ≡ true → is_tree (exp_tree e) ≡ true → ExpHasText e
 leaf_text e h k = record { program = h; rules = k }
@@ -350,7 +346,6 @@ heap_program (M.Call f es) h =
 heap_program (M.Pick k) h = h
 
 pub heap_few : (m : Mon) → binds_few m ≡ true → binds_few (on_heaps m) ≡ true
-heap_few (M.Ret es) h = refl
 heap_few (M.Bind m xs n) h =
     let p = and_parts (nat_le (length xs) most_names) (binds_few m && binds_few n) h in
     let q = and_parts (binds_few m) (binds_few n) p.1 in
@@ -360,13 +355,10 @@ heap_few (M.Bind m xs n) h =
         binds_few (on_heaps n) ≡ true → binds_few (cond b (on_heaps n) (M.Bind (on_heaps m) xs (on_heaps n))) ≡ true
     by_test true i j k = k
     by_test false i j k = and_from _ _ i (and_from _ _ j k)
-heap_few (M.Guard e) h = refl
 heap_few (M.If e m n) h =
     let q = and_parts (binds_few m) (binds_few n) h in and_from _ _ (heap_few m q.0) (heap_few n q.1)
-heap_few (M.Write place e) h = refl
 heap_few (M.Loop starts guard test m) h = heap_few m h
-heap_few (M.Call f es) h = refl
-heap_few (M.Pick k) h = refl
+heap_few _ _ = refl
 
 -- Trees
 

@@ -109,10 +109,8 @@ kind_of_names (b ∷ bs) h x =
 
 picked : (o : Option Kind) → is_kind (kind_there o) ≡ true → is_kind (kind_there (picked_kind o)) ≡ true
 picked None h = refl
-picked (Some (WordKind n)) h = h
-picked (Some (NatKind n)) h = h
-picked (Some (IntKind n)) h = h
 picked (Some BoolKind) h = refl
+picked _ h = h
 
 zero_text : (k : Kind) → is_kind k ≡ true → is_exp (zero_exp k) ≡ true
 zero_text (WordKind n) h = and_from (is_width n) (nat_lt 0 (2 ^ n)) h (lt-ltb 0 (2 ^ n) (pow_pos n))
@@ -122,9 +120,8 @@ zero_text BoolKind h = refl
 
 zero_before : (o : Option Kind) (q : Option (List Exp)) → is_kind (kind_there o) ≡ true → each is_exp (zeros_there q) ≡ true →
     each is_exp (zeros_there (zero_first o q)) ≡ true
-zero_before None q h k = refl
-zero_before (Some j) None h k = refl
 zero_before (Some j) (Some es) h k = and_from (is_exp (zero_exp j)) (each is_exp es) (zero_text j h) k
+zero_before _ _ _ _ = refl
 
 are_zeros : (bs : List Binder) → are_kinds (kinds_of bs) ≡ true → (xs : List Name) →
     each is_exp (zeros_there (zeros bs xs)) ≡ true

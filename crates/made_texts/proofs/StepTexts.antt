@@ -296,7 +296,6 @@ module _ (f : Scope → Choice) (keeps : (g : Scope) → KeepsTexts (f g)) (g : 
   pub direct_text : (m r : Mon) → direct_step_in f g fs m ≡ Some r → is_mon m ≡ true → is_mon r ≡ true
   direct_text (M.Ret es) r h c =
       one_case r (λ q. is_mon q ≡ true) (λ xs. M.Ret xs) _ h (λ x j. list_text (f g) (keeps g) fs es x j c)
-  direct_text (M.Bind m xs n) r h c = absurd cc
   direct_text (M.Guard e) r h c =
       one_case r (λ q. is_mon q ≡ true) (λ x. M.Guard x) _ h (λ x j. step_text (f g) (keeps g) fs e x j c)
   direct_text (M.If e m n) r h c =
@@ -319,11 +318,10 @@ module _ (f : Scope → Choice) (keeps : (g : Scope) → KeepsTexts (f g)) (g : 
   direct_text (M.Call h' es) r h c =
       one_case r (λ q. is_mon q ≡ true) (λ xs. M.Call h' xs) _ h
       (λ x j. both _ _ _ _ (λ i. i) (λ i. list_text (f g) (keeps g) fs es x j i) c)
-  direct_text (M.Pick k) r h c = absurd cc
+  direct_text _ r h c = absurd cc
 
   pub direct_few : (m r : Mon) → direct_step_in f g fs m ≡ Some r → binds_few m ≡ true → binds_few r ≡ true
   direct_few (M.Ret es) r h c = one_case r (λ q. binds_few q ≡ true) (λ xs. M.Ret xs) _ h (λ x j. refl)
-  direct_few (M.Bind m xs n) r h c = absurd cc
   direct_few (M.Guard e) r h c = one_case r (λ q. binds_few q ≡ true) (λ x. M.Guard x) _ h (λ x j. refl)
   direct_few (M.If e m n) r h c = one_case r (λ q. binds_few q ≡ true) (λ x. M.If x m n) _ h (λ x j. c)
   direct_few (M.Write place e) r h c =
@@ -331,4 +329,4 @@ module _ (f : Scope → Choice) (keeps : (g : Scope) → KeepsTexts (f g)) (g : 
   direct_few (M.Loop starts guard test m) r h c =
       three_case r (λ q. binds_few q ≡ true) (λ x y z. M.Loop x y z m) starts guard test _ _ _ h (λ x j. c) (λ y j. c) (λ z j. c)
   direct_few (M.Call h' es) r h c = one_case r (λ q. binds_few q ≡ true) (λ xs. M.Call h' xs) _ h (λ x j. refl)
-  direct_few (M.Pick k) r h c = absurd cc
+  direct_few _ r h c = absurd cc

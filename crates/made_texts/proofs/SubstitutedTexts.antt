@@ -3,7 +3,7 @@ use Rattle.std.proofs.Common.{◌≡◌, nat_le, Bool, true, false, cond, ◌&&�
 use Rattle.std.specs.Prelude.{unwrap_or}
 use Rattle.std.proofs.lemmas.Bool.{and_parts, and_from}
 use Rattle.c_values.specs.Name.{Name, same_name, is_among, are_distinct}
-use Rattle.expression_lang.specs.Expression.{Exp, Var, WordLit, NumberLit, TruthLit, WordBinary, WordShift, WordUnary, WordCompare, Cast, ToNat, ToInt, ToWord, Arith, Negate, Lt, Le, Between, Eq, And, Or, Imp, Not, If, Padd, At, Load, Read, Tagged, PtrOk, Global, Sel, Upd, Path, Here, IntoField, IntoElement}
+use Rattle.expression_lang.specs.Expression.{Exp, Var, WordBinary, WordShift, WordUnary, WordCompare, Cast, ToNat, ToInt, ToWord, Arith, Negate, Lt, Le, Between, Eq, And, Or, Imp, Not, If, Padd, At, Load, Read, Tagged, PtrOk, Global, Sel, Upd, Path, Here, IntoField, IntoElement}
 use Rattle.expression_text.specs.Names.{is_name}
 use Rattle.expression_text.specs.ExpText.{is_one_step, is_exp, is_path}
 use Rattle.expression_text.specs.Lists.{each}
@@ -22,20 +22,13 @@ module _ (x : Name) (e : Exp) (text : is_exp e ≡ true) where
   name_put false y h = h
 
   one_step_put : (path : Path) → is_one_step (path_substituted x e path) ≡ is_one_step path
-  one_step_put Here = refl
   one_step_put (IntoField k Here) = refl
-  one_step_put (IntoField k (IntoField j path)) = refl
-  one_step_put (IntoField k (IntoElement a path)) = refl
   one_step_put (IntoElement a Here) = refl
-  one_step_put (IntoElement a (IntoField j path)) = refl
-  one_step_put (IntoElement a (IntoElement b path)) = refl
+  one_step_put _ = refl
 
   mutual
     pub exp_put : (a : Exp) → is_exp a ≡ true → is_exp (substituted x e a) ≡ true
     exp_put (Var y) h = name_put (same_name x y) y h
-    exp_put (WordLit w) h = h
-    exp_put (NumberLit n) h = h
-    exp_put (TruthLit b) h = h
     exp_put (WordBinary op a b) h = both _ _ _ _ (λ i. exp_put a i) (λ i. exp_put b i) h
     exp_put (WordShift op a b) h = both _ _ _ _ (λ i. exp_put a i) (λ i. exp_put b i) h
     exp_put (WordUnary op a) h = exp_put a h
@@ -64,6 +57,7 @@ module _ (x : Name) (e : Exp) (text : is_exp e ≡ true) where
     exp_put (Global x path) h = both _ _ _ _ (λ i. i) (λ i. path_put path i) h
     exp_put (Sel a path) h = both _ _ _ _ (λ i. exp_put a i) (both _ _ _ _ (λ i. one_step_put path ∙ i) (λ i. path_put path i)) h
     exp_put (Upd a path b) h = both _ _ _ _ (λ i. exp_put a i) (both _ _ _ _ (λ i. path_put path i) (λ i. exp_put b i)) h
+    exp_put _ h = h
 
     pub path_put : (path : Path) → is_path path ≡ true → is_path (path_substituted x e path) ≡ true
     path_put Here h = h
@@ -121,18 +115,14 @@ module _ (x : Name) (e : Exp) (text : is_exp e ≡ true) where
   program_put (M.Pick k) h = h
 
   pub few_put : (m : Mon) → binds_few m ≡ true → binds_few (program_substituted x e m) ≡ true
-  few_put (M.Ret es) h = refl
   few_put (M.Bind m xs n) h =
       let p = and_parts (nat_le (length xs) most_names) (binds_few m && binds_few n) h in
       let q = and_parts (binds_few m) (binds_few n) p.1 in
       and_from _ _ p.0
       (and_from _ _ (few_put m q.0) (either binds_few (is_among x xs) n (program_substituted x e n) q.1 (few_put n q.1)))
-  few_put (M.Guard a) h = refl
   few_put (M.If a m n) h = both _ _ _ _ (λ i. few_put m i) (λ i. few_put n i) h
-  few_put (M.Write place a) h = refl
   few_put (M.Loop starts guard test m) h =
       either binds_few (is_among x (start_names starts)) (M.Loop (starts_substituted x e starts) guard test m)
       (M.Loop (starts_substituted x e starts) (substituted x e guard) (substituted x e test) (program_substituted x e m)) h
       (few_put m h)
-  few_put (M.Call f es) h = refl
-  few_put (M.Pick k) h = refl
+  few_put _ _ = refl

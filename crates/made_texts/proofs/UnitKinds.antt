@@ -19,15 +19,7 @@ same_is (WordKind m) (WordKind n) e h = let i : m ≡ n = eqb-true m n e in subs
 same_is (NatKind m) (NatKind n) e h = let i : m ≡ n = eqb-true m n e in subst (λ w. is_kind (NatKind w) ≡ true) (sym i) h
 same_is (IntKind m) (IntKind n) e h = let i : m ≡ n = eqb-true m n e in subst (λ w. is_kind (IntKind w) ≡ true) (sym i) h
 same_is BoolKind k e h = refl
-same_is (WordKind m) (NatKind n) e h = absurd cc
-same_is (WordKind m) (IntKind n) e h = absurd cc
-same_is (WordKind m) BoolKind e h = absurd cc
-same_is (NatKind m) (WordKind n) e h = absurd cc
-same_is (NatKind m) (IntKind n) e h = absurd cc
-same_is (NatKind m) BoolKind e h = absurd cc
-same_is (IntKind m) (WordKind n) e h = absurd cc
-same_is (IntKind m) (NatKind n) e h = absurd cc
-same_is (IntKind m) BoolKind e h = absurd cc
+same_is _ _ e h = absurd cc
 
 -- parameters, among the locals
 pub first_kinds : (ps bs : List Binder) → come_first ps bs ≡ true → are_kinds (kinds_of bs) ≡ true → each is_kind (kinds_of ps) ≡ true

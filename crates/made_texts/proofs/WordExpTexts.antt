@@ -10,7 +10,7 @@ use Rattle.c_values.specs.Word.{Word, unsigned, signed, WordOp, Wadd, Wsub, Wmul
 use Rattle.c_values.proofs.WordValues.{IsSigned, low, high, signed_is}
 use Rattle.expression_lang.specs.Expression as X
 use Rattle.expression_lang.specs.Expression.{Exp, Path}
-use Rattle.expression_lang.specs.Sort.{WordSort, NumberSort, TruthSort, Kind, WordKind, NatKind, IntKind, BoolKind, Sort, Of, PartsSort, Scope, sort_of, word_width, word_sort, is_kind}
+use Rattle.expression_lang.specs.Sort.{WordSort, TruthSort, Kind, WordKind, NatKind, IntKind, BoolKind, Sort, Of, Scope, sort_of, word_width, word_sort, is_kind}
 use Rattle.expression_lang.specs.Signature.{Binder}
 use Rattle.expression_lang.proofs.Inversion.{words_inv, word_inv, width_inv}
 use Rattle.expression_text.specs.Names.{is_name}
@@ -104,13 +104,12 @@ int_texts : (x : Abstracted) → HaveTexts x → HaveTexts (made R.Sint (X.ToInt
 int_texts x h = by_one R.Sint _ x refl h.program h
 
 seen_texts : (b : Base) (n : ℕ) (v : View) (x : Abstracted) → is_width n ≡ true → HaveTexts x → HaveTexts (seen_from b n v x)
-seen_texts Naturals n (Unsigned m) x w h = h
-seen_texts Integers n (Signed m) x w h = h
 seen_texts b n (AsIs o) x w h = as_word_texts b n x w h
 seen_texts Words n (Unsigned m) x w h = nat_texts x h
 seen_texts Integers n (Unsigned m) x w h = nat_texts _ (as_word_texts Integers n x w h)
 seen_texts Words n (Signed m) x w h = int_texts x h
 seen_texts Naturals n (Signed m) x w h = int_texts _ (as_word_texts Naturals n x w h)
+seen_texts _ _ _ _ _ h = h
 
 seen_words : (n : ℕ) (v : View) (x : Abstracted) → HaveTexts x → HaveTexts (seen_from Words n v x)
 seen_words n (AsIs o) x h = h
@@ -266,9 +265,7 @@ kind_of_equality (Some (Of (WordSort n))) Words k w e = subst (λ j. is_kind j �
 kind_of_equality (Some (Of (WordSort n))) Naturals k w e = subst (λ j. is_kind j ≡ true) (some_is e) w
 kind_of_equality (Some (Of (WordSort n))) Integers k w e = subst (λ j. is_kind j ≡ true) (some_is e) w
 kind_of_equality (Some (Of TruthSort)) b k w e = subst (λ j. is_kind j ≡ true) (some_is e) refl
-kind_of_equality (Some (Of NumberSort)) b k w e = absurd cc
-kind_of_equality (Some (PartsSort t)) b k w e = absurd cc
-kind_of_equality None b k w e = absurd cc
+kind_of_equality _ b k w e = absurd cc
 
 -- in a scope whose names are of widths, and with names that have kinds
 module _ (same : Exp → Exp → Bool) (numbers : Bool) (g : Scope) (names : List Binder) (lay : IsLayout g.layout)
@@ -295,14 +292,12 @@ module _ (same : Exp → Exp → Bool) (numbers : Bool) (g : Scope) (names : Lis
   field_step : (fs : Surroundings) (k : ℕ) (path : Path) (ts : Trees Rule) →
       is_one_step (I fs (X.IntoField k path) ts).path ≡ is_one_step (X.IntoField k path)
   field_step fs k X.Here ts = refl
-  field_step fs k (X.IntoField j path) ts = refl
-  field_step fs k (X.IntoElement e path) ts = refl
+  field_step _ _ _ _ = refl
 
   element_step : (fs : Surroundings) (e : Exp) (path : Path) (ts : Trees Rule) →
       is_one_step (I fs (X.IntoElement e path) ts).path ≡ is_one_step (X.IntoElement e path)
   element_step fs e X.Here ts = refl
-  element_step fs e (X.IntoField j path) ts = refl
-  element_step fs e (X.IntoElement a path) ts = refl
+  element_step _ _ _ _ = refl
 
   mutual
     pub exp_texts : (fs : Surroundings) (e : Exp) → is_exp e ≡ true → IsSorted g e → (v : View) → HaveTexts (A fs e v)

@@ -8,7 +8,7 @@ use Rattle.c_values.specs.Layout.{IsLayout, shape_of, is_object, global_type}
 use Rattle.c_values.proofs.Options.{some_is}
 use Rattle.expression_lang.specs.Expression as X
 use Rattle.expression_lang.specs.Expression.{Exp, Path}
-use Rattle.expression_lang.specs.Sort.{Scalar, WordSort, NumberSort, TruthSort, Sort, Of, Kind, WordKind, NatKind, IntKind, BoolKind, Scope, is_truth, is_word_of, is_width, same_scalar, word_sort_of, is_kind, are_kinds}
+use Rattle.expression_lang.specs.Sort.{Scalar, WordSort, TruthSort, Sort, Of, Kind, WordKind, NatKind, IntKind, BoolKind, Scope, is_truth, is_word_of, is_width, same_scalar, word_sort_of, is_kind, are_kinds}
 use Rattle.expression_lang.specs.Sorted.{program_sort, scalar_in, scalars_of, typed_place, global_place, part_place, fits_place, call_scalars}
 use Rattle.expression_lang.specs.Signature.{Binder, binder, Signature, kinds_of, signature}
 use Rattle.expression_lang.proofs.Inversion.{truth_inv, word_of_inv}
@@ -57,8 +57,7 @@ pub record HaveTexts (x : AbstractedProgram) : Type 0 where
 
 wide_kind : (c : Scalar) → AllWide (c ∷ []) → is_kind (word_kind_of c) ≡ true
 wide_kind (WordSort n) h = h.0
-wide_kind NumberSort h = refl
-wide_kind TruthSort h = refl
+wide_kind _ _ = refl
 
 kind_text : (o : Option Kind) (c : Scalar) → ((k : Kind) → o ≡ Some k → is_kind k ≡ true) → AllWide (c ∷ []) →
     is_kind (kind_for o c) ≡ true
@@ -147,22 +146,14 @@ recast_text (IntKind n) (WordKind m) x e h w q = by_test (m == n) q
     by_test : (b : Bool) → cond b (Some (X.ToWord m (X.Var x))) None ≡ Some e → is_exp e ≡ true
     by_test true i = subst (λ a. is_exp a ≡ true) (some_is i) (and_from (is_width m) (is_name x) w h)
     by_test false i = absurd cc
-recast_text (NatKind n) (IntKind m) x e h w q = absurd cc
-recast_text (IntKind n) (NatKind m) x e h w q = absurd cc
-recast_text (WordKind n) BoolKind x e h w q = absurd cc
-recast_text (NatKind n) BoolKind x e h w q = absurd cc
-recast_text (IntKind n) BoolKind x e h w q = absurd cc
-recast_text BoolKind (WordKind m) x e h w q = absurd cc
-recast_text BoolKind (NatKind m) x e h w q = absurd cc
-recast_text BoolKind (IntKind m) x e h w q = absurd cc
+recast_text _ _ x e h w q = absurd cc
 
 first_recast : (o : Option Exp) (q : Option (List Exp)) (es : List Exp) → recast_first o q ≡ Some es →
     ((e : Exp) → o ≡ Some e → is_exp e ≡ true) → ((fs : List Exp) → q ≡ Some fs → each is_exp fs ≡ true) →
     each is_exp es ≡ true
 first_recast (Some e) (Some fs) es i h k =
     subst (λ zs. each is_exp zs ≡ true) (some_is i) (and_from (is_exp e) (each is_exp fs) (h e refl) (k fs refl))
-first_recast None q es i h k = absurd cc
-first_recast (Some e) None es i h k = absurd cc
+first_recast _ _ es i h k = absurd cc
 
 recasts_text : (js ks : List Kind) (ys : List Name) (es : List Exp) → recasts js ks ys ≡ Some es → each is_name ys ≡ true →
     each is_kind ks ≡ true → each is_exp es ≡ true
@@ -197,10 +188,8 @@ by_texts js ks ys (Some es) x e n h k l = record {
 }
 
 word_kind_again : (k : Kind) → is_kind k ≡ true → is_kind (word_kind_of (word_sort_of k)) ≡ true
-word_kind_again (WordKind n) h = h
-word_kind_again (NatKind n) h = h
-word_kind_again (IntKind n) h = h
 word_kind_again BoolKind h = refl
+word_kind_again _ h = h
 
 words_kinds : (ks : List Kind) → each is_kind ks ≡ true → each is_kind (in_words ks) ≡ true
 words_kinds [] h = refl

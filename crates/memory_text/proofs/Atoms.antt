@@ -9,7 +9,7 @@ use Rattle.hex.specs.Hex.{encode_with, encode_lower, lower_digits}
 use Rattle.c_values.specs.Name.{Name}
 use Rattle.c_values.specs.Layout.{Layout, Shape, GlobalVar, shape_of, is_object, space}
 use Rattle.c_values.specs.Value as V
-use Rattle.c_values.specs.Value.{Value, Values, Bits, Number, Truth, Parts, no_values}
+use Rattle.c_values.specs.Value.{Value, Values, Number, Parts, no_values}
 use Rattle.c_memory.specs.Memory.{Tag}
 use Rattle.c_memory.specs.Ranges.{Run}
 use Rattle.c_memory.specs.Tags.{is_root_type}
@@ -64,8 +64,7 @@ mutual
   value_atoms : (g : Target) (s : Shape) (v : Value) → is_value g s v ≡ true → IsTree (value_tree v)
   value_atoms g s (Number n) is = number_atom n (has_decimal g s n is)
   value_atoms g s (Parts vs) is = parts_atoms g vs (parts_of s) is (λ ss h. values_atoms g ss vs h)
-  value_atoms g s (Bits w) is = absurd cc
-  value_atoms g s (Truth b) is = absurd cc
+  value_atoms g s _ is = absurd cc
 
   values_atoms : (g : Target) (ss : List Shape) (vs : Values) → are_values g ss vs ≡ true → AreTrees (value_trees vs)
   values_atoms g [] no_values is = tt

@@ -12,10 +12,8 @@ pub behind_itself : (w : Name) (ts : Trees) → parts_behind w (Node (more (Atom
 behind_itself w ts = cond-true (same_name w w) (Some ts) None (name_same w w refl)
 
 headed_is : (t : Tree) (w : Name) (ts : Trees) → headed_in t ≡ Some (w, ts) → t ≡ Node (more (Atom w) ts)
-headed_is (Atom v) w ts e = absurd cc
-headed_is (Node no_trees) w ts e = absurd cc
-headed_is (Node (more (Node us) vs)) w ts e = absurd cc
 headed_is (Node (more (Atom v) vs)) w ts e = let h : ◌≡◌ {A = Name × Trees} (v, vs) (w, ts) = cc in ap (λ (p : Name × Trees). Node (more (Atom p.0) p.1)) h
+headed_is _ w ts e = absurd cc
 
 pub behind_is : (w : Name) (t : Tree) (ts : Trees) → parts_behind w t ≡ Some ts → t ≡ Node (more (Atom w) ts)
 behind_is w t ts e = by_head (headed_in t) refl e
@@ -29,16 +27,12 @@ behind_is w t ts e = by_head (headed_in t) refl e
     by_head (Some (v, us)) f h = by_word v us (same_name v w) f refl h
 
 pub one_is : (ts : Trees) (t : Tree) → one_of ts ≡ Some t → ts ≡ row (t ∷ [])
-one_is no_trees t e = absurd cc
 one_is (more u no_trees) t e = let same : u ≡ t = cc in ap (λ v. more v no_trees) same
-one_is (more u (more v vs)) t e = absurd cc
+one_is _ t e = absurd cc
 
 pub pair_is : (t : Tree) (x : Tree × Tree) → pair_in t ≡ Some x → t ≡ Node (row (x.0 ∷ x.1 ∷ []))
-pair_is (Atom word) x e = absurd cc
-pair_is (Node no_trees) x e = absurd cc
-pair_is (Node (more t no_trees)) x e = absurd cc
 pair_is (Node (more t (more u no_trees))) x e = let same : ◌≡◌ {A = Tree × Tree} (t, u) x = cc in ap (λ (y : Tree × Tree). Node (row (y.0 ∷ y.1 ∷ []))) same
-pair_is (Node (more t (more u (more v vs)))) x e = absurd cc
+pair_is _ x e = absurd cc
 
 abbrev pub all_parts : Parts → Trees
 all_parts p = row (p.version ∷ p.call ∷ p.turns ∷ p.fill ∷ p.bytes ∷ p.tags ∷ p.globals ∷ [])
@@ -46,11 +40,4 @@ all_parts p = row (p.version ∷ p.call ∷ p.turns ∷ p.fill ∷ p.bytes ∷ p
 pub seven_are : (ts : Trees) (p : Parts) → seven_of ts ≡ Some p → ts ≡ all_parts p
 seven_are (more v (more c (more t (more f (more b (more g (more s no_trees))))))) p e =
     let same : record { version = v; call = c; turns = t; fill = f; bytes = b; tags = g; globals = s } ≡ p = cc in ap all_parts same
-seven_are no_trees p e = absurd cc
-seven_are (more v no_trees) p e = absurd cc
-seven_are (more v (more c no_trees)) p e = absurd cc
-seven_are (more v (more c (more t no_trees))) p e = absurd cc
-seven_are (more v (more c (more t (more f no_trees)))) p e = absurd cc
-seven_are (more v (more c (more t (more f (more b no_trees))))) p e = absurd cc
-seven_are (more v (more c (more t (more f (more b (more g no_trees)))))) p e = absurd cc
-seven_are (more v (more c (more t (more f (more b (more g (more s (more u us)))))))) p e = absurd cc
+seven_are _ p e = absurd cc

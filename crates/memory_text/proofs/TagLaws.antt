@@ -2,7 +2,7 @@
 use Rattle.std.proofs.Common.{◌≡◌, ℕ, Bool, true, false, cond, ◌&&◌, [], ◌∷◌, Option, Some, None, Ok, Err, refl, ap, ap₂, sym, ◌∙◌, if◌then◌else◌}
 use Rattle.std.specs.Prelude.{nat_lt, codes, is_some}
 use Rattle.std.proofs.lemmas.Bool.{and_parts, and_from, cond-true, cond-false}
-use Rattle.c_values.specs.Types.{CType, Integer, Void, Ptr, Struct, Array}
+use Rattle.c_values.specs.Types.{CType, Void, Array}
 use Rattle.c_values.specs.Layout.{Layout, is_object, space}
 use Rattle.c_memory.specs.Memory.{Tag}
 use Rattle.c_memory.specs.Tags.{is_root_type}
@@ -18,11 +18,9 @@ use Rattle.memory_text.proofs.ListForms.{pair_is}
 use Rattle.memory_text.proofs.NumberLaws.{address_small, natural_reads, natural_spells}
 
 no_array : (t : CType) → is_root_type t ≡ true → is_some (parts_behind (codes "array") (type_tree t)) ≡ false
-no_array (Integer i) is = refl
-no_array (Ptr t) is = refl
-no_array (Struct x) is = refl
 no_array Void is = absurd cc
 no_array (Array t n) is = absurd cc
+no_array _ _ = refl
 
 abbrev is_tagged : Layout → CType → Bool
 is_tagged l t = is_root_type t && is_object l t

@@ -2,10 +2,10 @@
 use Rattle.std.proofs.Common.{◌≡◌, ℕ, suc, Bool, true, false, cond, ℤ, List, [], ◌∷◌, length, Option, Some, None, Ok, Err, refl, ap, ap₂, sym, ◌∙◌, eq-eqb, if◌then◌else◌}
 use Rattle.std.specs.Prelude.{◌==◌}
 use Rattle.std.proofs.lemmas.Bool.{and_parts, and_from, cond-true}
-use Rattle.c_values.specs.Types.{Target, Integer, Ptr, Void, Struct, Array}
-use Rattle.c_values.specs.Layout.{Shape, Incomplete, Scalar, Record, Row}
+use Rattle.c_values.specs.Types.{Target, Integer, Ptr}
+use Rattle.c_values.specs.Layout.{Shape, Scalar}
 use Rattle.c_values.specs.Value as V
-use Rattle.c_values.specs.Value.{Value, Values, Bits, Number, Truth, Parts, no_values}
+use Rattle.c_values.specs.Value.{Value, Values, Number, Parts, no_values}
 use Rattle.ac_sx.specs.Tree.{Tree, Trees, Atom, Node, no_trees, more}
 use Rattle.expression_text.specs.Reading.{Read, next, ◌>>=◌, made}
 use Rattle.expression_text.specs.Numbers.{is_number, number_at}
@@ -18,12 +18,7 @@ use Rattle.memory_text.proofs.Ranges.{integer_number, address_number}
 pub has_decimal : (g : Target) (s : Shape) (n : ℤ) → is_number_of g s n ≡ true → is_number n ≡ true
 has_decimal g (Scalar (Integer i) width) n is = integer_number g i n is
 has_decimal g (Scalar (Ptr t) width) n is = address_number g n is
-has_decimal g (Scalar Void width) n is = absurd cc
-has_decimal g (Scalar (Struct x) width) n is = absurd cc
-has_decimal g (Scalar (Array t k) width) n is = absurd cc
-has_decimal g Incomplete n is = absurd cc
-has_decimal g (Record x bytes align fs) n is = absurd cc
-has_decimal g (Row e k) n is = absurd cc
+has_decimal g _ n is = absurd cc
 
 abbrev kept : Target → Shape → ℕ → ℤ × ℕ → Read Value
 kept g s at x = if is_number_of g s x.0 then Ok (Number x.0, x.1) else Err at
@@ -50,8 +45,7 @@ mutual
       ap (λ r. r >>= kept g s at) (number_reads n (has_decimal g s n is) at)
       ∙ cond-true (is_number_of g s n) (Ok (Number n, next at)) (Err at) is
   value_reads g s (Parts vs) is = λ at. parts_read g vs at (parts_of s) is (λ ss h. values_read g ss vs h (next at))
-  value_reads g s (Bits w) is = absurd cc
-  value_reads g s (Truth b) is = absurd cc
+  value_reads g s _ is = absurd cc
 
   pub values_read : (g : Target) (ss : List Shape) (vs : Values) → are_values g ss vs ≡ true → AreReadAs (values_at g ss) (value_trees vs) vs
   values_read g [] no_values is = λ at. refl

@@ -2,10 +2,10 @@
 use Rattle.std.proofs.Common.{◌≡◌, Bool, not, cond, ◌&&◌, ◌||◌, List, [], ◌∷◌, Option, Some, None, refl, ap, ap₂, ◌∙◌}
 use Rattle.c_values.specs.Name.{Name}
 use Rattle.c_values.specs.Types.{CType, address_width}
-use Rattle.c_values.specs.Layout.{Layout, Shape, Incomplete, Scalar as WordShape, Record, Row, is_object, shape_of}
+use Rattle.c_values.specs.Layout.{Layout, Shape, Record, Row, is_object, shape_of}
 use Rattle.c_values.specs.Path.{Spot, member_spot}
 use Rattle.c_values.proofs.Laid.{same_name-refl}
-use Rattle.expression_lang.specs.Expression.{Exp, Var, WordLit, NumberLit, TruthLit, WordBinary, WordShift, WordUnary, WordCompare, Cast, ToNat, ToInt, ToWord, Arith, Negate, Lt, Le, Between, Eq, And, Or, Imp, Not, If, Padd, At, Load, Read, Tagged, PtrOk, Global, Sel, Upd, Path, Here, IntoField, IntoElement}
+use Rattle.expression_lang.specs.Expression.{Exp, Var, WordBinary, WordShift, WordUnary, WordCompare, Cast, ToNat, ToInt, ToWord, Arith, Negate, Lt, Le, Between, Eq, And, Or, Imp, Not, If, Padd, At, Load, Read, Tagged, PtrOk, Global, Sel, Upd, Path, IntoField, IntoElement}
 use Rattle.expression_lang.specs.Mentions.{is_name, names}
 use Rattle.expression_lang.specs.Form.{has, path_has, is_part_of_value}
 use Rattle.expression_lang.specs.Sort.{Scalar, Sort, Scope, word_width, is_word_of, is_number, is_truth, truth_sort, number_sort, word_sort, where_holds, of_words, of_word, are_same, of_shape, shape_in, of_type, parts_shape, scalar_sort, sort_at, sort_of, shape_along, cast_fits, is_width, is_unary, is_one_step}
@@ -64,9 +64,6 @@ module _ (l : Layout) (gs : Name → Option CType) (ns ns' : Name → Option Sca
   mutual
     pub sort_agrees : (e : Exp) → OnExp e → sort_of g e ≡ sort_of g' e
     sort_agrees (Var x) h = ap scalar_sort (h x (same_name-refl x))
-    sort_agrees (WordLit w) h = refl
-    sort_agrees (NumberLit n) h = refl
-    sort_agrees (TruthLit b) h = refl
     sort_agrees (WordBinary op a b) h = two (λ o p. of_words (word_width o) (word_width p) word_sort) a b h (sort_agrees a) (sort_agrees b)
     sort_agrees (WordShift op a n) h = two (λ o p. where_holds (is_number p) (of_word (word_width o) word_sort)) a n h (sort_agrees a) (sort_agrees n)
     sort_agrees (WordUnary op a) h = ap (λ o. of_word (word_width o) word_sort) (sort_agrees a h)
@@ -110,17 +107,12 @@ module _ (l : Layout) (gs : Name → Option CType) (ns ns' : Name → Option Sca
         ap₂ (λ o q. of_shape (parts_shape l o) (λ s. of_shape (shape_along g path s) (λ r. where_holds (are_same (sort_at r) q) o))) (sort_agrees e (left_path e path p))
         (sort_agrees v (agree_right (λ y. names y e || path_names y path) (λ y. names y v) ns ns' h))
         ∙ same_along (parts_shape l (sort_of g' e)) (λ s. shape_along g path s) (λ s. shape_along g' path s) (λ r. where_holds (are_same (sort_at r) (sort_of g' v)) (sort_of g' e)) (λ s. shape_agrees path s (right_path e path p))
+    sort_agrees _ _ = refl
 
     pub shape_agrees : (path : Path) (s : Shape) → OnPath path → shape_along g path s ≡ shape_along g' path s
-    shape_agrees Here s h = refl
     shape_agrees (IntoField k path) (Record x n align fs) h = same_member (member_spot fs k) (λ s. shape_along g path s) (λ s. shape_along g' path s) (λ s. shape_agrees path s h)
     shape_agrees (IntoElement e path) (Row s n) h = ap₂ (λ o q. cond (is_number o) q None) (sort_agrees e (left_path e path h)) (shape_agrees path s (right_path e path h))
-    shape_agrees (IntoField k path) Incomplete h = refl
-    shape_agrees (IntoField k path) (WordShape t w) h = refl
-    shape_agrees (IntoField k path) (Row s n) h = refl
-    shape_agrees (IntoElement e path) Incomplete h = refl
-    shape_agrees (IntoElement e path) (WordShape t w) h = refl
-    shape_agrees (IntoElement e path) (Record x n align fs) h = refl
+    shape_agrees _ _ _ = refl
 
   pub program_agrees : (e : Exp) → OnExp e → program_sort g e ≡ program_sort g' e
   program_agrees e h = ap (λ o. cond (has is_part_of_value e) None o) (sort_agrees e h)

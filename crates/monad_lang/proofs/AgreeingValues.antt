@@ -10,7 +10,7 @@ use Rattle.c_values.specs.Path.{Field, Index, spot, sel, upd}
 use Rattle.c_values.proofs.Laid.{same_name-refl}
 use Rattle.c_memory.specs.Tags.{is_pointer_ok}
 use Rattle.c_memory.specs.Heap.{read_heap, is_tagged}
-use Rattle.expression_lang.specs.Expression.{Exp, Var, WordLit, NumberLit, TruthLit, WordBinary, WordShift, WordUnary, WordCompare, Cast, ToNat, ToInt, ToWord, Arith, Negate, Lt, Le, Between, Eq, And, Or, Imp, Not, If, Padd, At, Load, Read, Tagged, PtrOk, Global, Sel, Upd, Path, Here, IntoField, IntoElement}
+use Rattle.expression_lang.specs.Expression.{Exp, Var, WordBinary, WordShift, WordUnary, WordCompare, Cast, ToNat, ToInt, ToWord, Arith, Negate, Lt, Le, Between, Eq, And, Or, Imp, Not, If, Padd, At, Load, Read, Tagged, PtrOk, Global, Sel, Upd, Path, Here, IntoField, IntoElement}
 use Rattle.expression_lang.specs.Evaluation.{Env, State, value, steps, cast_op, moved, moved_to, if_truth, holds}
 use Rattle.expression_lang.specs.Mentions.{is_name, names}
 use Rattle.expression_lang.specs.Signature.{values_of}
@@ -46,9 +46,6 @@ module _ (l : Layout) (env env' : Env) (s : State) where
   mutual
     pub value_agrees : (e : Exp) → OnExp e → value l env s e ≡ value l env' s e
     value_agrees (Var y) h = h y (same_name-refl y)
-    value_agrees (WordLit w) h = refl
-    value_agrees (NumberLit n) h = refl
-    value_agrees (TruthLit b) h = refl
     value_agrees (WordBinary op a b) h = two (λ u v. Bits (word_op op (word_in u) (word_in v))) a b h (value_agrees a) (value_agrees b)
     value_agrees (WordShift op a n) h = two (λ u v. Bits (word_shift op (word_in u) (number_in v))) a n h (value_agrees a) (value_agrees n)
     value_agrees (WordUnary op a) h = ap (λ u. Bits (word_unary op (word_in u))) (value_agrees a h)
@@ -84,6 +81,7 @@ module _ (l : Layout) (env env' : Env) (s : State) where
         let p = agree_left (λ y. names y e || path_names y path) (λ y. names y v) env env' h in
         ap₂ (λ u ss. upd u ss (value l env s v)) (value_agrees e (left_path e path p)) (steps_agree path (right_path e path p))
         ∙ ap (λ w. upd (value l env' s e) (steps l env' s path) w) (value_agrees v (agree_right (λ y. names y e || path_names y path) (λ y. names y v) env env' h))
+    value_agrees _ _ = refl
 
     pub steps_agree : (path : Path) → OnPath path → steps l env s path ≡ steps l env' s path
     steps_agree Here h = refl

@@ -46,21 +46,13 @@ front_sorted t names (M.Loop starts guard test m) r e =
     let same : m ≡ r = cc in
     ap (λ q. is_front_sorted (with_names names t) (M.Loop starts guard test m)
     && is_sorted (with_names (names_into t names (M.Loop starts guard test m)) t) q) same
-front_sorted t names (M.Ret es) r e = absurd cc
-front_sorted t names (M.Guard c) r e = absurd cc
-front_sorted t names (M.Write place c) r e = absurd cc
-front_sorted t names (M.Call f es) r e = absurd cc
-front_sorted t names (M.Pick k) r e = absurd cc
+front_sorted t names _ r e = absurd cc
 
 pub last_is : (m n : Mon) → last_of m ≡ Some n → n ≡ last_part m
 last_is (M.Bind m xs n) r e = cc
 last_is (M.If c m n) r e = cc
 last_is (M.Loop starts guard test m) r e = cc
-last_is (M.Ret es) r e = absurd cc
-last_is (M.Guard c) r e = absurd cc
-last_is (M.Write place c) r e = absurd cc
-last_is (M.Call f es) r e = absurd cc
-last_is (M.Pick k) r e = absurd cc
+last_is _ r e = absurd cc
 
 -- a step along the last parts
 pub step_sorted : (t : Setting) (names : Name → Option Scalar) (steps : ℕ) (m rest n : Mon) → rest ≡ part_after steps m →
@@ -85,11 +77,7 @@ pub all_sorted : (t : Setting) (m : Mon) → last_of m ≡ None → is_front_sor
 all_sorted t (M.Bind m xs n) e = absurd cc
 all_sorted t (M.If c m n) e = absurd cc
 all_sorted t (M.Loop starts guard test m) e = absurd cc
-all_sorted t (M.Ret es) e = refl
-all_sorted t (M.Guard c) e = refl
-all_sorted t (M.Write place c) e = refl
-all_sorted t (M.Call f es) e = refl
-all_sorted t (M.Pick k) e = refl
+all_sorted _ _ _ = refl
 
 -- what is asked of a loop but that its body is well-sorted
 

@@ -4,7 +4,7 @@ use Rattle.std.proofs.lemmas.Bool.{and_parts, eqb-true}
 use Rattle.std.proofs.Math.Bool.{and-true, and-false}
 use Rattle.c_values.specs.Name.{Name, are_distinct}
 use Rattle.expression_lang.specs.Expression.{Exp}
-use Rattle.expression_lang.specs.Sort.{Scalar, Sort, Of, PartsSort, Scope, same_scalar, is_truth, is_kind, sort_of_kind}
+use Rattle.expression_lang.specs.Sort.{Scalar, Sort, Of, Scope, same_scalar, is_truth, is_kind, sort_of_kind}
 use Rattle.expression_lang.specs.Sorted.{program_sort, scalar_in, with_scalar, scalars_of, same_scalars, call_scalars, result_scalars, fits_place}
 use Rattle.expression_lang.specs.Signature.{Signature, signature, kinds_of}
 use Rattle.program_sorts.specs.Sorts.{may_take}
@@ -51,10 +51,9 @@ ends_same x z os vs ss (Some ts) e h k =
 
 with_is : (o : Option Sort) (p : Option (List Scalar)) (b : Bool) → b ≡ is_given p →
     (is_scalar o && b) ≡ is_given (with_scalar (scalar_in o) p)
-with_is None p b h = refl
-with_is (Some (PartsSort t)) p b h = refl
 with_is (Some (Of s)) None b h = h
 with_is (Some (Of s)) (Some ss) b h = h
+with_is _ _ _ _ = refl
 
 exps_given : (g : Scope) (es : List Exp) → all_scalars g es ≡ is_given (scalars_of g es)
 exps_given g [] = refl

@@ -2,11 +2,11 @@
 use Rattle.std.proofs.Common.{◌≡◌, ℕ, Bool, true, false, cond, ◌&&◌, ◌||◌, List, [], ◌∷◌, map, Option, Some, None, refl, sym, ap, ap₂, ◌∙◌}
 use Rattle.std.proofs.lemmas.Bool.{or_parts}
 use Rattle.c_values.specs.Types.{CType, address_width}
-use Rattle.c_values.specs.Layout.{Shape, Incomplete, Scalar as WordShape, Record, Row, shape_of, is_object}
+use Rattle.c_values.specs.Layout.{Shape, Scalar as WordShape, Record, Row, shape_of, is_object}
 use Rattle.c_values.specs.Path.{Spot, member_spot}
-use Rattle.expression_lang.specs.Expression.{Exp, Var, WordLit, NumberLit, TruthLit, WordBinary, WordShift, WordUnary, WordCompare, Cast, ToNat, ToInt, ToWord, Arith, Negate, Lt, Le, Between, Eq, And, Or, Imp, Not, If, Padd, At, Load, Read, Tagged, PtrOk, Global, Sel, Upd, Path, Here, IntoField, IntoElement}
+use Rattle.expression_lang.specs.Expression.{Exp, Var, WordLit, NumberLit, TruthLit, WordBinary, WordShift, WordUnary, WordCompare, Cast, ToNat, ToInt, ToWord, Arith, Negate, Lt, Le, Between, Eq, And, Or, Imp, Not, If, Padd, At, Load, Read, Tagged, PtrOk, Global, Path, Here, IntoField, IntoElement}
 use Rattle.expression_lang.specs.Form.{has, is_part_of_value}
-use Rattle.expression_lang.specs.Sort.{Scalar, WordSort, NumberSort, TruthSort, Sort, Of, PartsSort, Scope, sort_of, shape_along, shape_in, sort_at, scalar_sort, word_width, is_number, is_truth, is_width, cast_fits, number_sort, truth_sort, word_sort, where_holds, of_words, of_word, are_same, of_shape, of_type}
+use Rattle.expression_lang.specs.Sort.{Scalar, WordSort, NumberSort, TruthSort, Sort, Of, Scope, sort_of, shape_along, shape_in, sort_at, scalar_sort, word_width, is_number, is_truth, is_width, cast_fits, number_sort, truth_sort, word_sort, where_holds, of_words, of_word, are_same, of_shape, of_type}
 use Rattle.expression_lang.specs.Sorted.{program_sort, scalar_in, with_scalar, scalars_of}
 use Rattle.expression_lang.proofs.Inversion.{where_inv, words_inv, word_inv, width_inv, same_inv, shape_inv}
 use Rattle.monad_lang.specs.Program.{Start}
@@ -42,20 +42,13 @@ through : (g : Scope) (path : Path) (s q : Shape) → shape_along g path s ≡ S
 through g Here s q h = h
 through g (IntoField k path) (Record x n align fs) q h =
     into_is (member_spot fs k) (λ s. shape_along g path s) (λ s. shape_through path s) q (λ s. through g path s q) h
-through g (IntoField k path) Incomplete q h = absurd cc
-through g (IntoField k path) (WordShape t n) q h = absurd cc
-through g (IntoField k path) (Row s n) q h = absurd cc
 through g (IntoElement e path) (Row s n) q h =
     through g path s q (number_first (is_number (sort_of g e)) (shape_along g path s) q h)
-through g (IntoElement e path) Incomplete q h = absurd cc
-through g (IntoElement e path) (WordShape t n) q h = absurd cc
-through g (IntoElement e path) (Record x n align fs) q h = absurd cc
+through g _ _ q h = absurd cc
 
 shape_is : (q : Shape) (s : Scalar) → sort_at q ≡ Some (Of s) → scalar_at (Some q) ≡ Some s
-shape_is Incomplete s h = absurd cc
 shape_is (WordShape t n) s h = scalar_is (WordSort n) s h
-shape_is (Record x n align fs) s h = absurd cc
-shape_is (Row e n) s h = absurd cc
+shape_is _ s h = absurd cc
 
 part_is : (g : Scope) (t : CType) (path : Path) (s : Scalar) →
     of_shape (shape_along g path (shape_of g.layout t)) sort_at ≡ Some (Of s) → part_told g.layout t path ≡ Some s
@@ -158,8 +151,7 @@ module _ (g : Scope) where
   told_is (Tagged t p) s n h = where_is _ TruthSort s h
   told_is (PtrOk t p) s n h = where_is _ TruthSort s h
   told_is (Global x path) s n h = global_is (g.globals x) path s h
-  told_is (Sel e path) s n h = absurd cc
-  told_is (Upd e path v) s n h = absurd cc
+  told_is _ s n h = absurd cc
 
   -- the same of an expression of a program
   scalar_told : (b : Bool) (e : Exp) (s : Scalar) → has is_part_of_value e ≡ b → scalar_in (cond b None (sort_of g e)) ≡ Some s →
@@ -168,9 +160,8 @@ module _ (g : Scope) where
   scalar_told false e s n h = told_is e s n (in_is (sort_of g e) h)
     where
       in_is : (o : Option Sort) → scalar_in o ≡ Some s → o ≡ Some (Of s)
-      in_is None h = absurd cc
-      in_is (Some (PartsSort t)) h = absurd cc
       in_is (Some (Of a)) h = let e : a ≡ s = cc in ap (λ b. Some (Of b)) e
+      in_is _ h = absurd cc
 
   pub program_told : (e : Exp) (s : Scalar) → scalar_in (program_sort g e) ≡ Some s → told g e ≡ Some s
   program_told e s h = scalar_told (has is_part_of_value e) e s refl h
@@ -178,9 +169,8 @@ module _ (g : Scope) where
   both_is : (o : Option Scalar) (p : Option (List Scalar)) (ss : List Scalar) → with_scalar o p ≡ Some ss →
       (s : Scalar) × (rest : List Scalar) × (o ≡ Some s) × (p ≡ Some rest) × (s ∷ rest ≡ ss)
   both_is (Some s) (Some rest) ss h = let e : s ∷ rest ≡ ss = cc in (s, rest, refl, refl, e)
-  both_is (Some s) None ss h = absurd cc
   both_is None (Some rest) ss h = absurd cc
-  both_is None None ss h = absurd cc
+  both_is _ _ ss h = absurd cc
 
   pub exps_told : (es : List Exp) (ss : List Scalar) → scalars_of g es ≡ Some ss → all_told g es ≡ somes ss
   exps_told [] ss h = let e : [] ≡ ss = cc in ap somes e

@@ -22,14 +22,13 @@ somes ss = map (λ s. Some s) ss
 
 call_is : (f : Kind → Scalar) (s : Option Signature) (o : Option (List Scalar)) (cs : List Scalar) →
     call_scalars f s o ≡ Some cs → (g : Signature) × (s ≡ Some g) × (result_scalars f g.result ≡ cs)
-call_is f None o cs h = absurd cc
-call_is f (Some g) None cs h = absurd cc
 call_is f (Some g) (Some ss) cs h = by_test (same_scalars (map f (kinds_of g.params)) ss) h
   where
     by_test : (b : Bool) → (if b then Some (result_scalars f g.result) else None) ≡ Some cs →
         (s : Signature) × (Some g ≡ Some s) × (result_scalars f s.result ≡ cs)
     by_test true h = let e : result_scalars f g.result ≡ cs = cc in (g, refl, e)
     by_test false h = absurd cc
+call_is f _ _ cs h = absurd cc
 
 result_is : (f : Kind → Scalar) (k : Option Kind) → result_told f k ≡ somes (result_scalars f k)
 result_is f None = refl
@@ -60,12 +59,10 @@ call_length f (Some s) = by_result s.result
 pub count_is : (m : Mon) (t : Setting) → length (values_told t m) ≡ count_of t.functions m
 count_is (M.Ret es) t = exps_length t.scope es
 count_is (M.Bind m xs n) t = count_is n (setting_given xs (values_told t m) t)
-count_is (M.Guard e) t = refl
 count_is (M.If e m n) t = count_is n t
-count_is (M.Write place e) t = refl
 count_is (M.Loop starts guard test m) t = starts_length t.scope starts
 count_is (M.Call f es) t = call_length t.sort_for (signature t.functions f)
-count_is (M.Pick k) t = refl
+count_is _ _ = refl
 
 pub somes_length : (ss : List Scalar) → length (somes ss) ≡ length ss
 somes_length [] = refl

@@ -36,8 +36,7 @@ BaseIs b = IsType b.type
 
 named_is : (n : D.Named) (t : CType) → NamedIs n → IsType t → NamedIs (D.with_named n t)
 named_is D.NoType t h k = k
-named_is (D.OneType u) t h k = tt
-named_is D.MoreTypes t h k = tt
+named_is _ _ _ _ = tt
 
 keyword_is : (b : D.Specs) (k : Keyword) → SpecsAre b → SpecsAre (D.with_keyword b k)
 keyword_is b K.Void h = named_is b.named Void h refl

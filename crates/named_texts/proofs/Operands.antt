@@ -32,8 +32,7 @@ IsTarget d = target_has_types d ≡ true
 
 pub value_is : (o : Operand) → IsOperand o → IsExp (value_in o)
 value_is (Valued e) h = h
-value_is (Variable x t) h = h
-value_is (At p) h = h
+value_is _ h = h
 
 pub destination_is : (o : Operand) → IsOperand o → Rules IsTarget (destination o)
 destination_is (Valued e) h = refused
@@ -44,10 +43,7 @@ destination_is (At p) h = ruled h
 
 first_is : (t : CType) → IsType t → IsType (first_element t)
 first_is (Array t n) h = left (is_type t) (nat_lt n (2 ^ 32)) h
-first_is (Integer i) h = h
-first_is Void h = h
-first_is (Ptr t) h = h
-first_is (Struct x) h = h
+first_is _ h = h
 
 decays_is : (d : Demand) (p : C.Place) (t : CType) → IsPlace p → IsType t → Rules IsOperand (decays d p t)
 decays_is ForValue p t h k = refused_or (is_array t) _ _ (λ e. ruled (and_from _ _ k h))
@@ -117,10 +113,7 @@ WhereArray (Some a) = IsType a.0 × IsLength a.1
 
 array_is : (t : CType) → IsType t → WhereArray (array_of t)
 array_is (Array t n) h = (left (is_type t) (nat_lt n (2 ^ 32)) h, right (is_type t) (nat_lt n (2 ^ 32)) h)
-array_is (Integer i) h = tt
-array_is Void h = tt
-array_is (Ptr t) h = tt
-array_is (Struct x) h = tt
+array_is _ _ = tt
 
 indexed_at_is : (l : Layout) (p : C.Place) (i : C.Expr) (o : Option (CType × ℕ)) → IsPlace p → IsExp i → WhereArray o → Rules IsPlace (indexed_at l p i o)
 indexed_at_is l p i (Some a) h k w =

@@ -18,9 +18,8 @@ use Rattle.typing_laws.proofs.Tests.{both, left, right}
 -- a name of C is a name of the text
 
 or_between : (l d s : Bool) → (l || d) ≡ true → (l || s || d) ≡ true
-or_between true d s h = refl
-or_between false d true h = refl
 or_between false d false h = h
+or_between _ _ _ _ = refl
 
 words_go_on : (cs : List ℕ) → W.are_words cs ≡ true → list_all goes_on_name cs ≡ true
 words_go_on [] h = refl
@@ -62,26 +61,16 @@ place_type_is (C.Through r p path t) h = right (is_type r && has_types p && path
 place_type_is (C.InGlobal x path t) h = right (path_has_types path) (is_type t) h
 
 pub type_is : (e : C.Expr) → IsExp e → IsType (C.type_of e)
-type_is (C.Constant i n) h = refl
 type_is (C.Local x t) h = h
 type_is (C.Value p) h = place_type_is p h
 type_is (C.Convert t a) h = left (is_type t) (has_types a) h
 type_is (C.ConvertNull t a) h = left (is_type t) (has_types a) h
-type_is (C.Negate i a) h = refl
-type_is (C.Complement i a) h = refl
-type_is (C.Compute op i a b) h = refl
-type_is (C.Combine op i a b) h = refl
-type_is (C.Shift d i a b) h = refl
-type_is (C.Compare r i a b) h = refl
-type_is (C.Equate q t a b) h = refl
-type_is (C.Not a) h = refl
-type_is (C.And a b) h = refl
-type_is (C.Or a b) h = refl
 type_is (C.Choose t c a b) h = left (is_type t) (has_types c) (left (is_type t && has_types c) (has_types a) (left (is_type t && has_types c && has_types a) (has_types b) h))
 type_is (C.Move s t p a) h = left (is_type t) (has_types p) (left (is_type t && has_types p) (has_types a) h)
 type_is (C.MoveBy t a p) h = left (is_type t) (has_types a) (left (is_type t && has_types a) (has_types p) h)
 type_is (C.Address p t) h = left (is_type t) (place_has_types p) h
 type_is (C.Decay p t) h = left (is_type t) (place_has_types p) h
+type_is _ _ = refl
 
 -- types made of others
 

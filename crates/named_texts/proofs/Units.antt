@@ -4,7 +4,7 @@ use Rattle.std.specs.Option.{option_map_or}
 use Rattle.std.proofs.lemmas.Bool.{and_from}
 use Rattle.c_grammar.specs.Tree as tree
 use Rattle.c_values.specs.Name.{Name, same_name, with_name}
-use Rattle.c_values.specs.Types.{Target, CType, Integer, Void, Ptr, Struct, Array}
+use Rattle.c_values.specs.Types.{Target, CType, Void, Array}
 use Rattle.c_values.specs.Layout.{Layout, is_scalar}
 use Rattle.expression_text.specs.Names.{is_name}
 use Rattle.expression_text.specs.TypeText.{is_type}
@@ -48,10 +48,7 @@ AreParameters (p ∷ ps) = ParameterIs p × AreParameters ps
 
 adjusted_is : (t : CType) → IsType t → IsType (adjusted t)
 adjusted_is (Array t n) h = left (is_type t) _ h
-adjusted_is (Integer i) h = h
-adjusted_is Void h = h
-adjusted_is (Ptr t) h = h
-adjusted_is (Struct x) h = h
+adjusted_is _ h = h
 
 parameter_is : (w : Written) (s : Scope) → IsType w.type → Rules ParameterIs (parameter_rule w s)
 parameter_is w s h =
@@ -97,10 +94,7 @@ types_are (p ∷ ps) h = (h.0, types_are ps h.1)
 
 result_is : (t : CType) → IsType t → WhereType (result_type t)
 result_is Void h = tt
-result_is (Integer i) h = h
-result_is (Ptr t) h = h
-result_is (Struct x) h = h
-result_is (Array t n) h = h
+result_is _ h = h
 
 function_rule_is : (d : Declared) (ps : List Parameter) (s : Scope) → DeclaredIs d → Rules WhereType (function_rule d ps s)
 function_rule_is d ps s h =

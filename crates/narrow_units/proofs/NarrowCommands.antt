@@ -173,9 +173,7 @@ module _ (g : Scope) (names : Name → Option S.Scalar) (is : IsScope g names) (
 
   mutual
     command_narrow : (r : Around) (c : C.Statement) → is_statement g r c ≡ true → Good (command l level c)
-    command_narrow r C.Empty h = tt
     command_narrow r (C.Block ss) h = commands_narrow r ss h
-    command_narrow r (C.Declare y t) h = tt
     command_narrow r (C.Assign d e) h =
         guarded_narrow (guards l level e ++ target_guards l level d) _
         (both _ _ (conditions e (second_so _ _ (second_so _ _ h))) (target_quiet d (first_so _ _ h))) (assignment_narrow d _ (value e))
@@ -216,6 +214,7 @@ module _ (g : Scope) (names : Name → Option S.Scalar) (is : IsScope g names) (
     command_narrow r (C.Return e) h =
         guarded_narrow (guards l level e) (Seq (Set result_local (exp l e)) (jump returned)) (conditions e (second_so _ _ h))
         (value e, jump_narrow returned)
+    command_narrow _ _ _ = tt
 
     pub commands_narrow : (r : Around) (ss : C.Statements) → are_statements g r ss ≡ true →
         IsCommandNarrow (simpl_scope g names) g.globals (commands g.layout level ss)

@@ -3,7 +3,7 @@ use Rattle.std.proofs.Common.{◌≡◌, Bool, true, false, cond, List, [], ◌�
 use Rattle.std.proofs.Common.{refl, sym, subst, ap, ap₂, ◌∙◌}
 use Rattle.c_values.specs.Name.{Name, same_name}
 use Rattle.c_values.specs.Types.{Target}
-use Rattle.c_values.specs.Value.{Value, Bits, Number, Truth, Parts}
+use Rattle.c_values.specs.Value.{Value, Bits, Number, Truth}
 use Rattle.c_values.specs.Layout.{Layout, IsLayout}
 use Rattle.c_values.proofs.Laid.{name_is}
 use Rattle.c_values.proofs.Options.{none_some, some_is}
@@ -55,18 +55,7 @@ kind_sorted (WordKind n) (Bits w) h = h
 kind_sorted (NatKind n) (Number z) h = tt
 kind_sorted (IntKind n) (Number z) h = tt
 kind_sorted BoolKind (Truth b) h = tt
-kind_sorted (WordKind n) (Number z) h = absurd h
-kind_sorted (WordKind n) (Truth b) h = absurd h
-kind_sorted (WordKind n) (Parts vs) h = absurd h
-kind_sorted (NatKind n) (Bits w) h = absurd h
-kind_sorted (NatKind n) (Truth b) h = absurd h
-kind_sorted (NatKind n) (Parts vs) h = absurd h
-kind_sorted (IntKind n) (Bits w) h = absurd h
-kind_sorted (IntKind n) (Truth b) h = absurd h
-kind_sorted (IntKind n) (Parts vs) h = absurd h
-kind_sorted BoolKind (Bits w) h = absurd h
-kind_sorted BoolKind (Number z) h = absurd h
-kind_sorted BoolKind (Parts vs) h = absurd h
+kind_sorted _ _ h = absurd h
 
 -- values of kinds are of the kinds' sorts
 pub kinds_sorted : (ks : List Kind) (vs : List Value) → AreOfKinds ks vs → AreOfSorts (map sort_of_kind ks) vs

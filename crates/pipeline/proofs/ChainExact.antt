@@ -58,9 +58,8 @@ record GivesWords (l : Layout) (lifted : Bool) (before : Memory) (heap : Memory 
 -- the values of a result, at its kind
 seen_values : (k : Option Kind) (v : Option Value) → views_at (result_as_list k) (as_values v) ≡ seen k v
 seen_values None None = refl
-seen_values None (Some v) = refl
 seen_values (Some k) None = refl
-seen_values (Some k) (Some v) = refl
+seen_values _ _ = refl
 
 module _ (u : TypedUnit) (levels : Name → Level) (generated flat : SimplUnit) (local heaps words last : FinalUnit)
     (chain : IsChain u levels generated flat local heaps words last) (whole : IsWhole u levels flat local words last)

@@ -32,14 +32,13 @@ same_alike m = tt
 
 step_alike : (f : Scope → Choice) (at : Point) (m r : Mon) → direct_step f at m ≡ Some r → Alike m r
 step_alike f at (M.Ret es) r h = one_case r (λ q. IsLeaf q) (λ xs. M.Ret xs) _ h (λ x j. tt)
-step_alike f at (M.Bind m xs n) r h = absurd cc
 step_alike f at (M.Guard e) r h = one_case r (λ q. IsLeaf q) (λ x. M.Guard x) _ h (λ x j. tt)
 step_alike f at (M.If e m n) r h = one_case r (λ q. IsIf m n q) (λ x. M.If x m n) _ h (λ x j. (refl, refl))
 step_alike f at (M.Write place e) r h = two_case r (λ q. IsLeaf q) (λ x y. M.Write x y) place e _ _ h (λ x j. tt) (λ y j. tt)
 step_alike f at (M.Loop starts guard test m) r h =
     three_case r (λ q. IsLoop m q) (λ x y z. M.Loop x y z m) starts guard test _ _ _ h (λ x j. refl) (λ y j. refl) (λ z j. refl)
 step_alike f at (M.Call g es) r h = one_case r (λ q. IsLeaf q) (λ xs. M.Call g xs) _ h (λ x j. tt)
-step_alike f at (M.Pick k) r h = absurd cc
+step_alike f at _ r h = absurd cc
 
 leaf_alike : (a b : Mon) → IsLeaf a → Alike a b → IsLeaf b
 leaf_alike (M.Bind m xs n) b h k = absurd h
@@ -58,18 +57,17 @@ then_alike (M.If e m n) (M.If e' m' n') c h k = if_alike c k
     if_alike : (c : Mon) → IsIf m' n' c → IsIf m n c
     if_alike (M.If e'' m'' n'') k = (k.0 ∙ h.0, k.1 ∙ h.1)
     if_alike c k = absurd k
-then_alike (M.If e m n) b c h k = absurd h
 then_alike (M.Loop starts guard test m) (M.Loop starts' guard' test' m') c h k = loop_alike c k
   where
     loop_alike : (c : Mon) → IsLoop m' c → IsLoop m c
     loop_alike (M.Loop starts'' guard'' test'' m'') k = k ∙ h
     loop_alike c k = absurd k
-then_alike (M.Loop starts guard test m) b c h k = absurd h
 then_alike (M.Ret es) b c h k = leaf_alike b c h k
 then_alike (M.Guard e) b c h k = leaf_alike b c h k
 then_alike (M.Write q e) b c h k = leaf_alike b c h k
 then_alike (M.Call g es) b c h k = leaf_alike b c h k
 then_alike (M.Pick kind) b c h k = leaf_alike b c h k
+then_alike _ _ _ h _ = absurd h
 
 pub steps_alike : (f : Scope → Choice) (at : Point) (n : ℕ) (m : Mon) → Alike m (last_of m (direct_steps f at n m))
 steps_alike f at zero m = same_alike m

@@ -243,7 +243,6 @@ module _ (f : Scope → Choice) (steps : MakesSteps f) where
       direct_step f at m ≡ Some r → ExpApart at m r
   direct_apart at (M.Ret es) r h =
       one_case r (λ q. ExpApart at (M.Ret es) q) _ _ h (λ x j. list_apart at.setting.scope at.facts es x j)
-  direct_apart at (M.Bind m xs n) r h = absurd cc
   direct_apart at (M.Guard e) r h =
       one_case r (λ q. ExpApart at (M.Guard e) q) _ _ h (λ x j. apart at.setting.scope at.facts e x j)
   direct_apart at (M.If e m n) r h =
@@ -271,4 +270,4 @@ module _ (f : Scope → Choice) (steps : MakesSteps f) where
       ))
   direct_apart at (M.Call g es) r h =
       one_case r (λ q. ExpApart at (M.Call g es) q) _ _ h (λ x j. (refl, list_apart at.setting.scope at.facts es x j))
-  direct_apart at (M.Pick k) r h = absurd cc
+  direct_apart at _ r h = absurd cc

@@ -37,7 +37,6 @@ module _ (l : Layout) (ns ns' : Name → Option Scalar) (gs gs' : Name → Optio
 
   mutual
     pub closed_sort : (e : Exp) → has is_open e ≡ false → sort_of g e ≡ sort_of g' e
-    closed_sort (Var x) h = absurd (true≢false h)
     closed_sort (WordLit w) h = refl
     closed_sort (NumberLit n) h = refl
     closed_sort (TruthLit b) h = refl
@@ -101,14 +100,9 @@ module _ (l : Layout) (ns ns' : Name → Option Scalar) (gs gs' : Name → Optio
         where_holds (is_object l t && is_word_of (address_width l.target) s)
         (of_shape q (λ v. word_sort (address_width l.target))))
         (closed_sort p q.0) (closed_along path q.1 (shape_of l t))
-    closed_sort (Load t p path) h = absurd (true≢false h)
-    closed_sort (Read t p path) h = absurd (true≢false h)
-    closed_sort (Tagged t p) h = absurd (true≢false h)
     closed_sort (PtrOk t p) h =
         ap (λ s. where_holds (is_object l t && is_word_of (address_width l.target) s) truth_sort) (closed_sort p h)
-    closed_sort (Global x path) h = absurd (true≢false h)
-    closed_sort (Sel e path) h = absurd (true≢false h)
-    closed_sort (Upd e path v) h = absurd (true≢false h)
+    closed_sort _ h = absurd (true≢false h)
 
     pub closed_along : (path : Path) → path_has is_open path ≡ false → (s : Shape) → shape_along g path s ≡ shape_along g' path s
     closed_along Here h s = refl
@@ -197,7 +191,6 @@ module _ (g : Scope) where
   l = g.layout
 
   pub closed_good : (e : Exp) → has is_open e ≡ false → (o : Sort) → sort_of g e ≡ Some o → IsGood o
-  closed_good (Var x) h o k = absurd (true≢false h)
   closed_good (WordLit w) h o k =
       let j = where_inv (is_width w.width && nat_lt w.bits (2 ^ w.width)) (word_sort w.width) o k in
       word_good w.width o j.1 (and_parts (is_width w.width) (nat_lt w.bits (2 ^ w.width)) j.0).0
@@ -254,11 +247,6 @@ module _ (g : Scope) where
       (of_shape (shape_along g path (shape_of l t)) (λ s. word_sort (address_width l.target))) o k in
       word_good (address_width l.target) o
       (shape_inv (shape_along g path (shape_of l t)) (λ s. word_sort (address_width l.target)) o j.1).2 (address_good l.target)
-  closed_good (Load t p path) h o k = absurd (true≢false h)
-  closed_good (Read t p path) h o k = absurd (true≢false h)
-  closed_good (Tagged t p) h o k = absurd (true≢false h)
   closed_good (PtrOk t p) h o k =
       truth_good o (where_inv (is_object l t && is_word_of (address_width l.target) (sort_of g p)) truth_sort o k).1
-  closed_good (Global x path) h o k = absurd (true≢false h)
-  closed_good (Sel e path) h o k = absurd (true≢false h)
-  closed_good (Upd e path v) h o k = absurd (true≢false h)
+  closed_good _ h _ _ = absurd (true≢false h)

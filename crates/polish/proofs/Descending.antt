@@ -68,10 +68,6 @@ after_led (Led v n) w m s = by (has_stayed w) refl
 
 -- Coming back, what was pushed at the end is done first.
 
-pub below_push : (vs : List Stage) (v : Stage) (at : Point) → below (vs ++ (v ∷ [])) at ≡ behind v.first v.names (below vs at)
-below_push [] v at = refl
-below_push (w ∷ vs) v at = below_push vs v (behind w.first w.names at)
-
 pub climbed_push : (again : Way) (vs : List Stage) (v : Stage) (at : Point) (s : Walked) →
     seen_climbed again at (vs ++ (v ∷ [])) s ≡ seen_climbed again at vs (seen_raised again (below vs at) v s)
 climbed_push again [] v at s = refl

@@ -5,7 +5,7 @@ use Rattle.c_values.specs.Name.{Name, are_distinct}
 use Rattle.c_values.specs.Types.{CType, address_width}
 use Rattle.c_values.specs.Layout.{Layout, Shape, is_object, shape_of}
 use Rattle.c_values.proofs.Options.{none_is}
-use Rattle.expression_lang.specs.Expression.{Exp, Sel, Upd, Path}
+use Rattle.expression_lang.specs.Expression.{Exp, Sel, Path}
 use Rattle.expression_lang.specs.Form.{has, path_has, is_part_of_value}
 use Rattle.expression_lang.specs.Sort.{Scalar, Sort, Of, PartsSort, Scope, sort_of, shape_along, is_truth, is_word_of}
 use Rattle.expression_lang.specs.Sorted.{program_sort, scalar_in, with_scalar, scalars_of, sort_in, part_place, global_place, fits_place, call_scalars}
@@ -31,8 +31,7 @@ use Rattle.polish.proofs.TestsKept.{KeepsFree, step_has, path_has_step}
 
 part_head : (e : Exp) → is_part_of_value (head e) ≡ is_part_of_value e
 part_head (Sel e path) = refl
-part_head (Upd e path v) = refl
-part_head e = refl
+part_head _ = refl
 
 parts_alike : (a b : Exp) → head b ≡ head a → is_part_of_value b ≡ is_part_of_value a
 parts_alike a b e = sym (part_head b) ∙ ap is_part_of_value e ∙ part_head a
@@ -48,8 +47,7 @@ scalar_sorted None q ss h = none_is h
 
 both_fit : (o q : Option Sort) → fits_place o q ≡ true → ((r : Sort) × (o ≡ Some r)) × ((r : Sort) × (q ≡ Some r))
 both_fit (Some r) (Some t) h = ((r, refl), (t, refl))
-both_fit (Some r) None h = absurd cc
-both_fit None q h = absurd cc
+both_fit _ _ h = absurd cc
 
 only_false : (b : Bool) (o : Option Sort) (r : Sort) → cond b None o ≡ Some r → (b ≡ false) × (o ≡ Some r)
 only_false true o r h = absurd cc

@@ -205,7 +205,6 @@ module _ (f : Scope → Choice) (shrinks : (g : Scope) → Shrinks (f g)) where
   direct_fewer at (M.Ret es) r h =
       one_case r (λ z. direct_nodes z < list_nodes es) (λ xs. M.Ret xs) _ h
       (λ x j. list_fewer (here at) (small at) at.facts es x j)
-  direct_fewer at (M.Bind m xs n) r h = absurd cc
   direct_fewer at (M.Guard e) r h = one_case r (λ z. direct_nodes z < nodes e) (λ x. M.Guard x) _ h
       (λ x j. step_fewer (here at) (small at) at.facts e x j)
   direct_fewer at (M.If e m n) r h = one_case r (λ z. direct_nodes z < nodes e) (λ x. M.If x m n) _ h
@@ -226,7 +225,7 @@ module _ (f : Scope → Choice) (shrinks : (g : Scope) → Shrinks (f g)) where
   direct_fewer at (M.Call g es) r h =
       one_case r (λ z. direct_nodes z < list_nodes es) (λ xs. M.Call g xs) _ h
       (λ x j. list_fewer (here at) (small at) at.facts es x j)
-  direct_fewer at (M.Pick k) r h = absurd cc
+  direct_fewer at _ r h = absurd cc
 
   same_steps : (at : Point) (n k : ℕ) (m : Mon) → direct_nodes m ≤ n → direct_nodes m ≤ k →
       direct_steps f at n m ≡ direct_steps f at k m

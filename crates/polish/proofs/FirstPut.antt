@@ -2,7 +2,7 @@
 use Rattle.std.proofs.Common.{◌≡◌, ℕ, zero, ◌+◌, true, false, cond, not, ◌&&◌, ◌||◌, List, [], ◌∷◌, ◌++◌, Option, Some, None, refl, sym, ap, ◌∙◌, arith}
 use Rattle.std.proofs.Math.Bool.{or-false, or_comm}
 use Rattle.c_values.specs.Name.{Name, same_name, is_among}
-use Rattle.expression_lang.specs.Expression.{Exp, Var, WordLit, NumberLit, TruthLit}
+use Rattle.expression_lang.specs.Expression.{Exp, Var}
 use Rattle.monad_lang.specs.Program.{Mon}
 use Rattle.monad_lang.specs.Form.{can_be_put}
 use Rattle.monad_lang.specs.Names.{is_free, is_captured}
@@ -15,11 +15,8 @@ abbrev AreSame : List Name → List Name → Type 0
 AreSame xs ys = (y : Name) → is_among y xs ≡ is_among y ys
 
 same_put : (e : Exp) (x : Name) (xs ys : List Name) (n : Mon) → AreSame xs ys → can_be_put e x xs n ≡ can_be_put e x ys n
-same_put (WordLit w) x xs ys n h = refl
-same_put (NumberLit k) x xs ys n h = refl
-same_put (TruthLit b) x xs ys n h = refl
 same_put (Var y) x xs ys n h = ap (λ b. not b && not (is_captured y x n)) (h y)
-same_put e x xs ys n h = refl
+same_put _ _ _ _ _ _ = refl
 
 behind_same : (xs ys zs : List Name) → AreSame xs ys → AreSame (xs ++ zs) (ys ++ zs)
 behind_same xs ys zs h y = among_both y xs zs ∙ ap (λ b. b || is_among y zs) (h y) ∙ sym (among_both y ys zs)
@@ -76,7 +73,3 @@ module _ (n : Mon) where
   constant_next k e es x xs h =
       ap (λ b. put_later k (cond b (Some zero) (one_later (first_constant es xs n)))) h
       ∙ later_more k (first_constant es xs n)
-
-  pub constant_names_end : (es : List Exp) → first_constant es [] n ≡ None
-  constant_names_end [] = refl
-  constant_names_end (e ∷ es) = refl

@@ -6,7 +6,7 @@ use Rattle.c_values.specs.Word.{Word, IsWord}
 use Rattle.c_values.specs.Value.{Value, Bits, Number, Truth, Parts}
 use Rattle.c_values.specs.Layout.{Layout, IsLayout}
 use Rattle.c_values.proofs.Options.{none_is}
-use Rattle.expression_lang.specs.Expression.{Exp, Var, WordLit, NumberLit, TruthLit, WordBinary, WordShift, WordUnary, WordCompare, Cast, ToNat, ToInt, ToWord, Arith, Negate, Lt, Le, Between, Eq, And, Or, Imp, Not, If, Padd, At, Load, Read, Tagged, PtrOk, Global, Sel, Upd}
+use Rattle.expression_lang.specs.Expression.{Exp, WordLit, NumberLit, TruthLit, WordBinary, WordShift, WordUnary, WordCompare, Cast, ToNat, ToInt, ToWord, Arith, Negate, Lt, Le, Between, Eq, And, Or, Imp, Not, If, Padd, At, Load, Read, Tagged, PtrOk, Sel, Upd}
 use Rattle.expression_lang.specs.Form.{has, is_part_of_value}
 use Rattle.expression_lang.specs.Sort.{WordSort, NumberSort, TruthSort, Sort, Of, PartsSort, Scope, sort_of, is_width, word_sort, where_holds}
 use Rattle.expression_lang.specs.Signature.{no_env}
@@ -67,16 +67,12 @@ constant_sorts g (Of (WordSort n)) (Bits w) b h i k =
         (and_from (is_width w.width) (nat_lt w.bits (2 ^ w.width)) (ap is_width h.has_width ∙ i)
         (lt-ltb w.bits (2 ^ w.width) (subst (λ m. w.bits < 2 ^ m) (sym h.has_width) h.fits)))
         ∙ ap (λ m. word_sort m) h.has_width
-constant_sorts g (Of (WordSort n)) (Number m) b h i k = absurd h
-constant_sorts g (Of (WordSort n)) (Truth m) b h i k = absurd h
-constant_sorts g (Of (WordSort n)) (Parts m) b h i k = absurd h
 constant_sorts g (Of NumberSort) (Number n) b h i k =
     subst (λ e. sort_of g e ≡ Some (Of NumberSort)) (some_same (NumberLit n) b k) refl
-constant_sorts g (Of NumberSort) v b h i k = absurd h
 constant_sorts g (Of TruthSort) (Truth t) b h i k =
     subst (λ e. sort_of g e ≡ Some (Of TruthSort)) (some_same (TruthLit t) b k) refl
-constant_sorts g (Of TruthSort) v b h i k = absurd h
 constant_sorts g (PartsSort t) v b h i k = absurd i
+constant_sorts _ _ _ _ h _ _ = absurd h
 
 not_open : (l : Layout) (e : Exp) → AreConstants l e → has is_open e ≡ false
 not_open l e h =
@@ -110,10 +106,6 @@ one_node l e r h = by_constant r (is_constant (constant_value l e) r (folds l e 
     by_constant r c = absurd c
 
 pub fold_nodes : (l : Layout) (e r : Exp) → folded l e ≡ Some r → nodes r < nodes e
-fold_nodes l (Var x) r h = absurd cc
-fold_nodes l (WordLit w) r h = absurd cc
-fold_nodes l (NumberLit n) r h = absurd cc
-fold_nodes l (TruthLit b) r h = absurd cc
 fold_nodes l (WordBinary op a b) r h =
     omega (arith, one_node l (WordBinary op a b) r h, some_nodes a)
 fold_nodes l (WordShift op a n) r h =
@@ -146,6 +138,6 @@ fold_nodes l (Load t p path) r h = omega (arith, one_node l (Load t p path) r h,
 fold_nodes l (Read t p path) r h = omega (arith, one_node l (Read t p path) r h, some_nodes p)
 fold_nodes l (Tagged t p) r h = omega (arith, one_node l (Tagged t p) r h, some_nodes p)
 fold_nodes l (PtrOk t p) r h = omega (arith, one_node l (PtrOk t p) r h, some_nodes p)
-fold_nodes l (Global x path) r h = absurd cc
 fold_nodes l (Sel e path) r h = omega (arith, one_node l (Sel e path) r h, some_nodes e)
 fold_nodes l (Upd e path v) r h = omega (arith, one_node l (Upd e path v) r h, some_nodes e)
+fold_nodes l _ r h = absurd cc

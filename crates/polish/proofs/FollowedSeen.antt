@@ -9,7 +9,7 @@ use Rattle.rule_trees.specs.RuleTree.{Tree}
 use Rattle.rule_eq.specs.Rule as R
 use Rattle.rule_eq.specs.Rule.{Rule, Point}
 use Rattle.rule_eq.specs.Table.{behind}
-use Rattle.rule_walks.specs.Walk.{Walk, Stays, Second, Goes, walk_of, stays, has_stayed, joined_walks, over_bind, Walked, walked, then_walked, Before, Nothing, after_before, and_led}
+use Rattle.rule_walks.specs.Walk.{Walk, Stays, Second, walk_of, stays, has_stayed, joined_walks, over_bind, Walked, walked, then_walked, Before, Nothing, after_before, and_led}
 use Rattle.expression_steps.specs.Known.{is_known}
 use Rattle.polish.specs.Polished.{Polished, Way, leaf, at_once, and_then, first_constant, put_or_settled, turned, bound, then_all, settled, Parted, parted, followed}
 use Rattle.polish.specs.Climbed as C
@@ -124,9 +124,8 @@ turned_down again last at b w o a zs c xs n = by (is_bind_ret (M.Bind a zs c) xs
         cond whole (at_bottom again last at b w C.Stands (M.Bind a zs c) xs n)
         (cond kept there (at_bottom again last at b w C.Enters (M.Bind a zs c) xs n))
         ≡ there
-    by true kept h = absurd cc
     by false true h = refl
-    by false false h = absurd cc
+    by _ _ h = absurd cc
 
 -- the bottom
 pub bottom_there : (again : Way) (last : Point → Walked) (at : Point) (b : Before) (w : Walk) (o m : Mon) (xs : List Name)
@@ -144,9 +143,8 @@ bottom_there again last at b w o (M.Bind a zs c) xs n h = by (is_bind_ret (M.Bin
         cond whole (at_bottom again last at b w C.Stands (M.Bind a zs c) xs n)
         (cond kept there (at_bottom again last at b w C.Enters (M.Bind a zs c) xs n))
         ≡ at_bottom again last at b w (cond whole C.Stands (cond kept (C.Turns a zs c) C.Enters)) (M.Bind a zs c) xs n
-    by true kept h = refl
     by false true h = absurd cc
-    by false false h = refl
+    by _ _ _ = refl
 bottom_there again last at b w o m xs n h = refl
 
 -- a sequence in first place that isn't turned
@@ -157,9 +155,8 @@ next_unturned at a zs c xs n = by (is_bind_ret (M.Bind a zs c) xs n) (all_kept z
   where
     by : (whole kept : Bool) → cond whole false kept ≡ false →
         cond whole C.Stands (cond kept (C.Turns a zs c) C.Enters) ≡ cond whole C.Stands C.Enters
-    by true kept h = refl
     by false true h = absurd cc
-    by false false h = refl
+    by _ _ _ = refl
 
 -- One stage up
 
@@ -169,8 +166,7 @@ stays_done (Stays ts) v m = by (has_stayed v)
     by : (b : Bool) → joined_walks (cond b stays (Second ts v)) m stays ≡ cond b stays (Second ts v)
     by true = refl
     by false = refl
-stays_done (Second ts w) v m = refl
-stays_done (Goes c) v m = refl
+stays_done _ _ _ = refl
 
 module _ (again : Way) (at : Point) (v : Stage) (q : Walked) where
   raised_by : seen_raised again at v q

@@ -94,7 +94,6 @@ module _ (test : Exp → Bool) (place_test : Place → Bool) (alike : (a b : Exp
     direct_free : (at : Point) (m r : Mon) → direct_step f at m ≡ Some r → Free m → Free r
     direct_free at (M.Ret es) r h c = one_case r (λ q. Free q) (λ xs. M.Ret xs) _ h
         (λ x j. list_free (here at) (kept at) at.facts es x j c)
-    direct_free at (M.Bind m xs n) r h c = absurd cc
     direct_free at (M.Guard e) r h c = one_case r (λ q. Free q) (λ x. M.Guard x) _ h
         (λ x j. step_free (here at) (kept at) at.facts e x j c)
     direct_free at (M.If e m n) r h c =
@@ -122,7 +121,7 @@ module _ (test : Exp → Bool) (place_test : Place → Bool) (alike : (a b : Exp
         (step_free (f (inner starts at)) (free (inner starts at)) (Whole guard ∷ []) test' z j) (λ k. k) c)
     direct_free at (M.Call g es) r h c = one_case r (λ q. Free q) (λ xs. M.Call g xs) _ h
         (λ x j. list_free (here at) (kept at) at.facts es x j c)
-    direct_free at (M.Pick k) r h c = absurd cc
+    direct_free at _ r h c = absurd cc
 
     pub steps_free : (at : Point) (n : ℕ) (m : Mon) → Free m → Free (last_of m (direct_steps f at n m))
     steps_free at zero m c = c

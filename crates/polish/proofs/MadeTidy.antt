@@ -34,7 +34,6 @@ more_positions m i j h t = record { tidy = t.tidy; fewer = omega (arith, t.fewer
 
 module _ (x : Name) (e : Exp) where
   pub positions_put : (m : Mon) → positions (program_substituted x e m) ≡ positions m
-  positions_put (M.Ret es) = refl
   positions_put (M.Bind m xs n) =
       cond_both (is_among x xs) n (program_substituted x e n)
       (λ q. positions (program_substituted x e m) + length xs + positions q ≡ positions m + length xs + positions n)
@@ -42,17 +41,14 @@ module _ (x : Name) (e : Exp) where
       (λ i.
       ap (λ k. k + length xs + positions (program_substituted x e n)) (positions_put m) ∙ ap
       (λ k. positions m + length xs + k) (positions_put n))
-  positions_put (M.Guard a) = refl
   positions_put (M.If a m n) =
       ap (λ k. k + positions (program_substituted x e n)) (positions_put m) ∙ ap (λ k. positions m + k) (positions_put n)
-  positions_put (M.Write place a) = refl
   positions_put (M.Loop starts guard test m) =
       cond_both (is_among x (start_names starts)) (M.Loop (starts_substituted x e starts) guard test m)
       (M.Loop (starts_substituted x e starts) (substituted x e guard) (substituted x e test) (program_substituted x e m))
       (λ q. positions q ≡ positions m)
       (λ i. refl) (λ i. positions_put m)
-  positions_put (M.Call f es) = refl
-  positions_put (M.Pick k) = refl
+  positions_put _ = refl
 
 pub with_positions : (es : List Exp) (xs : List Name) (m : Mon) → positions (with_values es xs m) ≤ length xs + positions m
 with_positions [] xs m = omega arith

@@ -222,9 +222,8 @@ module _ (u : U.Unit) (scope : N.Scoped) where
 
         by : (whole kept : Bool) → cond whole false kept ≡ true →
             cond whole (at_once R.BindRet (M.Bind a zs c)) (cond kept t (unchanged (M.Bind (M.Bind a zs c) xs n))) ≡ t
-        by true kept h = absurd cc
         by false true h = refl
-        by false false h = absurd cc
+        by _ _ h = absurd cc
 
     pub turned_first : (none d : D.Descent) (a : Mon) (zs : List Name) (c : Mon) → none.levels.items ≡ [] → none.parts.items ≡ [] →
         IsDeeper u scope none

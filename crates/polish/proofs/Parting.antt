@@ -5,7 +5,7 @@ use Rattle.std.specs.Prelude.{List}
 use Rattle.monad_lang.specs.Program as M
 use Rattle.monad_lang.specs.Program.{Mon}
 use Rattle.rule_walks.specs.Balanced.{Chain}
-use Rattle.rule_walks.specs.Walk.{Walk, Stays, Second, Goes, stays, seconds}
+use Rattle.rule_walks.specs.Walk.{Walk, Second, Goes, stays, seconds}
 use Rattle.polish.specs.Seen.{SeenParted, seen_parted}
 
 abbrev pub all_before : Walk → Mon → SeenParted
@@ -32,7 +32,5 @@ IsOther (M.Bind a zs b) = ⊥
 IsOther m = Unit {0}
 
 pub other_parted : (w : Walk) (m c : Mon) → IsOther m → all_before w c ≡ seen_parted w m c
-other_parted (Stays ts) m c h = refl
-other_parted (Goes d) m c h = refl
 other_parted (Second ts w) (M.Bind a zs b) c h = absurd h
-other_parted (Second ts w) m c h = refl
+other_parted _ _ _ _ = refl

@@ -4,7 +4,7 @@ use Rattle.std.proofs.Common.{◌≡◌, ℕ, zero, ◌<◌, ◌≤◌, ◌==◌
 use Rattle.std.proofs.lemmas.Bool.{and_parts, or_parts, eqb-true}
 use Rattle.c_values.specs.Word.{Word}
 use Rattle.c_values.specs.Number.{NumberOp, Add, least, greatest}
-use Rattle.expression_lang.specs.Expression.{Exp, Var, WordLit, NumberLit, TruthLit, WordBinary, WordShift, WordUnary, WordCompare, Cast, ToNat, ToInt, ToWord, Arith, Negate, Lt, Le, Between, Eq, And, Or, Imp, Not, If, Padd, At, Load, Read, Tagged, PtrOk, Global, Sel, Upd}
+use Rattle.expression_lang.specs.Expression.{Exp, WordLit, NumberLit, TruthLit, ToNat, ToInt, ToWord, Arith, Between, Eq, And, Or, Imp, Not, If}
 use Rattle.expression_lang.specs.Form.{has}
 use Rattle.expression_lang.specs.Sort.{Sort, Scope, sort_of, is_width, is_number, is_truth, is_word_of, is_unary, word_width, number_sort, truth_sort, word_sort, where_holds, of_word, are_same}
 use Rattle.expression_lang.proofs.Inversion.{where_inv, word_inv, width_inv, number_inv, truth_inv, word_of_inv, same_inv}
@@ -225,38 +225,8 @@ shortens_sorts g fs a e h o k = absurd h
 -- Nodes
 
 pub some_nodes : (e : Exp) → 1 ≤ nodes e
-some_nodes (Var x) = omega arith
-some_nodes (WordLit w) = omega arith
-some_nodes (NumberLit n) = omega arith
-some_nodes (TruthLit b) = omega arith
-some_nodes (WordBinary op a b) = omega arith
-some_nodes (WordShift op a n) = omega arith
-some_nodes (WordUnary op a) = omega arith
-some_nodes (WordCompare op a b) = omega arith
-some_nodes (Cast op width a) = omega arith
-some_nodes (ToNat a) = omega arith
-some_nodes (ToInt a) = omega arith
-some_nodes (ToWord width a) = omega arith
-some_nodes (Arith op a b) = omega arith
-some_nodes (Negate a) = omega arith
-some_nodes (Lt a b) = omega arith
-some_nodes (Le a b) = omega arith
 some_nodes (Between low a high) = omega arith
-some_nodes (Eq a b) = omega arith
-some_nodes (And a b) = omega arith
-some_nodes (Or a b) = omega arith
-some_nodes (Imp a b) = omega arith
-some_nodes (Not a) = omega arith
-some_nodes (If c a b) = omega arith
-some_nodes (Padd t p n) = omega arith
-some_nodes (At t p path) = omega arith
-some_nodes (Load t p path) = omega arith
-some_nodes (Read t p path) = omega arith
-some_nodes (Tagged t p) = omega arith
-some_nodes (PtrOk t p) = omega arith
-some_nodes (Global x path) = omega arith
-some_nodes (Sel e path) = omega arith
-some_nodes (Upd e path v) = omega arith
+some_nodes _ = omega arith
 
 -- the part is smaller
 smaller : (e a : Exp) (n : ℕ) → e ≡ a → nodes a < n → nodes e < n

@@ -33,11 +33,10 @@ module _ (at : Point) where
   from_take cs false c m n g h = paired_take cs c m n g h
 
   one_takes : (cs : List Scalar) (k : ℕ) (c : Chain) (m n : Mon) → Gives at n cs → Chained cs c m n → Takes at (as_one k c) m n
-  one_takes cs zero (single t) m n g h = h
-  one_takes cs (suc k) (single t) m n g h = h
   one_takes cs zero (before t j c) m n g h = ((cs, h.1, g), (h.0, (one_takes cs zero c j n g h.2, tt)))
   one_takes cs (suc k) (before t j c) m n g h =
       one_takes cs k (round (before t j c)) m n g (from_take cs (nat_eq (suc (links c) % 2) 0) (before t j c) m n g h)
+  one_takes _ _ _ _ _ _ h = h
 
   -- one tree, or several with scalars
   abbrev Steps : Chain → Mon → Mon → Type 0

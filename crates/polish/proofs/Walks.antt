@@ -47,9 +47,8 @@ module _ (t : Tree Rule) (m : Mon) (u : Tree Rule) where
     where
       by : (a b : Bool) → walk_of (cond a u (cond b t (node (R.Trans m) (tree t (tree u no_trees)))))
           ≡ cond a (walk_of u) (cond b (walk_of t) (Goes (chained (steps_of t) m (steps_of u))))
-      by true b = refl
       by false true = refl
-      by false false = refl
+      by _ _ = refl
 
 -- a program by one tree, and then on
 pub seen_then : (t : Tree Rule) (m : Mon) (p : Polished) → seen (and_then t m p) ≡ then_walked (walk_of t) m (seen p)
@@ -118,8 +117,7 @@ module _ (at : Point) (m : Mon) where
 over_side : (w v : Walk) → has_stayed w ≡ false →
     over_bind w v ≡ one_walk (node R.Bind (tree (built (steps_in w)) (tree (built (steps_in v)) no_trees)))
 over_side (Stays ts) v h = absurd cc
-over_side (Second ts w) v h = refl
-over_side (Goes c) v h = refl
+over_side _ _ _ = refl
 
 module _ (u : Tree Rule) where
   pub walk_bind : (t : Tree Rule) → walk_of (bind_tree t u) ≡ over_bind (walk_of t) (walk_of u)

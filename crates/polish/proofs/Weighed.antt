@@ -25,7 +25,6 @@ use Rattle.polish.proofs.MadeTidy.{one_fewer}
 
 module _ (x : Name) (e : Exp) where
   weight_put : (m : Mon) → weight (program_substituted x e m) ≡ weight m
-  weight_put (M.Ret es) = refl
   weight_put (M.Bind m xs n) =
       let a = weight_put m in
       let b = weight_put n in
@@ -37,17 +36,14 @@ module _ (x : Name) (e : Exp) where
       (λ i.
       ap (λ k. suc (length xs + k + k + weight (program_substituted x e n))) a ∙ ap
       (λ k. suc (length xs + weight m + weight m + k)) b)
-  weight_put (M.Guard a) = refl
   weight_put (M.If a m n) =
       ap (λ k. suc (k + weight (program_substituted x e n))) (weight_put m) ∙ ap (λ k. suc (weight m + k)) (weight_put n)
-  weight_put (M.Write place a) = refl
   weight_put (M.Loop starts guard test m) =
       cond_both (is_among x (start_names starts)) (M.Loop (starts_substituted x e starts) guard test m)
       (M.Loop (starts_substituted x e starts) (substituted x e guard) (substituted x e test) (program_substituted x e m))
       (λ q. weight q ≡ suc (weight m))
       (λ i. refl) (λ i. ap (λ k. suc k) (weight_put m))
-  weight_put (M.Call f es) = refl
-  weight_put (M.Pick k) = refl
+  weight_put _ = refl
 
 with_weight : (es : List Exp) (xs : List Name) (m : Mon) → weight (with_values es xs m) ≤ suc (length xs + weight m)
 with_weight [] xs m = omega arith

@@ -18,7 +18,7 @@ use Rattle.ac_expr.specs.Fact.{Fact, stands_for, AllSay}
 use Rattle.expression_lang.specs.Mentions.{names, reads}
 use Rattle.ac_expr.specs.Facts.{facts_where, without_name, without_reads}
 use Rattle.ac_expr.proofs.SameValues.{unnamed_same, unread_same}
-use Rattle.monad_lang.specs.Program.{Mon, Ret, Bind, Guard, If, Write, Loop, Call, Pick}
+use Rattle.monad_lang.specs.Program.{Mon, Ret, Bind, Guard, If, Loop, Pick}
 use Rattle.monad_lang.specs.Run.{Answer, Failure, Runs, runs}
 use Rattle.ac_expr.specs.Passed.{without_names, with_guard, where_unchanged}
 use Rattle.program_facts.specs.Flow.{changes_state, guard_in, facts_after}
@@ -39,15 +39,14 @@ module _ (l : Layout) (p : Choice) where
   state_unchanged (If e m k) n env depth gs s =
       let o = or_parts (changes_state m) (changes_state k) n in
       choose_always (SameState s) (holds l env s e) _ _ (λ i. state_unchanged m o.0 env depth gs s) (λ i. state_unchanged k o.1 env depth gs s)
-  state_unchanged (Write place e) n env depth gs s = absurd (true≢false n)
   state_unchanged (Loop starts guard test m) n env depth gs s =
       let K = Keeps (SameState s) (SameState s) in
       loop_keeps (λ fs. Unit {0}) (λ f fs k. tt) (SameState s) (SameState s) _ _
       (λ a k. choose_always K (holds l _ a.state guard) _ _ (λ i. choose_always K (holds l _ a.state test) _ _ (λ j. done_always K (inl a) k) (λ j. done_always K (inr a) k)) (λ i b e. absurd e))
       (λ fs q a k. then_always (SameState s) K _ _ (λ b e. state_unchanged m n _ depth fs a.state b e ∙ k) (λ b j. done_always K (inl b) j))
       gs tt _ refl
-  state_unchanged (Call f es) n env depth gs s = absurd (true≢false n)
   state_unchanged (Pick k) n env depth gs s = then_always (λ v. Unit {0}) (SameState s) _ _ (λ v e. tt) (λ v u. done_always (SameState s) _ refl)
+  state_unchanged _ n _ _ _ _ = absurd (true≢false n)
 
 module _ (l : Layout) where
   -- the facts that pass a test

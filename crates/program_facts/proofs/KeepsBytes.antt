@@ -11,7 +11,7 @@ use Rattle.c_values.specs.Choice.{Choice}
 use Rattle.c_memory.specs.Heap.{Heap, OnBytes, OnTypes}
 use Rattle.expression_lang.specs.Evaluation.{Env, State, value, holds}
 use Rattle.expression_lang.specs.Signature.{Invocation, values_of}
-use Rattle.monad_lang.specs.Program.{Place, Stored, Written, Global, Mon, Ret, Bind, Guard, If, Write, Loop, Call, Pick, FinalFn, FinalUnit, final_fn}
+use Rattle.monad_lang.specs.Program.{Place, Stored, Mon, Ret, Bind, Guard, If, Write, Loop, Call, Pick, FinalFn, FinalUnit, final_fn}
 use Rattle.monad_lang.specs.Run.{Answer, Runs, written, runs, function_runs, bodies, functions_below, program_runs}
 
 abbrev pub IsOnBytes : Heap → Type 0
@@ -38,9 +38,8 @@ AllKeepBytes (f ∷ fs) = FunctionKeepsBytes f × AllKeepBytes fs
 
 place_keeps_bytes : (l : Layout) (env : Env) (h : Heap) (g : Name → Value) (place : Place) (v : Value) → IsOnBytes h → IsOnBytes (written l env (record { heap = h; globals = g }) place v).heap
 place_keeps_bytes l env (OnBytes m) g (Stored t p path) v k = tt
-place_keeps_bytes l env (OnBytes m) g (Written t p path) v k = tt
-place_keeps_bytes l env (OnBytes m) g (Global x path) v k = tt
 place_keeps_bytes l env (OnTypes cells) g place v k = absurd k
+place_keeps_bytes _ _ _ _ _ _ _ = tt
 
 module _ (l : Layout) (p : Choice) where
   pub runs_keep_bytes : (m : Mon) (env : Env) (depth : Option ℕ) (gs : List Runs) → AllKeepBytes gs → (s : State) → IsOnBytes s.heap → Always EndsOnBytes (runs l p m env depth gs s)

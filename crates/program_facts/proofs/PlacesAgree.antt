@@ -42,12 +42,7 @@ pub place_as_many : (q q' : Place) → place_head q' ≡ place_head q → length
 place_as_many (Stored t p path) (Stored t' p' path') h = ap (λ n. suc n) (path_as_many path path' (ap path_in h))
 place_as_many (Written t p path) (Written t' p' path') h = ap (λ n. suc n) (path_as_many path path' (ap path_in h))
 place_as_many (Global x path) (Global x' path') h = path_as_many path path' (ap path_in h)
-place_as_many (Stored t p path) (Written t' p' path') h = absurd cc
-place_as_many (Stored t p path) (Global x' path') h = absurd cc
-place_as_many (Written t p path) (Stored t' p' path') h = absurd cc
-place_as_many (Written t p path) (Global x' path') h = absurd cc
-place_as_many (Global x path) (Stored t' p' path') h = absurd cc
-place_as_many (Global x path) (Written t' p' path') h = absurd cc
+place_as_many _ _ h = absurd cc
 
 module _ (l : Layout) (env env' : Env) (s : State) where
   abbrev SameValues : List Exp → List Exp → Type 0
@@ -71,9 +66,4 @@ module _ (l : Layout) (env env' : Env) (s : State) where
   written_same (Stored t p path) (Stored t' p' path') v h k = heap_same t t' p p' path path' v (ap (type_in t) h) (ap path_in h) k
   written_same (Written t p path) (Written t' p' path') v h k = heap_same t t' p p' path path' v (ap (type_in t) h) (ap path_in h) k
   written_same (Global x path) (Global x' path') v h k = global_same x x' path path' v (ap name_in h) (ap path_in h) k
-  written_same (Stored t p path) (Written t' p' path') v h k = absurd cc
-  written_same (Stored t p path) (Global x' path') v h k = absurd cc
-  written_same (Written t p path) (Stored t' p' path') v h k = absurd cc
-  written_same (Written t p path) (Global x' path') v h k = absurd cc
-  written_same (Global x path) (Stored t' p' path') v h k = absurd cc
-  written_same (Global x path) (Written t' p' path') v h k = absurd cc
+  written_same _ _ v h k = absurd cc

@@ -6,7 +6,7 @@ use Rattle.correspondence.specs.Bound.{called}
 use Rattle.correspondence.specs.Always.{Always}
 use Rattle.correspondence.proofs.Always.{then_always}
 use Rattle.c_values.specs.Name.{Name, same_name, are_distinct}
-use Rattle.c_values.specs.Value.{Value, Bits, Number, Truth, Parts}
+use Rattle.c_values.specs.Value.{Value, Truth}
 use Rattle.c_values.specs.Word.{IsWord}
 use Rattle.c_values.specs.Layout.{Layout, IsLayout, GlobalVar, global_type}
 use Rattle.c_values.specs.Choice.{Choice, Any, Fill, picked}
@@ -45,9 +45,8 @@ call_where sort_for g es cs false k h = absurd cc
 call_inv : (sort_for : Kind → Scalar) (o : Option Signature) (p : Option (List Scalar)) (cs : List Scalar) → call_scalars sort_for o p ≡ Some cs →
     (es : List Scalar) × (p ≡ Some es) × CallFits sort_for o es cs
 call_inv sort_for (Some g) (Some es) cs h = (es, refl, call_where sort_for g es cs (same_scalars (map sort_for (kinds_of g.params)) es) refl h)
-call_inv sort_for (Some g) None cs h = absurd cc
 call_inv sort_for None (Some es) cs h = absurd cc
-call_inv sort_for None None cs h = absurd cc
+call_inv sort_for _ _ cs h = absurd cc
 
 -- picks
 
@@ -57,9 +56,7 @@ picked_word (Fill k) n w h = subst (IsWord n) (sym h) (word_fits n (pos k))
 
 truth_sorted : (v : Value) → IsTruth v → IsOfSort TruthSort v
 truth_sorted (Truth b) h = tt
-truth_sorted (Bits w) h = absurd h
-truth_sorted (Number n) h = absurd h
-truth_sorted (Parts vs) h = absurd h
+truth_sorted _ h = absurd h
 
 picked_sorted : (p : Choice) (k : Kind) → Always {F = Failure} (IsOfSort (sort_of_kind k)) (picked_at p k)
 picked_sorted p (WordKind n) = then_always (IsWord n) (IsOfSort (WordSort n)) _ _ (picked_word p n) (λ w h v e. subst (IsOfSort (WordSort n)) (sym e) h)

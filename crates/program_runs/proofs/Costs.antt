@@ -2,7 +2,7 @@
 use Rattle.std.proofs.Common.{◌≡◌, ℕ, ◌+◌, ◌<◌, ◌≤◌, Bool, true, false, cond, List, [], ◌∷◌, Some, subst, arith}
 use Rattle.c_values.specs.Name.{Name, same_name}
 use Rattle.c_values.proofs.Options.{some_is, none_is}
-use Rattle.monad_lang.specs.Program.{Mon, Ret, Bind, Guard, If, Write, Loop, Call, Pick, FinalFn, final_fn}
+use Rattle.monad_lang.specs.Program.{Mon, Call, FinalFn, final_fn}
 use Rattle.program_runs.specs.Machine.{turning, calling, cost, cost_of_all}
 
 pub turning_some : (body : List ℕ → ℕ) (gs : List ℕ) → 0 < turning body gs
@@ -14,14 +14,8 @@ calling_some [] = omega arith
 calling_some (g ∷ gs) = omega arith
 
 pub cost_some : (m : Mon) (gs : List ℕ) → 0 < cost m gs
-cost_some (Ret es) gs = omega arith
-cost_some (Bind m xs n) gs = omega arith
-cost_some (Guard e) gs = omega arith
-cost_some (If e m n) gs = omega arith
-cost_some (Write place e) gs = omega arith
-cost_some (Loop starts guard test m) gs = omega arith
 cost_some (Call f es) gs = calling_some gs
-cost_some (Pick k) gs = omega arith
+cost_some _ gs = omega arith
 
 pub cost_of_one : (fs : List FinalFn) (x : Name) (f : FinalFn) (gs : List ℕ) → final_fn fs x ≡ Some f → cost f.body gs ≤ cost_of_all fs gs
 cost_of_one [] x f gs e = none_is e

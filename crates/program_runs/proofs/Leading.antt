@@ -124,9 +124,7 @@ picked_is k BoolKind = refl
 
 pub picked_fits : (k : ℕ) (q : Kind) → IsOfSort (sort_of_kind q) (picked_value k q)
 picked_fits k (WordKind n) = word_fits n (pos k)
-picked_fits k (NatKind n) = tt
-picked_fits k (IntKind n) = tt
-picked_fits k BoolKind = tt
+picked_fits _ _ = tt
 
 pub kind_sorted : (u : FinalUnit) (bs : Bindings) (q : Kind) → CanRun u bs (Pick q) → is_kind q ≡ true
 kind_sorted u bs q h = (fits_parts (is_kind q) (Some (sort_of_kind q ∷ [])) h.scalars h.gives).0

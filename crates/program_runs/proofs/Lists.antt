@@ -22,9 +22,8 @@ met None p x h = absurd cc
 
 pub both_there : (o : Option Scalar) (p : Option (List Scalar)) → IsSome (with_scalar o p) → (c : Scalar) × (o ≡ Some c) × IsSome p
 both_there (Some c) (Some cs) h = (c, refl, refl)
-both_there (Some c) None h = absurd (false≢true h)
 both_there None (Some cs) h = absurd (false≢true h)
-both_there None None h = absurd (false≢true h)
+both_there _ _ h = absurd (false≢true h)
 
 pub scalar_sorted : (g : Scope) (e : Exp) (c : Scalar) → scalar_in (program_sort g e) ≡ Some c → sort_of g e ≡ Some (Of c)
 scalar_sorted g e c h = program_sort_inv g e (Of c) (scalar_in_inv (program_sort g e) c h)

@@ -25,7 +25,4 @@ module _ {H : Type 0} where
   pub has_results : (f : F.FinalFn) (r : Result (Option V.Value) P.Stop) (s : A.AState H) → IfOk r (λ v. AreResults f (values_in v)) → OnResults f (outcome_of r s)
   has_results f (Ok v) s h = h
   has_results f (Err P.TheVariants.Fails) s h = tt
-  has_results f (Err (P.TheVariants.Wide op a b)) s h = tt
-  has_results f (Err P.TheVariants.OutOfTurns) s h = tt
-  has_results f (Err P.TheVariants.Deep) s h = tt
-  has_results f (Err P.TheVariants.Memory) s h = tt
+  has_results _ _ _ _ = tt

@@ -30,9 +30,8 @@ use Rattle.program_runs.proofs.Bindings.{environment}
 
 both_fit : (o p : Option Sort) → fits_place o p ≡ true → IsSome o × IsSome p
 both_fit (Some s) (Some t) h = (refl, refl)
-both_fit (Some s) None h = absurd (false≢true h)
 both_fit None (Some t) h = absurd (false≢true h)
-both_fit None None h = absurd (false≢true h)
+both_fit _ _ h = absurd (false≢true h)
 
 where_fits : (b : Bool) (o p : Option Sort) → fits_place (cond b o None) p ≡ true → (b ≡ true) × (fits_place o p ≡ true)
 where_fits true o p h = (refl, h)
@@ -43,9 +42,8 @@ fits_where true o p e h = h
 fits_where false o p e h = absurd (false≢true e)
 
 shape_there : (b : Bool) (o : Option Shape) → IsSome (cond b None (sort_in o)) → (q : Shape) × (o ≡ Some q)
-shape_there true o h = absurd (false≢true h)
 shape_there false (Some q) h = (q, refl)
-shape_there false None h = absurd (false≢true h)
+shape_there _ _ h = absurd (false≢true h)
 
 sort_there : (b : Bool) (o : Option Sort) → IsSome (cond b None o) → IsSome o
 sort_there true o h = absurd (false≢true h)

@@ -19,9 +19,6 @@ use Rattle.program_runs.proofs.MachineSteps.{bind_begins, rest_begins, turn_come
 pub pushed_first : (bs : Bindings) (items news : List W.Pending) (x : W.Pending) → news ≡ items ++ (x ∷ []) → stack_of bs (reverse news) ≡ stack_of bs (x ∷ reverse items)
 pushed_first bs items news x h = ap (stack_of bs) (ap reverse h ∙ reverse-append items (x ∷ []))
 
-pub pushed_marks : (n : ℕ) (items news : List W.Pending) (x : W.Pending) → news ≡ items ++ (x ∷ []) → AreMarked n (x ∷ reverse items) → AreMarked n (reverse news)
-pushed_marks n items news x h k = subst (λ fs. AreMarked n fs) (sym (ap reverse h ∙ reverse-append items (x ∷ []))) k
-
 pub stack_behind : (bs more : Bindings) (fs : List W.Pending) → AreMarked (length bs) fs → stack_of (bs ++ more) fs ≡ stack_of bs fs
 stack_behind bs more [] h = refl
 stack_behind bs more (W.TheVariants.Rest xs n mark b ∷ fs) h = ap (λ q. Rest q (map string_bytes xs.now) (mon_of n.now) (bound_of b) ∷ stack_of q fs) (take-append-le mark bs more h.0)

@@ -61,18 +61,14 @@ module _ (u : FinalUnit) (k : ℕ) (bs new : Bindings) (t : Turns) (vs : List Va
   pub guard_met : (p : P.Stop) → IsMet (wide u.layout (env_of new) s t.guard) p → HasStopped (turns_at u k (env_of bs) t here) p
   guard_met (P.TheVariants.Wide op a b) h = fails_at _ (unless_some (wide u.layout (env_of new) s t.guard) _ _ h)
   guard_met P.TheVariants.Memory h = tt
-  guard_met P.TheVariants.Fails h = absurd h
-  guard_met P.TheVariants.OutOfTurns h = absurd h
-  guard_met P.TheVariants.Deep h = absurd h
+  guard_met _ h = absurd h
 
   module _ (narrow : wide u.layout (env_of new) s t.guard ≡ None) (on : holds u.layout (env_of new) s t.guard ≡ true) where
     pub test_met : (p : P.Stop) → IsMet (wide u.layout (env_of new) s t.test) p → HasStopped (turns_at u k (env_of bs) t here) p
     test_met (P.TheVariants.Wide op a b) h =
         fails_at _ (unless_none (wide u.layout (env_of new) s t.guard) _ _ narrow (choose_true (holds u.layout (env_of new) s t.guard) _ _ _ on (unless_some (wide u.layout (env_of new) s t.test) _ _ h)))
     test_met P.TheVariants.Memory h = tt
-    test_met P.TheVariants.Fails h = absurd h
-    test_met P.TheVariants.OutOfTurns h = absurd h
-    test_met P.TheVariants.Deep h = absurd h
+    test_met _ h = absurd h
 
   pub turns_out : Enters u new t s true → t.left.turns ≡ 0 → turns_at u k (env_of bs) t here (Stopped OutOfTurns)
   turns_out h none =

@@ -3,7 +3,7 @@
 use Rattle.std.proofs.Common.{◌≡◌, ℕ, nat_lt, ◌⊎◌, inl, inr, Bool, true, false, cond, List, [], ◌∷◌, Option, Some, None, refl, sym, ap, subst, ◌∙◌}
 use Rattle.std.proofs.lemmas.Bool.{and_parts, and_from, false≢true, true≢false, cases_Bool, false_from_ne_true}
 use Rattle.c_values.specs.Name.{Name, same_name, with_name}
-use Rattle.c_values.specs.Types.{Target, CType, Integer, Void, Ptr, Struct, Array, same_type}
+use Rattle.c_values.specs.Types.{Target, CType, Void, Struct, Array, same_type}
 use Rattle.c_values.specs.Layout.{Layout, IsLayout, StructDef, Shape, Incomplete, Scalar, Record, Row, type_of, shape_of, shape_from, shapes_after, struct_shape, is_complete}
 use Rattle.c_values.proofs.Laid.{name_is, shape_type, structs_of}
 use Rattle.c_values.specs.CodeSameType.{type_is, same_type-refl}
@@ -34,18 +34,16 @@ structs_named t structs (d ∷ ds) h x =
 module _ (t : Target) (structs : Name → Shape) (named : (x : Name) → IsNamed x (structs x)) where
   struct_back : (x : Name) (s : Shape) → structs x ≡ s → IsNamed x s → is_complete (shape_from t structs (type_of s)) ≡ true → is_complete s ≡ true
   struct_back x Incomplete e k h = absurd (false≢true h)
-  struct_back x (Scalar u width) e k h = absurd k
   struct_back x (Record y n align fs) e k h = subst (λ s. is_complete s ≡ true) (ap structs k ∙ e) h
-  struct_back x (Row r n) e k h = absurd k
+  struct_back _ _ _ k _ = absurd k
 
   complete_back : (u : CType) → is_complete (shape_from t structs (type_of (shape_from t structs u))) ≡ true → is_complete (shape_from t structs u) ≡ true
-  complete_back (Integer i) h = refl
   complete_back Void h = absurd (false≢true h)
-  complete_back (Ptr u) h = refl
   complete_back (Struct x) h = struct_back x (structs x) refl (named x) h
   complete_back (Array u n) h =
       let p = and_parts (nat_lt 0 n) (is_complete (shape_from t structs (type_of (shape_from t structs u)))) h in
       and_from (nat_lt 0 n) (is_complete (shape_from t structs u)) p.0 (complete_back u p.1)
+  complete_back _ _ = refl
 
 module _ (l : Layout) (h : IsLayout l) where
   back : (u : CType) → is_complete (shape_of l (type_of (shape_of l u))) ≡ true → is_complete (shape_of l u) ≡ true
@@ -59,10 +57,9 @@ module _ (l : Layout) (h : IsLayout l) where
       subst (λ v. same_type u v ≡ true) (sym (shape_type l h u whole) ∙ is) (same_type-refl u)
 
   type_fits : (u t : CType) (s : Shape) → s ≡ shape_of l u → is_complete (shape_of l t) ≡ true → fits_place (sort_at s) (Some (PartsSort t)) ≡ true → same_type u t ≡ true
-  type_fits u t Incomplete e c f = absurd (false≢true f)
-  type_fits u t (Scalar v width) e c f = absurd (false≢true f)
   type_fits u t (Record x n align fs) e c f = type_is_part u t (Record x n align fs) e c f
   type_fits u t (Row r n) e c f = type_is_part u t (Row r n) e c f
+  type_fits _ _ _ _ _ f = absurd (false≢true f)
 
   -- the same the other way round, where the part's type has this sort
   fits_type : (u t : CType) → (is_complete (shape_of l u) ≡ true → ◌≡◌ {A = Option Sort} (Some (PartsSort u)) (sort_at (shape_of l u))) → is_complete (shape_of l t) ≡ true →
@@ -78,10 +75,9 @@ nothing_fits None = refl
 nothing_fits (Some s) = refl
 
 no_scalar : (s : Shape) (a : S.Scalar) → IsStructShape s → fits_place (sort_at s) (Some (Of a)) ≡ false
-no_scalar Incomplete a h = refl
 no_scalar (Scalar t width) a h = absurd h
-no_scalar (Record x n align fs) a h = refl
 no_scalar (Row e n) a h = absurd h
+no_scalar _ _ _ = refl
 
 -- the same of any sort of a value
 parts_fit : (l : Layout) (u : CType) (o : Option Sort) → ((a : S.Scalar) → fits_place (sort_at (shape_of l u)) (Some (Of a)) ≡ false) →

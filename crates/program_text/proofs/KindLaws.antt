@@ -21,14 +21,12 @@ use Rattle.program_text.specs.Kinds.{kind_head_word, kind_heads, of_width, bool_
 use Rattle.program_text.specs.Answer.{IsKindText}
 
 pub one_is : (ts : Trees) (t : Tree) → one_of ts ≡ Some t → ts ≡ more t no_trees
-one_is no_trees t e = absurd cc
 one_is (more u no_trees) t e = let same : u ≡ t = cc in ap (λ v. more v no_trees) same
-one_is (more u (more v vs)) t e = absurd cc
+one_is _ t e = absurd cc
 
 pub kind_heads_found : AreFound kind_head_word kind_heads
 kind_heads_found H.Word = refl
-kind_heads_found H.Nat = refl
-kind_heads_found H.Int = refl
+kind_heads_found _ = refl
 
 sized_reads : (h : KindHead) (n : ℕ) → is_width n ≡ true → IsReadAs kind_at (sized_kind h n) (of_width h n)
 sized_reads h n is = λ at.
@@ -43,13 +41,10 @@ kind_reads BoolKind is = λ at. refl
 
 sized_text : (h : KindHead) (n : ℕ) → is_width n ≡ true → (sized_kind h n ≡ kind_tree (of_width h n)) × (is_kind (of_width h n) ≡ true)
 sized_text H.Word n is = (refl, is)
-sized_text H.Nat n is = (refl, is)
-sized_text H.Int n is = (refl, is)
+sized_text _ _ is = (refl, is)
 
 sized_spells : (word : Name) (ts : Trees) (at inner : ℕ) (k : Kind) (n : ℕ) (h : Option KindHead) (o : Option Tree) → looked_up kind_head_word kind_heads word ≡ h → one_of ts ≡ o → sized_kind_at at inner h o ≡ Ok (k, n) →
     (Node (more (Atom word) ts) ≡ kind_tree k) × (is_kind k ≡ true)
-sized_spells word ts at inner k n None o found is read = absurd cc
-sized_spells word ts at inner k n (Some h) None found is read = absurd cc
 sized_spells word ts at inner k n (Some h) (Some t) found is read =
     let (x, first, last) = bind_ok (width_at inner t) (λ x. Ok (of_width h x.0, x.1)) (k, n) read in
     let p = width_spells t inner x.0 x.1 first in
@@ -58,14 +53,14 @@ sized_spells word ts at inner k n (Some h) (Some t) found is read =
       ap₂ (λ w us. Node (more (Atom w) us)) (sym (looked_up_is kind_head_word kind_heads word h found)) (one_is ts t is ∙ ap (λ u. more u no_trees) p.0) ∙ q.0 ∙ ap kind_tree same,
       ap is_kind (sym same) ∙ q.1,
     )
+sized_spells word ts at inner k n _ _ found is read = absurd cc
 
 pub kind_spells : (t : Tree) (at : ℕ) (k : Kind) (n : ℕ) → kind_at at t ≡ Ok (k, n) → (t ≡ kind_tree k) × (is_kind k ≡ true)
 kind_spells (Atom word) at k n read =
     let p = kept_ok (same_name word bool_word) BoolKind (next at) at k n read in
     (ap Atom (name_is word bool_word p.0) ∙ ap kind_tree p.1, ap is_kind (sym p.1))
-kind_spells (Node no_trees) at k n read = absurd cc
-kind_spells (Node (more (Node us) ts)) at k n read = absurd cc
 kind_spells (Node (more (Atom word) ts)) at k n read = sized_spells word ts at (next (next at)) k n (looked_up kind_head_word kind_heads word) (one_of ts) refl refl read
+kind_spells _ at k n read = absurd cc
 
 -- of a list that begins with another word
 pub kind_refused : (at : ℕ) (word : Name) (ts : Trees) (t : Tree) → None ≡ word_in t → Some (word, ts) ≡ headed_in t → ((h : KindHead) → word ≢ kind_head_word h) → kind_at at t ≡ Err at

@@ -43,13 +43,7 @@ alone t m no_do h = (h, λ at. cond-false (begins_do t) (Err at) (mon_at at t) n
 
 parts_are_odd : (m : Mon) → is_odd (sequence_parts m) ≡ true
 parts_are_odd (Bind m xs n) = parts_are_odd n
-parts_are_odd (Ret es) = refl
-parts_are_odd (Guard e) = refl
-parts_are_odd (If e m n) = refl
-parts_are_odd (Write place e) = refl
-parts_are_odd (Loop starts guard test m) = refl
-parts_are_odd (Call f es) = refl
-parts_are_odd (Pick k) = refl
+parts_are_odd _ = refl
 
 write_reads : (place : CType → Exp → Path → Place) (ty : CType) (p : Exp) (path : Path) (e : Exp) → (is_type ty && (is_exp p && is_path path)) ≡ true → is_exp e ≡ true → (at inner : ℕ) →
     write_row at inner place (Some (type_tree ty, exp_tree p, Node (step_trees path), exp_tree e)) ≡ Ok (Write (place ty p path) e, all_behind inner (four (type_tree ty) (exp_tree p) (Node (step_trees path)) (exp_tree e)))
@@ -141,13 +135,7 @@ is_bind _ = false
 
 alone_parts : (m : Mon) → is_bind m ≡ false → sequence_parts m ≡ more (mon_tree m) no_trees
 alone_parts (Bind m xs n) e = absurd (false≢true (sym e))
-alone_parts (Ret es) e = refl
-alone_parts (Guard g) e = refl
-alone_parts (If g m n) e = refl
-alone_parts (Write place v) e = refl
-alone_parts (Loop starts guard test m) e = refl
-alone_parts (Call f es) e = refl
-alone_parts (Pick k) e = refl
+alone_parts _ _ = refl
 
 -- the tree of a program, of one that is no sequence where the tree isn't
 abbrev IsMonText : Tree → Mon → Type 0
@@ -269,14 +257,11 @@ do_spells word t u us at inner m n e true spells read =
 
 mutual
   pub mon_spells : (t : Tree) (at : ℕ) (m : Mon) (n : ℕ) → mon_at at t ≡ Ok (m, n) → IsMonText t m
-  mon_spells (Atom word) at m n read = absurd cc
-  mon_spells (Node no_trees) at m n read = absurd cc
-  mon_spells (Node (more (Node us) ts)) at m n read = absurd cc
   mon_spells (Node (more (Atom word) ts)) at m n read =
       built_spells word (looked_up mon_word mon_heads word) ts at (next (next at)) m n (λ h found. looked_up_is mon_word mon_heads word h found) read
+  mon_spells _ at m n read = absurd cc
 
   built_spells : (word : Name) (o : Option MonHead) (ts : Trees) (at inner : ℕ) (m : Mon) (n : ℕ) → ((h : MonHead) → o ≡ Some h → mon_word h ≡ word) → built_mon_at at inner o ts ≡ Ok (m, n) → IsMonText (Node (more (Atom word) ts)) m
-  built_spells word None ts at inner m n found read = absurd cc
   built_spells word (Some H.Ret) ts at inner m n found read = from_alone word H.Ret ts m (found H.Ret refl) (ret_spells ts inner m n read)
   built_spells word (Some H.Guard) ts at inner m n found read = from_alone word H.Guard ts m (found H.Guard refl) (guard_spells ts at inner m n (one_of ts) refl read)
   built_spells word (Some H.Store) ts at inner m n found read =
@@ -286,8 +271,6 @@ mutual
   built_spells word (Some H.Gset) ts at inner m n found read = from_alone word H.Gset ts m (found H.Gset refl) (gset_spells ts at inner m n (three_of ts) refl read)
   built_spells word (Some H.Call) ts at inner m n found read = from_alone word H.Call ts m (found H.Call refl) (call_spells ts at inner m n (first_of ts) refl read)
   built_spells word (Some H.Pick) ts at inner m n found read = from_alone word H.Pick ts m (found H.Pick refl) (pick_spells ts at inner m n (one_of ts) refl read)
-  built_spells word (Some H.Do) no_trees at inner m n found read = absurd cc
-  built_spells word (Some H.Do) (more t no_trees) at inner m n found read = absurd cc
   built_spells word (Some H.Do) (more t (more u us)) at inner m n found read =
       do_spells word t u us at inner m n (found H.Do refl) (is_odd us)
       (λ whole. bind_spells t u us inner m n (λ k o j. mon_spells u k o j) (λ k o j. sequence_spells us k o j) whole) read
@@ -301,10 +284,6 @@ mutual
       from_alone word H.If (more t (more u (more v no_trees))) m (found H.If refl)
       (alone_moved H.If (more t (more u (more v no_trees))) (If x.0 y.0 z.0) m (value_ok (If x.0 y.0 z.0) z.1 m n last) (ap (begins H.If) (three_same h.0 k.0 l.0))
       (and_from (is_exp x.0) (is_mon y.0 && is_mon z.0) h.1 (and_from (is_mon y.0) (is_mon z.0) k.1 l.1)) (refl {a = false}))
-  built_spells word (Some H.If) no_trees at inner m n found read = absurd cc
-  built_spells word (Some H.If) (more t no_trees) at inner m n found read = absurd cc
-  built_spells word (Some H.If) (more t (more u no_trees)) at inner m n found read = absurd cc
-  built_spells word (Some H.If) (more t (more u (more v (more w ws)))) at inner m n found read = absurd cc
   built_spells word (Some H.Loop) (more t (more u (more v (more w no_trees)))) at inner m n found read =
       let (x, read0, others0) = bind_ok (starts_at inner t) (λ x. exp_at x.1 u >>= λ y. exp_at y.1 v >>= λ z. mon_at z.1 w >>= λ a. Ok (Loop x.0 y.0 z.0 a.0, a.1)) (m, n) read in
       let (y, read1, others1) = bind_ok (exp_at x.1 u) (λ y. exp_at y.1 v >>= λ z. mon_at z.1 w >>= λ a. Ok (Loop x.0 y.0 z.0 a.0, a.1)) (m, n) others0 in
@@ -318,11 +297,7 @@ mutual
       (alone_moved H.Loop (more t (more u (more v (more w no_trees)))) (Loop x.0 y.0 z.0 a.0) m (value_ok (Loop x.0 y.0 z.0 a.0) a.1 m n last) (ap (begins H.Loop) (four_same h.0 k.0 l.0 b.0))
       (and_from (each is_start x.0 && are_distinct (start_names x.0)) (is_exp y.0 && (is_exp z.0 && is_mon a.0)) (and_from (each is_start x.0) (are_distinct (start_names x.0)) h.1 h.2)
       (and_from (is_exp y.0) (is_exp z.0 && is_mon a.0) k.1 (and_from (is_exp z.0) (is_mon a.0) l.1 b.1))) (refl {a = false}))
-  built_spells word (Some H.Loop) no_trees at inner m n found read = absurd cc
-  built_spells word (Some H.Loop) (more t no_trees) at inner m n found read = absurd cc
-  built_spells word (Some H.Loop) (more t (more u no_trees)) at inner m n found read = absurd cc
-  built_spells word (Some H.Loop) (more t (more u (more v no_trees))) at inner m n found read = absurd cc
-  built_spells word (Some H.Loop) (more t (more u (more v (more w (more z zs))))) at inner m n found read = absurd cc
+  built_spells word _ _ at inner m n found read = absurd cc
 
   sequence_spells : (ts : Trees) (at : ℕ) (m : Mon) (n : ℕ) → sequence_at at ts ≡ Ok (m, n) → AreMonParts ts m
   sequence_spells no_trees at m n read = absurd cc

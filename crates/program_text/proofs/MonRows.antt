@@ -14,57 +14,33 @@ use Rattle.program_text.specs.CodeMonRows.{do_row, if_row, loop_row, row_at, lis
 
 pub mon_heads_found : AreFound mon_word mon_heads
 mon_heads_found H.Ret = refl
-mon_heads_found H.Do = refl
-mon_heads_found H.Guard = refl
-mon_heads_found H.If = refl
-mon_heads_found H.Store = refl
-mon_heads_found H.Write = refl
-mon_heads_found H.Gset = refl
-mon_heads_found H.Loop = refl
-mon_heads_found H.Call = refl
-mon_heads_found H.Pick = refl
+mon_heads_found _ = refl
 
 pub if_is : (at inner : ℕ) (ts : Trees) → built_mon_at at inner (Some H.If) ts ≡ if_row at inner (three_of ts)
-if_is at inner no_trees = refl
-if_is at inner (more t no_trees) = refl
-if_is at inner (more t (more u no_trees)) = refl
 if_is at inner (more t (more u (more v no_trees))) = refl
-if_is at inner (more t (more u (more v (more w ws)))) = refl
+if_is _ _ _ = refl
 
 pub loop_is : (at inner : ℕ) (ts : Trees) → built_mon_at at inner (Some H.Loop) ts ≡ loop_row at inner (four_of ts)
-loop_is at inner no_trees = refl
-loop_is at inner (more t no_trees) = refl
-loop_is at inner (more t (more u no_trees)) = refl
-loop_is at inner (more t (more u (more v no_trees))) = refl
 loop_is at inner (more t (more u (more v (more w no_trees)))) = refl
-loop_is at inner (more t (more u (more v (more w (more z zs))))) = refl
+loop_is _ _ _ = refl
 
 do_is : (at inner : ℕ) (ts : Trees) → built_mon_at at inner (Some H.Do) ts ≡ do_row at inner ts
-do_is at inner no_trees = refl
 do_is at inner (more t no_trees) = refl
-do_is at inner (more t (more u us)) = refl
+do_is _ _ _ = refl
 
 row_is : (at inner : ℕ) (h : MonHead) (ts : Trees) → built_mon_at at inner (Some h) ts ≡ row_at at inner h ts
-row_is at inner H.Ret ts = refl
 row_is at inner H.Do ts = do_is at inner ts
-row_is at inner H.Guard ts = refl
 row_is at inner H.If ts = if_is at inner ts
-row_is at inner H.Store ts = refl
-row_is at inner H.Write ts = refl
-row_is at inner H.Gset ts = refl
 row_is at inner H.Loop ts = loop_is at inner ts
-row_is at inner H.Call ts = refl
-row_is at inner H.Pick ts = refl
+row_is _ _ _ _ = refl
 
 list_is : (at : ℕ) (o : Option MonHead) (ts : Trees) → built_mon_at at (next (next at)) o ts ≡ list_at at o ts
 list_is at None ts = refl
 list_is at (Some h) ts = row_is at (next (next at)) h ts
 
 mon_is : (at : ℕ) (t : Tree) → mon_at at t ≡ mon_by at (headed_in t)
-mon_is at (Atom word) = refl
-mon_is at (Node no_trees) = refl
-mon_is at (Node (more (Node us) ts)) = refl
 mon_is at (Node (more (Atom head) ts)) = list_is at (looked_up mon_word mon_heads head) ts
+mon_is _ _ = refl
 
 pub mon_given : (at inner : ℕ) (word : Name) (ts : Trees) (t : Tree) (h : MonHead) → Some (word, ts) ≡ headed_in t → word ≡ mon_word h → inner ≡ next (next at) → row_at at inner h ts ≡ mon_at at t
 mon_given at inner word ts t h e is there =

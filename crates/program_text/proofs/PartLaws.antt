@@ -19,25 +19,16 @@ use Rattle.program_text.specs.MonText.{two, three, four, start_tree, is_start}
 use Rattle.program_text.specs.MonReading.{four_of, start_row, start_at, starts_at}
 
 pub two_is : (ts : Trees) (x : Tree × Tree) → two_of ts ≡ Some x → ts ≡ two x.0 x.1
-two_is no_trees x e = absurd cc
-two_is (more t no_trees) x e = absurd cc
 two_is (more t (more u no_trees)) x e = let same : ◌≡◌ {A = Tree × Tree} (t, u) x = cc in ap (λ (y : Tree × Tree). two y.0 y.1) same
-two_is (more t (more u (more v vs))) x e = absurd cc
+two_is _ x e = absurd cc
 
 pub three_is : (ts : Trees) (x : Tree × Tree × Tree) → three_of ts ≡ Some x → ts ≡ three x.0 x.1 x.2
-three_is no_trees x e = absurd cc
-three_is (more t no_trees) x e = absurd cc
-three_is (more t (more u no_trees)) x e = absurd cc
 three_is (more t (more u (more v no_trees))) x e = let same : ◌≡◌ {A = Tree × Tree × Tree} (t, u, v) x = cc in ap (λ (y : Tree × Tree × Tree). three y.0 y.1 y.2) same
-three_is (more t (more u (more v (more w ws)))) x e = absurd cc
+three_is _ x e = absurd cc
 
 pub four_is : (ts : Trees) (x : Tree × Tree × Tree × Tree) → four_of ts ≡ Some x → ts ≡ four x.0 x.1 x.2 x.3
-four_is no_trees x e = absurd cc
-four_is (more t no_trees) x e = absurd cc
-four_is (more t (more u no_trees)) x e = absurd cc
-four_is (more t (more u (more v no_trees))) x e = absurd cc
 four_is (more t (more u (more v (more w no_trees)))) x e = let same : ◌≡◌ {A = Tree × Tree × Tree × Tree} (t, u, v, w) x = cc in ap (λ (y : Tree × Tree × Tree × Tree). four y.0 y.1 y.2 y.3) same
-four_is (more t (more u (more v (more w (more z zs))))) x e = absurd cc
+four_is _ x e = absurd cc
 
 pub first_is : (ts : Trees) (x : Tree × Trees) → first_of ts ≡ Some x → ts ≡ more x.0 x.1
 first_is no_trees x e = absurd cc

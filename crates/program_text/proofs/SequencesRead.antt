@@ -24,9 +24,8 @@ odd_ended (x ∷ []) e whole none is so_far = ap not is ∙ so_far
 odd_ended (x ∷ y ∷ ys) e whole none is so_far = absurd cc
 
 bind_is : (ts : Trees) (x : Tree × Tree × Trees) → Some x ≡ bind_of ts → ts ≡ more x.0 (more x.1 x.2)
-bind_is no_trees x e = absurd cc
-bind_is (more t no_trees) x e = absurd cc
 bind_is (more t (more u us)) x e = let same : ◌≡◌ {A = Tree × Tree × Trees} x (t, u, us) = cc in ap (λ (y : Tree × Tree × Trees). more y.0 (more y.1 y.2)) (sym same)
+bind_is _ x e = absurd cc
 
 made_bind : (before now : List F.Front) (f : F.Front) (m : Mon) (ns : List Name) (r : Read Mon) → now ≡ before ++ f ∷ [] → ((l : Mon) → with_front f l ≡ Bind m ns l) → made (with_fronts now) r ≡ made (with_fronts before) (r >>= λ z. Ok (Bind m ns z.0, z.1))
 made_bind before now f m ns (Ok (l, n)) pushed is = ap (λ y. Ok (y, n)) (ap (λ xs. with_fronts xs l) pushed ∙ with_fronts_push before f l ∙ ap (with_fronts before) (is l))

@@ -25,8 +25,7 @@ module _ {Rule Claim Part : Type 0} (table : Table Rule Claim) (left : Claim →
         let f = number_behind t c at h.0 h.1 below in
         omega arith
     numbers_behind (tree t ts) (c ∷ cs) at n (inr h) l = absurd cc
-    numbers_behind no_trees (c ∷ cs) at n h l = absurd h
-    numbers_behind (tree t ts) [] at n h l = absurd h
+    numbers_behind _ _ _ _ h _ = absurd h
 
   -- counted from a number, a node with this one is about a part
   pub record IsOfSome (at n : ℕ) (About : ℕ → Part → Type 0) : Type 0 where
@@ -55,5 +54,4 @@ module _ {Rule Claim Part : Type 0} (table : Table Rule Claim) (left : Claim →
         let below : h.0 < last_number = omega arith in
         let k = some_part t c (unwrap_or (left c) p) at h.0 h.1 below in
         record { number = k.number; counted = let f = k.counted in omega arith; part = k.part; about = inl k.about }
-    some_part_in no_trees (c ∷ cs) p at n h l = absurd h
-    some_part_in (tree t ts) [] p at n h l = absurd h
+    some_part_in _ _ _ _ _ h _ = absurd h

@@ -43,11 +43,7 @@ module _ (target : Target) (text : List ℕ) (ts : List Lexeme) (are : Tokens te
         told = inr (record { tokens = ts; are_tokens = are; answer = inr (record { tree = h.tree; is_tree = h.is_tree; answer = record { at = at; kind = kind; first_bad = h.of_tree; written = refl } }) });
         place = tt;
       }
-  tokens_fault cause.BadByte at h = absurd h.of_tree
-  tokens_fault cause.BadNumber at h = absurd h.of_tree
-  tokens_fault cause.OpenComment at h = absurd h.of_tree
-  tokens_fault (cause.Unsupported word) at h = absurd h.of_tree
-  tokens_fault cause.LongName at h = absurd h.of_tree
+  tokens_fault _ _ h = absurd h.of_tree
 
   pub tokens_typed : AreTyped target ts → IsTyped target text
   tokens_typed h =

@@ -98,9 +98,8 @@ module _ (l : Layout) (laid : IsLayout l) (p : Choice) (vs : List GlobalVar) (si
 
   scalars_inv : (c : Option Scalar) (o : Option (List Scalar)) (ss : List Scalar) → with_scalar c o ≡ Some ss → (d : Scalar) × (ds : List Scalar) × (o ≡ Some ds) × (d ∷ ds ≡ ss)
   scalars_inv (Some d) (Some ds) ss h = (d, ds, refl, some_is h)
-  scalars_inv (Some d) None ss h = absurd cc
   scalars_inv None (Some ds) ss h = absurd cc
-  scalars_inv None None ss h = absurd cc
+  scalars_inv _ _ ss h = absurd cc
 
   one_more : (x : Name) (xs : List Name) (d : Scalar) (ds : List Scalar) → ((us : List Value) → AreOfSorts ds us → AsMany xs us) → (us : List Value) → AreOfSorts (d ∷ ds) us → AsMany (x ∷ xs) us
   one_more x xs d ds h [] k = absurd k

@@ -1,5 +1,5 @@
 -- What the kernel finds along a sequence: the claims of a rule's two parts, and the point behind.
-use Rattle.std.proofs.Common.{◌≡◌, ℕ, zero, suc, ◌+◌, true, false, List, [], ◌∷◌, Option, refl, sym, ap, ap₂, ◌∙◌, arith}
+use Rattle.std.proofs.Common.{◌≡◌, ℕ, zero, suc, ◌+◌, true, List, [], ◌∷◌, Option, refl, sym, ap, ap₂, ◌∙◌, arith}
 use Rattle.c_values.specs.Name.{Name}
 use Rattle.expression_lang.specs.Expression.{TruthLit}
 use Rattle.expression_lang.specs.Sort.{Scalar}
@@ -35,23 +35,16 @@ step_fits at rule a b s h f = cc
 
 -- a rule that has no parts
 pub leaf_parts : (at : Point) (rule : Rule) (a b : Mon) → is_leaf rule ≡ true → (row at rule a b).parts ≡ []
-leaf_parts at R.Refl a b s = refl
 leaf_parts at (R.Trans n) a b s = cc
 leaf_parts at R.Bind a b s = cc
 leaf_parts at R.If a b s = cc
 leaf_parts at R.Loop a b s = cc
 leaf_parts at (R.RetOne i) (M.Bind (M.Ret es) xs m) b s = refl
-leaf_parts at (R.RetOne i) a b s = refl
 leaf_parts at R.BindRet (M.Bind m xs n) b s = refl
-leaf_parts at R.BindRet a b s = refl
 leaf_parts at R.Assoc (M.Bind (M.Bind a xs b) ys c) d s = refl
-leaf_parts at R.Assoc a b s = refl
 leaf_parts at R.IfConst (M.If (TruthLit true) m n) b s = refl
-leaf_parts at R.IfConst (M.If (TruthLit false) m n) b s = refl
-leaf_parts at R.IfConst a b s = refl
 leaf_parts at R.GuardKnown (M.Bind (M.Guard e) [] m) b s = refl
-leaf_parts at R.GuardKnown a b s = refl
-leaf_parts at R.Exp a b s = refl
+leaf_parts _ _ _ _ _ = refl
 
 -- so many parts more
 passed_none : (k : ℕ) (fs : List Fact) → passed k [] fs ≡ fs

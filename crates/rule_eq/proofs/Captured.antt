@@ -72,11 +72,6 @@ module _ (e : Exp) (x : Name) (xs : List Name) (free inner : Bool) (captured : N
 
 -- where no name is captured, the test says so
 pub captured_told : (e : Exp) (x : Name) (m : Mon) → EachName e (λ y. is_captured y x m) → captures e x m ≡ false
-captured_told e x (M.Ret es) h = refl
-captured_told e x (M.Guard a) h = refl
-captured_told e x (M.Write place a) h = refl
-captured_told e x (M.Call f es) h = refl
-captured_told e x (M.Pick k) h = refl
 captured_told e x (M.If a m n) h =
     or_from (captures e x m) (captures e x n) (captured_told e x m (λ y i. (or_parts (is_captured y x m) (is_captured y x n) (h y i)).0)) (captured_told e x n (λ y i. (or_parts (is_captured y x m) (is_captured y x n) (h y i)).1))
 captured_told e x (M.Bind m xs n) h =
@@ -84,14 +79,10 @@ captured_told e x (M.Bind m xs n) h =
     (binder_told e x xs (is_free x n) (captures e x n) (λ y. is_captured y x n) (λ y i. (or_parts (is_captured y x m) _ (h y i)).1) (captured_told e x n))
 captured_told e x (M.Loop starts guard test m) h =
     binder_told e x (start_names starts) (X.names x guard || X.names x test || is_free x m) (captures e x m) (λ y. is_captured y x m) h (captured_told e x m)
+captured_told _ _ _ _ = refl
 
 -- where the test says so, no name is captured
 pub told_captured : (e : Exp) (x : Name) (m : Mon) → captures e x m ≡ false → EachName e (λ y. is_captured y x m)
-told_captured e x (M.Ret es) h y i = refl
-told_captured e x (M.Guard a) h y i = refl
-told_captured e x (M.Write place a) h y i = refl
-told_captured e x (M.Call f es) h y i = refl
-told_captured e x (M.Pick k) h y i = refl
 told_captured e x (M.If a m n) h y i =
     let o = or_parts (captures e x m) (captures e x n) h in or_from (is_captured y x m) (is_captured y x n) (told_captured e x m o.0 y i) (told_captured e x n o.1 y i)
 told_captured e x (M.Bind m xs n) h y i =
@@ -99,3 +90,4 @@ told_captured e x (M.Bind m xs n) h y i =
     or_from (is_captured y x m) _ (told_captured e x m o.0 y i) (binder_tells e x xs (is_free x n) (captures e x n) (λ z. is_captured z x n) o.1 (told_captured e x n) y i)
 told_captured e x (M.Loop starts guard test m) h y i =
     binder_tells e x (start_names starts) (X.names x guard || X.names x test || is_free x m) (captures e x m) (λ z. is_captured z x m) h (told_captured e x m) y i
+told_captured _ _ _ _ _ _ = refl

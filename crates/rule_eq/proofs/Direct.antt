@@ -5,7 +5,7 @@ use Rattle.c_values.specs.Types.{CType, address_width}
 use Rattle.c_values.specs.Layout.{Shape, shape_of, is_object}
 use Rattle.expression_lang.specs.Expression.{Exp, Path}
 use Rattle.expression_lang.specs.Form.{path_has, is_part_of_value}
-use Rattle.expression_lang.specs.Sort.{Scalar, Sort, Of, PartsSort, Scope, shape_along, is_truth, is_word_of}
+use Rattle.expression_lang.specs.Sort.{Scalar, Sort, Of, Scope, shape_along, is_truth, is_word_of}
 use Rattle.expression_lang.specs.Sorted.{program_sort, scalar_in, with_scalar, scalars_of, sort_in, part_place, global_place, fits_place}
 use Rattle.expression_lang.proofs.Inversion.{truth_inv, word_of_inv}
 use Rattle.expression_lang.proofs.SortParts.{program_sort_inv}
@@ -19,9 +19,7 @@ use Rattle.rule_parts.specs.Starts.{start_exps}
 module _ (g : Scope) where
   one_of : (e : Exp) (o : Option Sort) (r : Option Scalar) (ss : List Scalar) (rest : Option (List Scalar)) → program_sort g e ≡ o → with_scalar (scalar_in o) rest ≡ Some ss → IsSorted g e × ((ds : List Scalar) × (rest ≡ Some ds))
   one_of e (Some (Of c)) r ss (Some ds) h k = ((Of c, program_sort_inv g e (Of c) h), (ds, refl))
-  one_of e (Some (Of c)) r ss None h k = absurd cc
-  one_of e (Some (PartsSort t)) r ss rest h k = absurd cc
-  one_of e None r ss rest h k = absurd cc
+  one_of e _ r ss _ h k = absurd cc
 
   pub scalars_sorted : (es : List Exp) (ss : List Scalar) → scalars_of g es ≡ Some ss → AreSorted g es
   scalars_sorted [] ss h = tt
@@ -36,8 +34,7 @@ module _ (g : Scope) where
 
   some_fits : (o q : Option Sort) → fits_place o q ≡ true → ((r : Sort) × (o ≡ Some r)) × ((r : Sort) × (q ≡ Some r))
   some_fits (Some r) (Some t) h = ((r, refl), (t, refl))
-  some_fits (Some r) None h = absurd cc
-  some_fits None q h = absurd cc
+  some_fits _ _ h = absurd cc
 
   sort_in_inv : (o : Option Shape) (r : Sort) → sort_in o ≡ Some r → (q : Shape) × (o ≡ Some q)
   sort_in_inv (Some q) r h = (q, refl)

@@ -4,7 +4,7 @@ use Rattle.std.proofs.lemmas.Bool.{and_parts, and_from, not-true}
 use Rattle.expression_lang.specs.Expression.{Exp, Var}
 use Rattle.expression_lang.specs.Form.{is_load, is_read, is_word_arithmetic}
 use Rattle.ac_expr.specs.Heads.{head}
-use Rattle.monad_lang.specs.Program.{Mon, Place, Stored, Written, Global}
+use Rattle.monad_lang.specs.Program.{Mon, Place, Stored}
 use Rattle.monad_lang.specs.Form.{program_has, is_stored, is_written, no_place, is_heaps}
 use Rattle.program_facts.specs.Places.{place_head}
 use Rattle.rule_eq.specs.Rule.{Rule, Point}
@@ -26,13 +26,11 @@ arithmetic_head e = refl
 
 pub stored_head : (q : Place) → is_stored (place_head q) ≡ is_stored q
 stored_head (Stored t p path) = refl
-stored_head (Written t p path) = refl
-stored_head (Global x path) = refl
+stored_head _ = refl
 
 pub written_head : (q : Place) → is_written (place_head q) ≡ is_written q
 written_head (Stored t p path) = refl
-written_head (Written t p path) = refl
-written_head (Global x path) = refl
+written_head _ = refl
 
 -- a test of heads is the same for the same heads
 pub by_head : {A : Type 0} (test : A → Bool) (of : A → A) → ((a : A) → test (of a) ≡ test a) → (a b : A) → of b ≡ of a → test b ≡ test a

@@ -2,7 +2,7 @@
 -- where it is the name itself.
 use Rattle.std.proofs.Common.{◌≡◌, ◌↔◌, ◌<◌, ◌≤◌, ℕ, ◌+◌, ◌*◌, true, false, List, [], ◌∷◌, ◌++◌, Some, None, unwrap_or, if◌then◌else◌, refl, sym, ap, ap₂, ◌∙◌, arith}
 use Rattle.c_values.specs.Name.{Name}
-use Rattle.expression_lang.specs.Expression.{Exp, Var, WordLit, NumberLit, TruthLit, WordBinary, WordShift, WordUnary, WordCompare, Cast, ToNat, ToInt, ToWord, Arith, Negate, Lt, Le, Between, Eq, And, Or, Imp, Not, If, Padd, At, Load, Read, Tagged, PtrOk, Global, Sel, Upd, Path, Here, IntoField, IntoElement}
+use Rattle.expression_lang.specs.Expression.{Exp, Var, Between, At, Load, Read, Global, Sel, Upd, Path, Here, IntoField, IntoElement}
 use Rattle.ac_expr.specs.Heads.{hole, head, children, path_head, path_children}
 use Rattle.ac_expr.specs.Substituted.{substituted, path_substituted}
 use Rattle.ac_expr.specs.CodeApart.{size, path_size}
@@ -94,38 +94,14 @@ sizes_before (IntoField k path) v = sizes_before path v
 sizes_before (IntoElement e path) v = let h = sizes_before path v in omega arith
 
 pub children_smaller : (e : Exp) → sizes (children e) < size e
-children_smaller (Var x) = omega arith
-children_smaller (WordLit w) = omega arith
-children_smaller (NumberLit n) = omega arith
-children_smaller (TruthLit b) = omega arith
-children_smaller (WordBinary op a b) = omega arith
-children_smaller (WordShift op a n) = omega arith
-children_smaller (WordUnary op a) = omega arith
-children_smaller (WordCompare op a b) = omega arith
-children_smaller (Cast op width a) = omega arith
-children_smaller (ToNat a) = omega arith
-children_smaller (ToInt a) = omega arith
-children_smaller (ToWord width a) = omega arith
-children_smaller (Arith op a b) = omega arith
-children_smaller (Negate a) = omega arith
-children_smaller (Lt a b) = omega arith
-children_smaller (Le a b) = omega arith
 children_smaller (Between low a high) = omega arith
-children_smaller (Eq a b) = omega arith
-children_smaller (And a b) = omega arith
-children_smaller (Or a b) = omega arith
-children_smaller (Imp a b) = omega arith
-children_smaller (Not a) = omega arith
-children_smaller (If c a b) = omega arith
-children_smaller (Padd t p n) = omega arith
 children_smaller (At t p path) = let h = path_sizes path in omega arith
 children_smaller (Load t p path) = let h = path_sizes path in omega arith
 children_smaller (Read t p path) = let h = path_sizes path in omega arith
-children_smaller (Tagged t p) = omega arith
-children_smaller (PtrOk t p) = omega arith
 children_smaller (Global x path) = let h = path_sizes path in omega arith
 children_smaller (Sel e path) = let h = path_sizes path in omega arith
 children_smaller (Upd e path v) = let h = sizes_before path v in omega arith
+children_smaller _ = omega arith
 
 -- the children of what is left of an expression
 pub children_less : (a e : Exp) (es : List Exp) → es ≡ children a → size a ≤ size e → 2 * sizes es + 1 < 2 * size e

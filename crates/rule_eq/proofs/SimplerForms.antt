@@ -3,7 +3,7 @@
 use Rattle.std.proofs.Common.{◌≡◌, ℕ, zero, suc, Bool, true, false, cond, ◌||◌, List, [], ◌∷◌, map, Option, Some, None, unwrap_or, ◌⊎◌, inl, inr, refl, sym, ap, ◌∙◌, subst}
 use Rattle.std.proofs.lemmas.Bool.{or_parts, or_from}
 use Rattle.c_values.specs.Name.{Name, same_name, is_among}
-use Rattle.expression_lang.specs.Expression.{Exp, Var, WordLit, NumberLit, TruthLit, WordBinary, WordShift, WordUnary, WordCompare, Cast, ToNat, ToInt, ToWord, Arith, Negate, Lt, Le, Between, Eq, And, Or, Imp, Not, If, Padd, At, Load, Read, Tagged, PtrOk, Global, Sel, Upd, Path, Here, IntoField, IntoElement}
+use Rattle.expression_lang.specs.Expression.{Exp, Var, TruthLit, WordBinary, WordShift, WordUnary, WordCompare, Cast, ToNat, ToInt, ToWord, Arith, Negate, Lt, Le, Between, Eq, And, Or, Imp, Not, If, Padd, At, Load, Read, Tagged, PtrOk, Global, Sel, Upd, Path, Here, IntoField, IntoElement}
 use Rattle.expression_lang.specs.Form.{has, path_has}
 use Rattle.ac_expr.specs.Substituted.{substituted, path_substituted}
 use Rattle.ac_expr.specs.Heads.{head, hole}
@@ -46,9 +46,6 @@ module _ (test : Exp → Bool) (place_test : Place → Bool) (alike : (a b : Exp
     mutual
       pub has_put : (a : Exp) → has test a ≡ false → has test (put a) ≡ false
       has_put (Var y) h = name_free y (same_name x y) h
-      has_put (WordLit w) h = h
-      has_put (NumberLit n) h = h
-      has_put (TruthLit b) h = h
       has_put (WordBinary op a b) h = two_free _ _ _ _ _ _ (alike (WordBinary op a b) (WordBinary op (put a) (put b)) refl) h (has_put a) (has_put b)
       has_put (WordShift op a b) h = two_free _ _ _ _ _ _ (alike (WordShift op a b) (WordShift op (put a) (put b)) refl) h (has_put a) (has_put b)
       has_put (WordCompare op a b) h = two_free _ _ _ _ _ _ (alike (WordCompare op a b) (WordCompare op (put a) (put b)) refl) h (has_put a) (has_put b)
@@ -77,6 +74,7 @@ module _ (test : Exp → Bool) (place_test : Place → Bool) (alike : (a b : Exp
       has_put (Global y path) h = one_free _ _ _ _ (alike (Global y path) (Global y (path_put path)) (ap (λ w. Global y w) (path_head_put x e path))) h (path_free path)
       has_put (Sel a path) h = two_free _ _ _ _ _ _ (alike (Sel a path) (Sel (put a) (path_put path)) (ap (λ w. Sel hole w) (path_head_put x e path))) h (has_put a) (path_free path)
       has_put (Upd a path v) h = three_free _ _ _ _ _ _ _ _ (alike (Upd a path v) (Upd (put a) (path_put path) (put v)) (ap (λ w. Upd hole w hole) (path_head_put x e path))) h (has_put a) (path_free path) (has_put v)
+      has_put _ h = h
 
       pub path_free : (path : Path) → path_has test path ≡ false → path_has test (path_put path) ≡ false
       path_free Here h = h

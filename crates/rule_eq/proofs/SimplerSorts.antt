@@ -10,7 +10,7 @@ use Rattle.c_values.proofs.Laid.{same_name-refl}
 use Rattle.c_values.proofs.Options.{some_is, none_is}
 use Rattle.expression_lang.specs.Expression.{Exp, Var}
 use Rattle.expression_lang.specs.Form.{has, is_part_of_value}
-use Rattle.expression_lang.specs.Sort.{Scalar, Sort, Of, PartsSort, Kind, is_truth, scalar_sort, sort_of}
+use Rattle.expression_lang.specs.Sort.{Scalar, Sort, Of, Kind, is_truth, scalar_sort, sort_of}
 use Rattle.expression_lang.specs.Sorted.{names_with, program_sort, scalar_in, with_scalar, scalars_of}
 use Rattle.expression_lang.specs.Signature.{Signature}
 use Rattle.monad_lang.specs.Program as M
@@ -175,12 +175,11 @@ module _ (l : Layout) (gs : Name → Option CType) (sigs : List Signature) (sort
   of_program ns e s false i h = (by_sort (sort_of (in_scope l gs ns) e) h, i)
     where
       by_sort : (o : Option Sort) → scalar_in o ≡ Some s → o ≡ Some (Of s)
-      by_sort None h = absurd cc
-      by_sort (Some (PartsSort t)) h = absurd cc
       by_sort (Some (Of c)) h = ap (λ d. Some (Of d)) (scalar_is h)
         where
           scalar_is : ◌≡◌ {A = Option Scalar} (Some c) (Some s) → c ≡ s
           scalar_is h = cc
+      by_sort _ h = absurd cc
 
   names_none : (xs : List Name) (ns : Names) → names_with xs [] ns ≡ ns
   names_none [] ns = refl

@@ -52,9 +52,7 @@ turns_each turns P Q next k (f ∷ fs) a h = λ t. let i = h t in (k fs a i.0, �
 
 module _ (l : Layout) (p : Choice) (P Q : Mon → Env → State → Type 0) (k : (m : Mon) (env : Env) (s : State) → P m env s → Q m env s) where
   pub each_follows : (m : Mon) (env : Env) (depth : Option ℕ) (fs : List Runs) (s : State) → AtEach l p P m env depth fs s → AtEach l p Q m env depth fs s
-  each_follows (M.Ret es) env depth fs s h = tt
   each_follows (M.Bind m xs n) env depth fs s h = (each_follows m env depth fs s h.0, λ a r. each_follows n (bound xs a.values env) depth fs a.state (h.1 a r))
-  each_follows (M.Guard e) env depth fs s h = tt
   each_follows (M.If e m n) env depth fs s h =
       chosen_each _ (AtEach l p P m env depth fs s) (AtEach l p Q m env depth fs s) (AtEach l p P n env depth fs s) (AtEach l p Q n env depth fs s) (each_follows m env depth fs s) (each_follows n env depth fs s) h
   each_follows (M.Write q e) env depth fs s h = k (M.Write q e) env s h
@@ -63,7 +61,7 @@ module _ (l : Layout) (p : Choice) (P Q : Mon → Env → State → Type 0) (k :
       (λ gs a. AtEach l p Q m (bound (start_names starts) a.values env) depth gs a.state) (λ gs a b. runs l p m (bound (start_names starts) a.values env) depth gs a.state (Done b))
       (λ gs a i. each_follows m (bound (start_names starts) a.values env) depth gs a.state i) fs (record { values = start_values l env s starts; state = s }) h
   each_follows (M.Call f es) env depth fs s h = k (M.Call f es) env s h
-  each_follows (M.Pick j) env depth fs s h = tt
+  each_follows _ _ _ _ _ _ = tt
 
 -- that calls are in range, and that writes are covered, hangs on values alone
 

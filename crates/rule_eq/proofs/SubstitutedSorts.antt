@@ -2,10 +2,10 @@
 use Rattle.std.proofs.Common.{◌≡◌, Bool, true, false, not, cond, ◌&&◌, ◌||◌, List, [], ◌∷◌, Option, Some, None, unwrap_or, refl, ap, ap₂, ◌∙◌}
 use Rattle.c_values.specs.Name.{Name, same_name}
 use Rattle.c_values.specs.Types.{CType, address_width}
-use Rattle.c_values.specs.Layout.{Layout, Shape, Incomplete, Scalar as WordShape, Record, Row, is_object, shape_of}
+use Rattle.c_values.specs.Layout.{Layout, Shape, Record, Row, is_object, shape_of}
 use Rattle.c_values.specs.Path.{member_spot}
 use Rattle.c_values.proofs.Laid.{name_is}
-use Rattle.expression_lang.specs.Expression.{Exp, Var, WordLit, NumberLit, TruthLit, WordBinary, WordShift, WordUnary, WordCompare, Cast, ToNat, ToInt, ToWord, Arith, Negate, Lt, Le, Between, Eq, And, Or, Imp, Not, If, Padd, At, Load, Read, Tagged, PtrOk, Global, Sel, Upd, Path, Here, IntoField, IntoElement}
+use Rattle.expression_lang.specs.Expression.{Exp, Var, WordBinary, WordShift, WordUnary, WordCompare, Cast, ToNat, ToInt, ToWord, Arith, Negate, Lt, Le, Between, Eq, And, Or, Imp, Not, If, Padd, At, Load, Read, Tagged, PtrOk, Global, Sel, Upd, Path, Here, IntoField, IntoElement}
 use Rattle.expression_lang.specs.Mentions.{is_name, names}
 use Rattle.expression_lang.specs.Form.{has, path_has, is_part_of_value}
 use Rattle.ac_expr.specs.Substituted.{substituted, path_substituted}
@@ -18,13 +18,9 @@ use Rattle.program_facts.specs.Substituted.{each_substituted, starts_substituted
 use Rattle.monad_lang.proofs.AgreeingSorts.{in_scope, same_along, same_global, same_member}
 
 one_step : (x : Name) (e : Exp) (path : Path) → is_one_step (path_substituted x e path) ≡ is_one_step path
-one_step x e Here = refl
 one_step x e (IntoField k Here) = refl
 one_step x e (IntoElement a Here) = refl
-one_step x e (IntoField k (IntoField j path)) = refl
-one_step x e (IntoField k (IntoElement a path)) = refl
-one_step x e (IntoElement a (IntoField j path)) = refl
-one_step x e (IntoElement a (IntoElement b path)) = refl
+one_step _ _ _ = refl
 
 -- where the name is there, what is put in has its sort, and no part of a value is in it
 module _ (l : Layout) (gs : Name → Option CType) (ns ns' : Name → Option Scalar) (x : Name) (e : Exp) (others : (y : Name) → same_name x y ≡ false → ns y ≡ ns' y) where
@@ -75,9 +71,6 @@ module _ (l : Layout) (gs : Name → Option CType) (ns ns' : Name → Option Sca
   mutual
     pub sort_put : (a : Exp) → Held (names x a) → sort_of g (put a) ≡ sort_of g' a
     sort_put (Var y) h = name_sort y (same_name x y) refl h
-    sort_put (WordLit w) h = refl
-    sort_put (NumberLit n) h = refl
-    sort_put (TruthLit b) h = refl
     sort_put (WordBinary op a b) h = two (λ o p. of_words (word_width o) (word_width p) word_sort) a b h (sort_put a) (sort_put b)
     sort_put (WordShift op a n) h = two (λ o p. where_holds (is_number p) (of_word (word_width o) word_sort)) a n h (sort_put a) (sort_put n)
     sort_put (WordUnary op a) h = ap (λ o. of_word (word_width o) word_sort) (sort_put a h)
@@ -118,17 +111,12 @@ module _ (l : Layout) (gs : Name → Option CType) (ns ns' : Name → Option Sca
         let p = left (names x a || in_path path) (names x v) h in
         ap₂ (λ o q. of_shape (parts_shape l o) (λ s. of_shape (shape_along g (path_put path) s) (λ r. where_holds (are_same (sort_at r) q) o))) (sort_put a (root a path p)) (sort_put v (right (names x a || in_path path) (names x v) h))
         ∙ same_along l gs ns ns' (parts_shape l (sort_of g' a)) (λ s. shape_along g (path_put path) s) (λ s. shape_along g' path s) (λ r. where_holds (are_same (sort_at r) (sort_of g' v)) (sort_of g' a)) (λ s. shape_put path s (along a path p))
+    sort_put _ _ = refl
 
     pub shape_put : (path : Path) (s : Shape) → Held (in_path path) → shape_along g (path_put path) s ≡ shape_along g' path s
-    shape_put Here s h = refl
     shape_put (IntoField k path) (Record y n align fs) h = same_member l gs ns ns' (member_spot fs k) (λ s. shape_along g (path_put path) s) (λ s. shape_along g' path s) (λ s. shape_put path s h)
     shape_put (IntoElement a path) (Row s n) h = ap₂ (λ o q. cond (is_number o) q None) (sort_put a (root a path h)) (shape_put path s (along a path h))
-    shape_put (IntoField k path) Incomplete h = refl
-    shape_put (IntoField k path) (WordShape t w) h = refl
-    shape_put (IntoField k path) (Row s n) h = refl
-    shape_put (IntoElement a path) Incomplete h = refl
-    shape_put (IntoElement a path) (WordShape t w) h = refl
-    shape_put (IntoElement a path) (Record y n align fs) h = refl
+    shape_put _ _ _ = refl
 
   abbrev whole : Exp → Bool
   whole a = has is_part_of_value a
@@ -143,9 +131,6 @@ module _ (l : Layout) (gs : Name → Option CType) (ns ns' : Name → Option Sca
   mutual
     pub whole_put : (a : Exp) → Held (names x a) → whole (put a) ≡ whole a
     whole_put (Var y) h = name_whole y (same_name x y) refl h
-    whole_put (WordLit w) h = refl
-    whole_put (NumberLit n) h = refl
-    whole_put (TruthLit b) h = refl
     whole_put (WordBinary op a b) h = both_whole a b h (whole_put a) (whole_put b)
     whole_put (WordShift op a b) h = both_whole a b h (whole_put a) (whole_put b)
     whole_put (WordCompare op a b) h = both_whole a b h (whole_put a) (whole_put b)
@@ -174,8 +159,7 @@ module _ (l : Layout) (gs : Name → Option CType) (ns ns' : Name → Option Sca
     whole_put (Load t a path) h = ap₂ (λ u v. u || v) (whole_put a (root a path h)) (path_whole_put path (along a path h))
     whole_put (Read t a path) h = ap₂ (λ u v. u || v) (whole_put a (root a path h)) (path_whole_put path (along a path h))
     whole_put (Global y path) h = path_whole_put path h
-    whole_put (Sel a path) h = refl
-    whole_put (Upd a path v) h = refl
+    whole_put _ _ = refl
 
     pub path_whole_put : (path : Path) → Held (in_path path) → path_has is_part_of_value (path_put path) ≡ path_has is_part_of_value path
     path_whole_put Here h = refl

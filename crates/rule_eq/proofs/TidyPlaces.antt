@@ -147,8 +147,7 @@ one_in y x (z ∷ zs) ys =
   where
     swapped : (a b c : Bool) → (a || (b || c)) ≡ (b || (a || c))
     swapped true true c = refl
-    swapped true false c = refl
-    swapped false b c = refl
+    swapped _ _ _ = refl
 
 -- the value at a position, which can be put in
 record Found (front : List Name) (es : List Exp) (xs : List Name) (n : Mon) : Type 0 where
@@ -207,7 +206,6 @@ simple_bind m xs n = ((is_bind_ret m xs n || is_assoc m xs n) || is_true_guard m
 four_not : (a b c d e f : Bool) → (not a && not b && not c && not d && e && f) ≡ true →
     ((((a || b) || c) || d) ≡ false) × (e ≡ true) × (f ≡ true)
 four_not false false false false true true h = (refl, refl, refl)
-four_not true b c d e f h = absurd (true≢false (sym h))
 four_not _ _ _ _ _ _ h = absurd (true≢false (sym h))
 
 not_four : (a b c d e f : Bool) → (((a || b) || c) || d) ≡ false → e ≡ true → f ≡ true →
@@ -325,11 +323,6 @@ module _ (at : Point) where
       which (inr q) a = a q
 
   none_tidy : (m : Mon) → (Simple m → ⊥) → is_tidy m ≡ true
-  none_tidy (M.Ret es) h = refl
-  none_tidy (M.Guard e) h = refl
-  none_tidy (M.Write q e) h = refl
-  none_tidy (M.Call f es) h = refl
-  none_tidy (M.Pick k) h = refl
   none_tidy (M.Bind m xs n) h =
       not_four (is_bind_ret m xs n) (is_assoc m xs n) (is_true_guard m xs) (is_ret_one m xs n) (is_tidy m) (is_tidy n)
       (false_from_ne_true (simple_bind m xs n) (λ b. h (inl (bind_seen m xs n b))))
@@ -341,6 +334,7 @@ module _ (at : Point) where
       (none_tidy m (λ s. h (inr (inl s)))))
       (none_tidy n (λ s. h (inr (inr s))))
   none_tidy (M.Loop starts guard test m) h = none_tidy m (λ s. h (inr s))
+  none_tidy _ _ = refl
 
 pub tidy_exactly : (at : Point) (m : Mon) → (is_tidy m ≡ true) ↔ (AtSomePlace (IsSimplified at) m → ⊥)
 tidy_exactly at m = (tidy_none at m, none_tidy at m)

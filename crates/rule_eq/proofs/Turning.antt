@@ -28,10 +28,4 @@ pub turned_here : (s : S.Setting) (fs gs hs : List Fact) (names ms : Name → Op
     point gs (setting_in s ms) ≡ turn_of whole hs (point fs (setting_in s names))
 turned_here s fs gs hs names ms (M.Loop starts guard test m) t sorted k h =
     turn_here s fs gs hs names ms (M.Loop starts guard test m) starts guard test m refl sorted k h
-turned_here s fs gs hs names ms (M.Ret es) t sorted k h = absurd t
-turned_here s fs gs hs names ms (M.Bind m xs n) t sorted k h = absurd t
-turned_here s fs gs hs names ms (M.Guard e) t sorted k h = absurd t
-turned_here s fs gs hs names ms (M.If e m n) t sorted k h = absurd t
-turned_here s fs gs hs names ms (M.Write place e) t sorted k h = absurd t
-turned_here s fs gs hs names ms (M.Call f es) t sorted k h = absurd t
-turned_here s fs gs hs names ms (M.Pick j) t sorted k h = absurd t
+turned_here _ _ _ _ _ _ _ t _ _ _ = absurd t

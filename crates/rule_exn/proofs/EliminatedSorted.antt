@@ -6,7 +6,7 @@ use Rattle.expression_lang.specs.Form.{has, is_part_of_value}
 use Rattle.expression_lang.specs.Sort.{Scope, TruthSort, Sort, is_truth, truth_sort, scalar_sort, sort_of, where_holds}
 use Rattle.expression_lang.specs.Sorted.{program_sort}
 use Rattle.expression_lang.specs.Signature.{Signature}
-use Rattle.simpl_lang.specs.Command.{Condition, Simpl, Skip, Throw, Set, SetGlobal, Store, Pick, Seq, Cond, Guard, Catch, While, Call}
+use Rattle.simpl_lang.specs.Command.{Condition, Simpl, Skip, Throw, Set, Seq, Cond, Guard, Catch, While}
 use Rattle.simpl_lang.specs.Flag.{thrown_local}
 use Rattle.program_sorts.specs.Sorts.{is_scalar_of}
 use Rattle.simpl_lang.specs.Sorted.{is_sorted, are_conditions}
@@ -74,11 +74,6 @@ module _ (g : Scope) (sigs : List Signature) (flag : g.names thrown_local ≡ So
   pub eliminated_sorted : (a : Simpl) → IsSorted a → IsSorted (exceptions_eliminated a).right
   eliminated_sorted Skip h = refl
   eliminated_sorted Throw h = set_sorted true
-  eliminated_sorted (Set x e) h = h
-  eliminated_sorted (SetGlobal x path e) h = h
-  eliminated_sorted (Store t p path e) h = h
-  eliminated_sorted (Pick x) h = h
-  eliminated_sorted (Call x f es) h = h
   eliminated_sorted (Seq a b) h =
       let p = and_parts (is_sorted g sigs a) (is_sorted g sigs b) h in seq_sorted (quiet a) _ _ (eliminated_sorted a p.0) (eliminated_sorted b p.1)
   eliminated_sorted (Cond e a b) h =
@@ -94,3 +89,4 @@ module _ (g : Scope) (sigs : List Signature) (flag : g.names thrown_local ≡ So
       let p = and_parts (are_conditions g cs && is_truth (program_sort g e)) (is_sorted g sigs a) h in
       let q = and_parts (are_conditions g cs) (is_truth (program_sort g e)) p.0 in
       while_sorted (quiet a) cs e _ q.0 q.1 (eliminated_sorted a p.1)
+  eliminated_sorted _ h = h

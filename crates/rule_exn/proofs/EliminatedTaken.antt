@@ -2,7 +2,7 @@
 use Rattle.std.proofs.Common.{◌≡◌, Bool, true, false, ◌&&◌, List, refl}
 use Rattle.std.proofs.lemmas.Bool.{and_from}
 use Rattle.expression_lang.specs.Expression.{Exp}
-use Rattle.simpl_lang.specs.Command.{Condition, Simpl, Skip, Throw, Set, SetGlobal, Store, Pick, Seq, Cond, Guard, Catch, While, Call}
+use Rattle.simpl_lang.specs.Command.{Condition, Simpl, Skip, Seq, Cond, Guard, Catch, While}
 use Rattle.simpl_lang.specs.Form.{is_flat}
 use Rattle.rule_exn.specs.Quiet.{quiet}
 use Rattle.rule_exn.specs.Table.{Takes}
@@ -25,18 +25,12 @@ while_taken gs t a r h true e = ((e, refl, refl), (h, tt))
 while_taken gs t a r h false e = ((refl, refl), (h, tt))
 
 pub eliminated_taken : (a : Simpl) → Taken a (exceptions_eliminated a)
-eliminated_taken Skip = (refl, tt)
-eliminated_taken Throw = (refl, tt)
-eliminated_taken (Set x e) = (refl, tt)
-eliminated_taken (SetGlobal x path e) = (refl, tt)
-eliminated_taken (Store t p path e) = (refl, tt)
-eliminated_taken (Pick x) = (refl, tt)
-eliminated_taken (Call x f es) = (refl, tt)
 eliminated_taken (Seq a b) = seq_taken a b _ _ (eliminated_taken a) (eliminated_taken b) (quiet a) refl
 eliminated_taken (Cond e a b) = (refl, (eliminated_taken a, (eliminated_taken b, tt)))
 eliminated_taken (Guard g a) = (refl, (eliminated_taken a, tt))
 eliminated_taken (Catch a b) = catch_taken a b _ _ (eliminated_taken a) (eliminated_taken b) (quiet a) refl
 eliminated_taken (While gs e a) = while_taken gs e a _ (eliminated_taken a) (quiet a) refl
+eliminated_taken _ = (refl, tt)
 
 abbrev Flat : Eliminated → Type 0
 Flat r = is_flat r.right ≡ true
@@ -55,15 +49,9 @@ while_flat true gs t r h = h
 while_flat false gs t r h = h
 
 pub eliminated_flat : (a : Simpl) → Flat (exceptions_eliminated a)
-eliminated_flat Skip = refl
-eliminated_flat Throw = refl
-eliminated_flat (Set x e) = refl
-eliminated_flat (SetGlobal x path e) = refl
-eliminated_flat (Store t p path e) = refl
-eliminated_flat (Pick x) = refl
-eliminated_flat (Call x f es) = refl
 eliminated_flat (Seq a b) = seq_flat (quiet a) _ _ (eliminated_flat a) (eliminated_flat b)
 eliminated_flat (Cond e a b) = and_from (is_flat (exceptions_eliminated a).right) (is_flat (exceptions_eliminated b).right) (eliminated_flat a) (eliminated_flat b)
 eliminated_flat (Guard g a) = eliminated_flat a
 eliminated_flat (Catch a b) = catch_flat (quiet a) b _ _ (eliminated_flat a) (eliminated_flat b)
 eliminated_flat (While gs e a) = while_flat (quiet a) gs e _ (eliminated_flat a)
+eliminated_flat _ = refl

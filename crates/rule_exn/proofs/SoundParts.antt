@@ -54,14 +54,12 @@ normal_only {p} {q} n c = record {
 
 pub after_quiet : (r r' : Machine → Ends Flow GuardKind) → Follows r r' → (f f' : Flow) → ShowsNormal f f' → Corresponds Shows SameKind (normally r f) (normally r' f')
 after_quiet r r' k (Normal m) (Normal n) h = k m n h
-after_quiet r r' k (Normal m) (Abrupt n) h = absurd h
-after_quiet r r' k (Abrupt m) f' h = absurd h
+after_quiet _ _ _ _ _ h = absurd h
 
 -- a handler that is never reached
 pub unhandled : (r : Machine → Ends Flow GuardKind) → (f f' : Flow) → ShowsNormal f f' → Corresponds Shows SameKind (handled r f) (done f')
 unhandled r (Normal m) (Normal n) h = done_corresponds Shows SameKind (Normal m) (Normal n) h
-unhandled r (Normal m) (Abrupt n) h = absurd h
-unhandled r (Abrupt m) f' h = absurd h
+unhandled _ _ _ h = absurd h
 
 -- a test of the flag, whose value is known
 pub tested : (l : Layout) (m n : Machine) (b : Bool) (p q o : Ends Flow GuardKind) → Flagged b m n → Corresponds Shows SameKind o (choose b p q) →
@@ -72,8 +70,7 @@ pub after_test : (l : Layout) (r r' : Machine → Ends Flow GuardKind) → Follo
     Corresponds Shows SameKind (normally r f) (normally (λ n. choose (holds_on l n is_thrown) (done (Normal n)) (r' n)) f')
 after_test l r r' k (Normal m) (Normal n) h = tested l m n false _ _ _ h (k m n h)
 after_test l r r' k (Abrupt m) (Normal n) h = tested l m n true _ _ _ h (done_corresponds Shows SameKind (Abrupt m) (Normal n) h)
-after_test l r r' k (Normal m) (Abrupt n) h = absurd h
-after_test l r r' k (Abrupt m) (Abrupt n) h = absurd h
+after_test _ _ _ _ _ _ h = absurd h
 
 abbrev clear : Machine → Machine
 clear n = with_local thrown_local (Truth false) n
@@ -86,14 +83,12 @@ pub after_catch : (l : Layout) (r r' : Machine → Ends Flow GuardKind) → Foll
 after_catch l r r' k (Normal m) (Normal n) h = tested l m n false _ _ _ h (done_corresponds Shows SameKind (Normal m) (Normal n) h)
 after_catch l r r' k (Abrupt m) (Normal n) h =
     tested l m n true _ _ _ h (same_on_right (after_done (Normal (clear n)) (normally r')) (k m (clear n) (flag_cleared m n h.others)))
-after_catch l r r' k (Normal m) (Abrupt n) h = absurd h
-after_catch l r r' k (Abrupt m) (Abrupt n) h = absurd h
+after_catch _ _ _ _ _ _ h = absurd h
 
 pub after_skipped : (f f' : Flow) → Shows f f' → Corresponds Shows SameKind (handled (λ m. done (Normal m)) f) (normally (λ n. done (Normal (clear n))) f')
 after_skipped (Normal m) (Normal n) h = done_corresponds Shows SameKind (Normal m) (Normal (clear n)) (flag_cleared m n h.others)
 after_skipped (Abrupt m) (Normal n) h = done_corresponds Shows SameKind (Normal m) (Normal (clear n)) (flag_cleared m n h.others)
-after_skipped (Normal m) (Abrupt n) h = absurd h
-after_skipped (Abrupt m) (Abrupt n) h = absurd h
+after_skipped _ _ h = absurd h
 
 -- loops
 
@@ -134,8 +129,7 @@ module _ (l : Layout) (gs : List Condition) (e : Exp) (h : conditions_name throw
 
 pub turned_quiet : (f f' : Flow) → ShowsNormal f f' → Corresponds (Either (Flagged false) Shows) SameKind (turned f) (turned f')
 turned_quiet (Normal m) (Normal n) h = done_corresponds (Either (Flagged false) Shows) SameKind (inl m) (inl n) h
-turned_quiet (Normal m) (Abrupt n) h = absurd h
-turned_quiet (Abrupt m) f' h = absurd h
+turned_quiet _ _ h = absurd h
 
 -- the left side has left the loop by an exception, and the right side is about to look at its flag
 abbrev pub Leaves : Flow → Machine → Type 0
@@ -145,8 +139,7 @@ Leaves (Abrupt m) n = Flagged true m n
 pub turned_leaving : (f f' : Flow) → Shows f f' → Corresponds (Leaving (Flagged false) Shows Leaves) SameKind (turned f) (turned f')
 turned_leaving (Normal m) (Normal n) h = done_corresponds (Leaving (Flagged false) Shows Leaves) SameKind (inl m) (inl n) h
 turned_leaving (Abrupt m) (Normal n) h = done_corresponds (Leaving (Flagged false) Shows Leaves) SameKind (inr (Abrupt m)) (inl n) h
-turned_leaving (Normal m) (Abrupt n) h = absurd h
-turned_leaving (Abrupt m) (Abrupt n) h = absurd h
+turned_leaving _ _ h = absurd h
 
 module _ (l : Layout) (e : Exp) (m n : Machine) (f : Flagged true m n) where
   -- the left side has thrown, and the right side's loop has ended

@@ -48,8 +48,7 @@ returned_alike (Some k) m n b f =
 ended_alike : (k : Option Kind) (f f' : Flow) → Shows f f' → Corresponds (λ a b. b ≡ a) SameKind (ended k f) (ended k f')
 ended_alike k (Normal m) (Normal n) h = done_corresponds (λ a b. b ≡ a) SameKind _ _ (returned_alike k m n false h)
 ended_alike k (Abrupt m) (Normal n) h = done_corresponds (λ a b. b ≡ a) SameKind _ _ (returned_alike k m n true h)
-ended_alike k (Normal m) (Abrupt n) h = absurd h
-ended_alike k (Abrupt m) (Abrupt n) h = absurd h
+ended_alike _ _ _ h = absurd h
 
 -- what both units have under a name
 abbrev BothFound : Option SimplFn → Option SimplFn → Type 0
@@ -99,8 +98,7 @@ module _ (l : Layout) (p : Choice) where
       (then_corresponds Shows (λ a b. b ≡ a) SameKind _ _ _ _ (takes_sound l p h.1.tree f.body g.body h.1.takes h.0.unnamed f.locals depth fs gs r _ _ (begins f s h.0 k c)) (ended_alike s.result))
   function_alike (Some f) (Some g) h None k depth fs gs r c = stop_corresponds (λ a b. b ≡ a) SameKind Turns
   function_alike None None h s k depth fs gs r c = stop_corresponds (λ a b. b ≡ a) SameKind Turns
-  function_alike None (Some g) h s k depth fs gs r c = absurd h
-  function_alike (Some f) None h s k depth fs gs r c = absurd h
+  function_alike _ _ h _ _ _ _ _ _ _ = absurd h
 
 module _ (u v : SimplUnit) (flag : HasUnusedFlag u) (taken : IsUnitTakenTo u v) (p : Choice) where
   bodies_alike : (fs gs : List Runs) → Paired RunAlike fs gs → RunAlike (bodies u p fs) (bodies v p gs)

@@ -1,7 +1,7 @@
 -- An expression without a load is its own lifted one.
 use Rattle.std.proofs.Common.{◌≡◌, Bool, true, false, ◌||◌, refl, ap, ap₂, ◌∙◌}
 use Rattle.std.proofs.lemmas.Bool.{or_parts, true≢false, or_from}
-use Rattle.expression_lang.specs.Expression.{Exp, Var, WordLit, NumberLit, TruthLit, WordBinary, WordShift, WordUnary, WordCompare, Cast, ToNat, ToInt, ToWord, Arith, Negate, Lt, Le, Between, Eq, And, Or, Imp, Not, If, Padd, At, Load, Read, Tagged, PtrOk, Global, Sel, Upd, Path, Here, IntoField, IntoElement}
+use Rattle.expression_lang.specs.Expression.{Exp, WordBinary, WordShift, WordUnary, WordCompare, Cast, ToNat, ToInt, ToWord, Arith, Negate, Lt, Le, Between, Eq, And, Or, Imp, Not, If, Padd, At, Load, Read, Tagged, PtrOk, Global, Sel, Upd, Path, Here, IntoField, IntoElement}
 use Rattle.expression_lang.specs.Form.{has, path_has, is_load, is_part_of_value}
 use Rattle.rule_heap.specs.ExpLifted.{exp_lifted, path_lifted}
 
@@ -10,10 +10,6 @@ has_some x y h = absurd (true≢false h)
 
 mutual
   pub exp_stays : (e : Exp) → has is_load e ≡ false → exp_lifted e ≡ e
-  exp_stays (Var x) h = refl
-  exp_stays (WordLit x) h = refl
-  exp_stays (NumberLit x) h = refl
-  exp_stays (TruthLit x) h = refl
   exp_stays (WordBinary op a b) h = let k = or_parts (has is_load a) (has is_load b) h in ap₂ (λ y z. WordBinary op y z) (exp_stays a k.0) (exp_stays b k.1)
   exp_stays (WordShift op a b) h = let k = or_parts (has is_load a) (has is_load b) h in ap₂ (λ y z. WordShift op y z) (exp_stays a k.0) (exp_stays b k.1)
   exp_stays (WordUnary op a) h = ap (λ x. WordUnary op x) (exp_stays a h)
@@ -48,6 +44,7 @@ mutual
       let k = or_parts (has is_load a || path_has is_load path) (has is_load b) h in
       let j = or_parts (has is_load a) (path_has is_load path) k.0 in
       ap₂ (λ y z. Upd y z (exp_lifted b)) (exp_stays a j.0) (path_stays path j.1) ∙ ap (λ z. Upd a path z) (exp_stays b k.1)
+  exp_stays _ _ = refl
 
   pub path_stays : (path : Path) → path_has is_load path ≡ false → path_lifted path ≡ path
   path_stays Here h = refl
@@ -57,10 +54,6 @@ mutual
 -- no load is left
 mutual
   pub exp_free : (e : Exp) → has is_load (exp_lifted e) ≡ false
-  exp_free (Var x) = refl
-  exp_free (WordLit x) = refl
-  exp_free (NumberLit x) = refl
-  exp_free (TruthLit x) = refl
   exp_free (WordBinary op a b) = or_from (has is_load (exp_lifted a)) (has is_load (exp_lifted b)) (exp_free a) (exp_free b)
   exp_free (WordShift op a b) = or_from (has is_load (exp_lifted a)) (has is_load (exp_lifted b)) (exp_free a) (exp_free b)
   exp_free (WordUnary op a) = exp_free a
@@ -89,6 +82,7 @@ mutual
   exp_free (Global x path) = path_free path
   exp_free (Sel a path) = or_from (has is_load (exp_lifted a)) (path_has is_load (path_lifted path)) (exp_free a) (path_free path)
   exp_free (Upd a path b) = or_from ((has is_load (exp_lifted a)) || (path_has is_load (path_lifted path))) (has is_load (exp_lifted b)) (or_from (has is_load (exp_lifted a)) (path_has is_load (path_lifted path)) (exp_free a) (path_free path)) (exp_free b)
+  exp_free _ = refl
 
   pub path_free : (path : Path) → path_has is_load (path_lifted path) ≡ false
   path_free Here = refl
@@ -98,10 +92,6 @@ mutual
 -- a part of a value is in it where it was
 mutual
   pub parts_stay : (e : Exp) → has is_part_of_value (exp_lifted e) ≡ has is_part_of_value e
-  parts_stay (Var x) = refl
-  parts_stay (WordLit x) = refl
-  parts_stay (NumberLit x) = refl
-  parts_stay (TruthLit x) = refl
   parts_stay (WordBinary op a b) = ap₂ (λ y z. y || z) (parts_stay a) (parts_stay b)
   parts_stay (WordShift op a b) = ap₂ (λ y z. y || z) (parts_stay a) (parts_stay b)
   parts_stay (WordUnary op a) = parts_stay a
@@ -130,6 +120,7 @@ mutual
   parts_stay (Global x path) = path_parts_stay path
   parts_stay (Sel a path) = ap₂ (λ y z. (true || y) || z) (parts_stay a) (path_parts_stay path)
   parts_stay (Upd a path b) = ap₂ (λ y z. ((true || y) || z) || has is_part_of_value (exp_lifted b)) (parts_stay a) (path_parts_stay path) ∙ ap (λ z. ((true || has is_part_of_value a) || path_has is_part_of_value path) || z) (parts_stay b)
+  parts_stay _ = refl
 
   pub path_parts_stay : (path : Path) → path_has is_part_of_value (path_lifted path) ≡ path_has is_part_of_value path
   path_parts_stay Here = refl

@@ -1,22 +1,18 @@
 -- A lifted expression has the sort that it had.
 use Rattle.std.proofs.Common.{◌≡◌, not, cond, ◌&&◌, Option, Some, None, refl, ap, ap₂, ◌∙◌}
 use Rattle.c_values.specs.Types.{CType, address_width}
-use Rattle.c_values.specs.Layout.{Layout, Shape, Incomplete, Scalar as WordShape, Record, Row, shape_of, is_object}
+use Rattle.c_values.specs.Layout.{Layout, Shape, Record, Row, shape_of, is_object}
 use Rattle.c_values.specs.Path.{Spot, member_spot}
-use Rattle.expression_lang.specs.Expression.{Exp, Var, WordLit, NumberLit, TruthLit, WordBinary, WordShift, WordUnary, WordCompare, Cast, ToNat, ToInt, ToWord, Arith, Negate, Lt, Le, Between, Eq, And, Or, Imp, Not, If, Padd, At, Load, Read, Tagged, PtrOk, Global, Sel, Upd, Path, Here, IntoField, IntoElement}
+use Rattle.expression_lang.specs.Expression.{Exp, WordBinary, WordShift, WordUnary, WordCompare, Cast, ToNat, ToInt, ToWord, Arith, Negate, Lt, Le, Between, Eq, And, Or, Imp, Not, If, Padd, At, Load, Read, Tagged, PtrOk, Global, Sel, Upd, Path, Here, IntoField, IntoElement}
 use Rattle.expression_lang.specs.Sort.{Sort, Scope, sort_of, shape_along, shape_in, sort_at, is_width, word_width, is_word_of, is_number, is_truth, number_sort, truth_sort, where_holds, of_words, of_word, word_sort, are_same, of_shape, of_type, parts_shape, cast_fits, is_unary, is_one_step}
 use Rattle.expression_lang.specs.Sorted.{program_sort}
 use Rattle.rule_heap.specs.ExpLifted.{exp_lifted, path_lifted}
 use Rattle.rule_heap.proofs.ExpForms.{parts_stay}
 
 one_step : (path : Path) → is_one_step (path_lifted path) ≡ is_one_step path
-one_step Here = refl
 one_step (IntoField k Here) = refl
 one_step (IntoElement e Here) = refl
-one_step (IntoField k (IntoField j path)) = refl
-one_step (IntoField k (IntoElement e path)) = refl
-one_step (IntoElement e (IntoField j path)) = refl
-one_step (IntoElement e (IntoElement d path)) = refl
+one_step _ = refl
 
 -- a shape at the end of the path of a place
 at_end : (f g : Shape → Option Shape) (o : Option Shape) (k : Shape → Option Sort) → ((s : Shape) → f s ≡ g s) → of_shape o (λ s. of_shape (f s) k) ≡ of_shape o (λ s. of_shape (g s) k)
@@ -35,10 +31,6 @@ at_type l (Some t) f k h = ap (λ q. where_holds (is_object l t) (of_shape q sor
 module _ (g : Scope) where
   mutual
     pub sort_stays : (e : Exp) → sort_of g (exp_lifted e) ≡ sort_of g e
-    sort_stays (Var x) = refl
-    sort_stays (WordLit x) = refl
-    sort_stays (NumberLit x) = refl
-    sort_stays (TruthLit x) = refl
     sort_stays (WordBinary op a b) = ap₂ (λ o q. of_words (word_width o) (word_width q) word_sort) (sort_stays a) (sort_stays b)
     sort_stays (WordShift op a b) = ap₂ (λ o q. where_holds (is_number q) (of_word (word_width o) word_sort)) (sort_stays a) (sort_stays b)
     sort_stays (WordUnary op a) = ap (λ o. of_word (word_width o) word_sort) (sort_stays a)
@@ -69,17 +61,12 @@ module _ (g : Scope) where
         ∙ ap (λ o. where_holds (is_one_step path) o) (at_end (λ s. shape_along g (path_lifted path) s) (λ s. shape_along g path s) (parts_shape g.layout (sort_of g a)) sort_at (λ s. along_stays path s))
     sort_stays (Upd a path b) = ap₂ (λ o q. of_shape (parts_shape g.layout o) (λ s. of_shape (shape_along g (path_lifted path) s) (λ r. where_holds (are_same (sort_at r) q) o))) (sort_stays a) (sort_stays b)
         ∙ at_end (λ s. shape_along g (path_lifted path) s) (λ s. shape_along g path s) (parts_shape g.layout (sort_of g a)) (λ r. where_holds (are_same (sort_at r) (sort_of g b)) (sort_of g a)) (λ s. along_stays path s)
+    sort_stays _ = refl
 
     pub along_stays : (path : Path) (s : Shape) → shape_along g (path_lifted path) s ≡ shape_along g path s
-    along_stays Here s = refl
     along_stays (IntoField k path) (Record x n align fs) = by_member (member_spot fs k) (λ s. shape_along g (path_lifted path) s) (λ s. shape_along g path s) (λ s. along_stays path s)
     along_stays (IntoElement e path) (Row s n) = ap₂ (λ b o. cond b o None) (ap is_number (sort_stays e)) (along_stays path s)
-    along_stays (IntoField k path) Incomplete = refl
-    along_stays (IntoField k path) (WordShape t n) = refl
-    along_stays (IntoField k path) (Row s n) = refl
-    along_stays (IntoElement e path) Incomplete = refl
-    along_stays (IntoElement e path) (WordShape t n) = refl
-    along_stays (IntoElement e path) (Record x n align fs) = refl
+    along_stays _ _ = refl
 
   pub program_sort_stays : (e : Exp) → program_sort g (exp_lifted e) ≡ program_sort g e
   program_sort_stays e = ap₂ (λ b o. cond b None o) (parts_stay e) (sort_stays e)

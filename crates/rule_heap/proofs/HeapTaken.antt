@@ -166,10 +166,4 @@ module _ (l : Layout) where
 
     second_taken : (m : Mon) → SecondTaken m
     second_taken (M.Bind a xs b) = λ fs h. program_taken b fs h
-    second_taken (M.Ret es) = tt
-    second_taken (M.Guard e) = tt
-    second_taken (M.If e m n) = tt
-    second_taken (M.Write place e) = tt
-    second_taken (M.Loop starts g t m) = tt
-    second_taken (M.Call f es) = tt
-    second_taken (M.Pick k) = tt
+    second_taken _ = tt

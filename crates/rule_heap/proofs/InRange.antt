@@ -1,10 +1,10 @@
 -- A path whose indices are known to be in range leads somewhere, and is in range.
-use Rattle.std.proofs.Common.{◌≡◌, ℕ, zero, suc, true, ◌&&◌, List, ◌∷◌, Option, Some, None, ℤ, pos, negsuc, refl, sym, ap, ◌∙◌, arith}
+use Rattle.std.proofs.Common.{◌≡◌, ℕ, suc, true, ◌&&◌, List, ◌∷◌, Option, Some, None, ℤ, pos, negsuc, refl, sym, ap, ◌∙◌, arith}
 use Rattle.std.specs.Prelude.{int_le}
 use Rattle.std.proofs.lemmas.Bool.{and_parts, leb-true, lt-ltb}
 use Rattle.c_values.specs.Number.{is_between}
 use Rattle.c_values.specs.Value.{number_in}
-use Rattle.c_values.specs.Layout.{Layout, Shape, Incomplete, Scalar, Record, Row as Elements}
+use Rattle.c_values.specs.Layout.{Layout, Shape, Record, Row as Elements}
 use Rattle.c_values.specs.Path.{Step, Field, Index, Spot, spot, in_range, member_spot, and_then_spot, further, where_some, is_index}
 use Rattle.expression_lang.specs.Expression.{Path, Here, IntoField, IntoElement, Between}
 use Rattle.expression_lang.specs.Evaluation.{Env, State, value, steps}
@@ -40,10 +40,4 @@ module _ (l : Layout) (env : Env) (s : State) (fs : List Fact) (said : AllSay l 
       let i : ℤ = number_in (value l env s e) in
       let there : is_index i (suc n) ≡ true = below_it i n (known_holds l env s fs (Between (pos 0) e (pos n)) said h.0) in
       goes_on (Elements r (suc n)) (Index i) (steps l env s path) _ (leads_there path r h.1) refl (ap (λ b. b && in_range r (steps l env s path)) there)
-  leads_there (IntoField k path) Incomplete h = absurd h
-  leads_there (IntoField k path) (Scalar t width) h = absurd h
-  leads_there (IntoField k path) (Elements r n) h = absurd h
-  leads_there (IntoElement e path) Incomplete h = absurd h
-  leads_there (IntoElement e path) (Scalar t width) h = absurd h
-  leads_there (IntoElement e path) (Record x n align members) h = absurd h
-  leads_there (IntoElement e path) (Elements r zero) h = absurd h
+  leads_there _ _ h = absurd h

@@ -22,14 +22,10 @@ use Rattle.rule_heap.proofs.Viewed.{IsSame, same_alike}
 use Rattle.rule_heap.proofs.Sound.{Sound, Agrees, AgreeAll, AlikeAnswers, ret, guard, choice, bind, call, pick, repeat}
 
 pub calls_any : (m : Mon) → calls_only (λ x. true) m ≡ true
-calls_any (M.Ret es) = refl
 calls_any (M.Bind m xs n) = and_from (calls_only (λ x. true) m) (calls_only (λ x. true) n) (calls_any m) (calls_any n)
-calls_any (M.Guard e) = refl
 calls_any (M.If e m n) = and_from (calls_only (λ x. true) m) (calls_only (λ x. true) n) (calls_any m) (calls_any n)
-calls_any (M.Write place e) = refl
 calls_any (M.Loop starts g t m) = calls_any m
-calls_any (M.Call f es) = refl
-calls_any (M.Pick k) = refl
+calls_any _ = refl
 
 module _ (l : Layout) (laid : IsLayout l) (p : Choice) (vs : List GlobalVar) (sigs : List Signature) where
   abbrev Like : State → State → Type 0

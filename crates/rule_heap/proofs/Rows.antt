@@ -78,12 +78,7 @@ each_last fs Here Here e e' h = refl
 each_last fs (IntoField k path) (IntoField j way) e e' h = let same : path_head way ≡ path_head path = cc in each_last fs path way e e' same
 each_last fs (IntoElement i path) (IntoElement j way) e e' h =
     let same : path_head way ≡ path_head path = cc in ap (λ cs. OfExp fs i j ∷ cs) (each_last fs path way e e' same)
-each_last fs Here (IntoField j way) e e' h = cc
-each_last fs Here (IntoElement j way) e e' h = cc
-each_last fs (IntoField k path) Here e e' h = cc
-each_last fs (IntoField k path) (IntoElement j way) e e' h = cc
-each_last fs (IntoElement i path) Here e e' h = cc
-each_last fs (IntoElement i path) (IntoField j way) e e' h = cc
+each_last fs _ _ e e' h = cc
 
 pub program_parts : (l : Layout) (fs : List Fact) (rule : Rule) (a b : Mon) → is_flat rule ≡ true → (row l fs rule a b).holds →
     (row l fs rule a b).parts ≡ each fs (program_exps a) (program_exps b) ++ program_thens fs a b

@@ -36,26 +36,22 @@ no_more h = absurd cc
 and_alike : (x x' y y' : Bool) → x' ≡ x → (x' ≡ true → y' ≡ y) → (x' && y') ≡ (x && y)
 and_alike true true y y' e h = h refl
 and_alike false false y y' e h = refl
-and_alike true false y y' e h = absurd cc
-and_alike false true y y' e h = absurd cc
+and_alike _ _ y y' e h = absurd cc
 
 or_alike : (x x' y y' : Bool) → x' ≡ x → (x' ≡ false → y' ≡ y) → (x' || y') ≡ (x || y)
 or_alike true true y y' e h = refl
 or_alike false false y y' e h = h refl
-or_alike true false y y' e h = absurd cc
-or_alike false true y y' e h = absurd cc
+or_alike _ _ y y' e h = absurd cc
 
 imp_alike : (x x' y y' : Bool) → x' ≡ x → (x' ≡ true → y' ≡ y) → (not x' || y') ≡ (not x || y)
 imp_alike true true y y' e h = h refl
 imp_alike false false y y' e h = refl
-imp_alike true false y y' e h = absurd cc
-imp_alike false true y y' e h = absurd cc
+imp_alike _ _ y y' e h = absurd cc
 
 if_alike : (x x' : Bool) (a a' b b' : Value) → x' ≡ x → (x' ≡ true → a' ≡ a) → (x' ≡ false → b' ≡ b) → if_truth x' a' b' ≡ if_truth x a b
 if_alike true true a a' b b' e h k = h refl
 if_alike false false a a' b b' e h k = k refl
-if_alike true false a a' b b' e h k = absurd cc
-if_alike false true a a' b b' e h k = absurd cc
+if_alike _ _ a a' b b' e h k = absurd cc
 
 leaf_looks : (l : Layout) (env : Env) (s s' : State) (a : Exp) → children a ≡ [] → LooksAlike l env env s s' a
 leaf_looks l env s s' (E.Var x) h = refl

@@ -4,7 +4,7 @@ use Rattle.std.proofs.lemmas.Bool.{or_parts}
 use Rattle.c_values.specs.Value.{Value}
 use Rattle.c_values.specs.Layout.{Layout}
 use Rattle.c_memory.specs.Heap.{heap_tags}
-use Rattle.expression_lang.specs.Expression.{Exp, Var, WordLit, NumberLit, TruthLit, WordBinary, WordShift, WordUnary, WordCompare, Cast, ToNat, ToInt, ToWord, Arith, Negate, Lt, Le, Between, Eq, And, Or, Imp, Not, If, Padd, At, Load, Read, Tagged, PtrOk, Global, Sel, Upd, Path, Here, IntoField, IntoElement}
+use Rattle.expression_lang.specs.Expression.{Exp, WordBinary, WordShift, WordUnary, WordCompare, Cast, ToNat, ToInt, ToWord, Arith, Negate, Lt, Le, Between, Eq, And, Or, Imp, Not, If, Padd, At, Load, Read, Tagged, PtrOk, Global, Sel, Upd, Path, Here, IntoField, IntoElement}
 use Rattle.expression_lang.specs.Form.{has, path_has, is_load, is_read}
 use Rattle.expression_lang.specs.Evaluation.{Env, State, value}
 use Rattle.ac_expr.specs.Heads.{children, path_children}
@@ -47,10 +47,6 @@ module _ (l : Layout) (env : Env) (s s' : State) (tags : heap_tags s'.heap ≡ h
 
   mutual
     pub value_stays : (e : Exp) → IsFree e → Stays e
-    value_stays (Var x) f = refl
-    value_stays (WordLit w) f = refl
-    value_stays (NumberLit n) f = refl
-    value_stays (TruthLit b) f = refl
     value_stays (WordUnary op a) f = from_children (WordUnary op a) tt (more a [] (value_stays a (record { loads = f.loads; reads = f.reads })) refl)
     value_stays (Cast op width a) f = from_children (Cast op width a) tt (more a [] (value_stays a (record { loads = f.loads; reads = f.reads })) refl)
     value_stays (ToNat a) f = from_children (ToNat a) tt (more a [] (value_stays a (record { loads = f.loads; reads = f.reads })) refl)
@@ -131,6 +127,7 @@ module _ (l : Layout) (env : Env) (s s' : State) (tags : heap_tags s'.heap ≡ h
         from_children (Upd e path w) tt
         (more e (path_children path ++ (w ∷ [])) (value_stays e (record { loads = x'.0; reads = y'.0 }))
         (before (path_children path) w (path_stays path (record { loads = x'.1; reads = y'.1 })) (value_stays w (record { loads = x.1; reads = y.1 }))))
+    value_stays _ _ = refl
 
     pub path_stays : (path : Path) → IsPathFree path → AllStay (path_children path)
     path_stays Here f = refl

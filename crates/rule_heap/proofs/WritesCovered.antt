@@ -72,25 +72,20 @@ module _ (l : Layout) (p : Choice) where
 
   -- a program that writes no typed heap
   writes_nothing : (m : Mon) → program_has is_read is_written m ≡ false → (env : Env) (depth : Option ℕ) (gs : List Runs) (s : State) → AreCovered m env depth gs s
-  writes_nothing (M.Ret es) h env depth gs s = tt
   writes_nothing (M.Bind m xs n) h env depth gs s =
       let o = or_parts (program_has is_read is_written m) (program_has is_read is_written n) h in
       (writes_nothing m o.0 env depth gs s, λ a e. writes_nothing n o.1 (bound xs a.values env) depth gs a.state)
-  writes_nothing (M.Guard e) h env depth gs s = tt
   writes_nothing (M.If e m n) h env depth gs s =
       let o = or_parts (has is_read e || program_has is_read is_written m) (program_has is_read is_written n) h in
       let o' = or_parts (has is_read e) (program_has is_read is_written m) o.0 in
       (if_true (holds l env s e) _ (λ k. writes_nothing m o'.1 env depth gs s), if_false (holds l env s e) _ (λ k. writes_nothing n o.1 env depth gs s))
-  writes_nothing (M.Write (M.Stored t q path) e) h env depth gs s = tt
   writes_nothing (M.Write (M.Written t q path) e) h env depth gs s = absurd (has_some (has is_read q || path_has is_read path) (has is_read e) h)
-  writes_nothing (M.Write (M.Global x path) e) h env depth gs s = tt
   writes_nothing (M.Loop starts g t m) h env depth gs s =
       let o = or_parts (start_has is_read starts || has is_read g || has is_read t) (program_has is_read is_written m) h in
       turns_have (λ fs. Unit {0}) (λ f fs k. tt) (λ a. IsTurn l g t (bound (start_names starts) a.values env) a.state) (λ fs a. AreCovered m (bound (start_names starts) a.values env) depth fs a.state)
       (λ fs a b. runs l p m (bound (start_names starts) a.values env) depth fs a.state (Done b))
       (λ fs k a turn. writes_nothing m o.1 (bound (start_names starts) a.values env) depth fs a.state) gs tt (record { values = start_values l env s starts; state = s })
-  writes_nothing (M.Call f es) h env depth gs s = tt
-  writes_nothing (M.Pick k) h env depth gs s = tt
+  writes_nothing _ _ _ _ _ _ = tt
 
   abbrev IsCovered : Claim → Type 1
   IsCovered (OfProgram fs a b) = program_has is_read is_written a ≡ false → Covers fs b

@@ -7,7 +7,7 @@ use Rattle.expression_lang.specs.Expression.{Exp}
 use Rattle.expression_lang.specs.Sort.{Scalar, Kind, Scope, is_truth, same_scalar, word_sort_of, are_kinds}
 use Rattle.expression_lang.specs.Signature.{Binder, Signature, names_of, kinds_of, signature}
 use Rattle.expression_lang.specs.Sorted.{program_sort, scalar_in, with_scalar, scalars_of, same_scalars, result_scalars, call_scalars}
-use Rattle.simpl_lang.specs.Command.{Simpl, Skip, Throw, Set, SetGlobal, Store, Pick, Seq, Cond, Guard, Catch, While, Call, SimplFn, SimplUnit}
+use Rattle.simpl_lang.specs.Command.{Simpl, Seq, Cond, Guard, Catch, While, Call, SimplFn, SimplUnit}
 use Rattle.simpl_lang.specs.Sorted.{is_sorted, are_conditions, fits_target, scope_of, are_fns_sorted}
 use Rattle.rule_local.specs.Kept.{HasEach, FitsTarget, FitsCall, CallsFit}
 
@@ -33,26 +33,18 @@ module _ (g : Scope) where
   by_scalars s x es ss e true k h = (each_expression s.params es ss e (each_scalar s.params ss k), for_target x s.result h)
     where
       for_target : (x : Option Name) (r : Option Kind) → fits_target g x (Some (result_scalars word_sort_of r)) ≡ true → FitsTarget x r
-      for_target None r h = tt
       for_target (Some y) None h = absurd (false≢true h)
-      for_target (Some y) (Some k) h = tt
+      for_target _ _ _ = tt
   by_scalars s None es ss e false k h = absurd (false≢true h)
   by_scalars s (Some y) es ss e false k h = absurd (false≢true h)
 
   call_fits : (s : Option Signature) (x : Option Name) (es : List Exp) (o : Option (List Scalar)) → scalars_of g es ≡ o → fits_target g x (call_scalars word_sort_of s o) ≡ true → FitsCall s x es
   call_fits (Some s) x es (Some ss) e h = by_scalars s x es ss e (same_scalars (map word_sort_of (kinds_of s.params)) ss) refl h
   call_fits None None es o e h = absurd (false≢true h)
-  call_fits None (Some x) es o e h = absurd (false≢true h)
   call_fits (Some s) None es None e h = absurd (false≢true h)
-  call_fits (Some s) (Some x) es None e h = absurd (false≢true h)
+  call_fits _ _ _ _ _ h = absurd (false≢true h)
 
   pub calls_fit : (signatures : List Signature) (a : Simpl) → is_sorted g signatures a ≡ true → CallsFit signatures a
-  calls_fit ss Skip h = tt
-  calls_fit ss Throw h = tt
-  calls_fit ss (Set x e) h = tt
-  calls_fit ss (SetGlobal x path e) h = tt
-  calls_fit ss (Store t p path e) h = tt
-  calls_fit ss (Pick x) h = tt
   calls_fit ss (Seq a b) h = let d = and_parts (is_sorted g ss a) (is_sorted g ss b) h in (calls_fit ss a d.0, calls_fit ss b d.1)
   calls_fit ss (Cond e a b) h =
       let d = and_parts (is_truth (program_sort g e) && is_sorted g ss a) (is_sorted g ss b) h in
@@ -61,6 +53,7 @@ module _ (g : Scope) where
   calls_fit ss (Catch a b) h = let d = and_parts (is_sorted g ss a) (is_sorted g ss b) h in (calls_fit ss a d.0, calls_fit ss b d.1)
   calls_fit ss (While cs e a) h = calls_fit ss a (and_parts (are_conditions g cs && is_truth (program_sort g e)) (is_sorted g ss a) h).1
   calls_fit ss (Call x f es) h = call_fits (signature ss f) x es (scalars_of g es) refl h
+  calls_fit _ _ _ = tt
 
 abbrev pub AllFit : List Signature → List SimplFn → Type 0
 AllFit ss [] = Unit {0}

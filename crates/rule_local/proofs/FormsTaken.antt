@@ -10,7 +10,7 @@ use Rattle.monad_lang.specs.Names.{is_free}
 use Rattle.monad_lang.specs.Reach.{IfTrue}
 use Rattle.rule_trees.specs.RuleTree.{Tree, node, Trees, no_trees, tree, Accepts, AcceptsAll}
 use Rattle.rule_local.specs.Assigned.{assigns, Carries}
-use Rattle.rule_local.specs.Rule.{Rule, Skip, Set, Dead, Global, Memory, Pick, Seq, Cond, Guard, While, Call, Void, Start, Context, Claim, whole}
+use Rattle.rule_local.specs.Rule.{Rule, Seq, Cond, Guard, While, Start, Context, Claim, whole}
 use Rattle.rule_local.specs.Table.{table, is_needed, AllFreeAmong}
 use Rattle.rule_local.specs.CodeRow.{arity, claim, claims, Fits, HandsOn, forms}
 use Rattle.rule_local.specs.CodeUses.{loses, loses_in, LosesNone, IsKept}
@@ -69,14 +69,7 @@ parts_lose_none ctx w vs Cond a m f k = absurd f
 parts_lose_none ctx w vs Guard a m f k = absurd f
 parts_lose_none ctx w vs While a m f k = absurd f
 parts_lose_none ctx w vs Start a m f k = absurd f
-parts_lose_none ctx w vs Skip a m f k = tt
-parts_lose_none ctx w vs Set a m f k = tt
-parts_lose_none ctx w vs Dead a m f k = tt
-parts_lose_none ctx w vs Global a m f k = tt
-parts_lose_none ctx w vs Memory a m f k = tt
-parts_lose_none ctx w vs Pick a m f k = tt
-parts_lose_none ctx w vs Call a m f k = tt
-parts_lose_none ctx w vs Void a m f k = tt
+parts_lose_none _ _ _ _ _ _ _ _ = tt
 
 -- a part doesn't begin with zeros
 in_part : (ctx : Context) (rule : Rule) (y : Name) (a : Simpl) (m : Mon) (vs : List Name) → Fits ctx false vs rule a m → loses y a m vs ≡ false → loses_in rule y a m vs ≡ false
@@ -106,8 +99,7 @@ module _ (ctx : Context) where
     all_taken : (ts : Trees Rule) (cs : List Claim) → AcceptsAll (forms ctx) ts cs → AllLoseNone cs → AcceptsAll (table ctx) ts cs
     all_taken no_trees [] h k = tt
     all_taken (tree t ts) (c ∷ cs) h k = (part_taken t c h.0 k.0, all_taken ts cs h.1 k.1)
-    all_taken no_trees (c ∷ cs) h k = absurd h
-    all_taken (tree t ts) [] h k = absurd h
+    all_taken _ _ h _ = absurd h
 
   -- of a whole function
   pub whole_taken : (rule : Rule) (ts : Trees Rule) (a : Simpl) (m : Mon) (vs : List Name) → Accepts (forms ctx) (node rule ts) (whole a m vs) → LosesNone rule a m vs →

@@ -4,16 +4,16 @@ use Rattle.std.specs.Option.{is_some}
 use Rattle.std.proofs.lemmas.Bool.{false≢true, and_parts, or_left, or_right}
 use Rattle.c_values.specs.Name.{Name, same_name, with_name, is_among}
 use Rattle.c_values.specs.Types.{CType, address_width}
-use Rattle.c_values.specs.Layout.{Shape, Incomplete, Scalar as WordShape, Record, Row, is_object, shape_of}
+use Rattle.c_values.specs.Layout.{Shape, Record, Row, is_object, shape_of}
 use Rattle.c_values.specs.Path.{Spot, member_spot}
 use Rattle.c_values.proofs.Laid.{name_is, same_name-refl}
-use Rattle.expression_lang.specs.Expression.{Exp, Var, WordLit, NumberLit, TruthLit, WordBinary, WordShift, WordUnary, WordCompare, Cast, ToNat, ToInt, ToWord, Arith, Negate, Lt, Le, Between, Eq, And, Or, Imp, Not, If, Padd, At, Load, Read, Tagged, PtrOk, Global, Sel, Upd, Path, Here, IntoField, IntoElement}
+use Rattle.expression_lang.specs.Expression.{Exp, Var, WordBinary, WordShift, WordUnary, WordCompare, Cast, ToNat, ToInt, ToWord, Arith, Negate, Lt, Le, Between, Eq, And, Or, Imp, Not, If, Padd, At, Load, Read, Tagged, PtrOk, Global, Sel, Upd, Path, Here, IntoField, IntoElement}
 use Rattle.expression_lang.specs.Mentions.{names}
 use Rattle.expression_lang.specs.Form.{has, path_has, is_part_of_value}
 use Rattle.expression_lang.specs.Sort.{Scalar, Sort, Of, Kind, Scope, word_width, is_word_of, is_number, is_truth, truth_sort, number_sort, word_sort, where_holds, of_words, of_word, are_same, of_shape, shape_in, of_type, parts_shape, scalar_sort, sort_at, sort_of, shape_along, word_sort_of, cast_fits, is_width, is_unary, is_one_step}
 use Rattle.expression_lang.specs.Signature.{Binder, Signature, names_of, kinds_of, signature}
 use Rattle.expression_lang.specs.Sorted.{names_with, program_sort, scalar_in, with_scalar, scalars_of, sort_in, part_place, typed_place, global_place, fits_place, call_scalars}
-use Rattle.simpl_lang.specs.Command.{Condition, Simpl, Skip, Throw, Set, SetGlobal, Store, Pick, Seq, Cond, Guard, Catch, While, Call, SimplFn, SimplUnit}
+use Rattle.simpl_lang.specs.Command.{Condition, Simpl, Set, SetGlobal, Store, Pick, Seq, Cond, Guard, Catch, While, Call, SimplFn, SimplUnit}
 use Rattle.simpl_lang.specs.Names.{path_names, some_names, conditions_name, is_target, command_names}
 use Rattle.program_sorts.specs.Sorts.{is_scalar_of}
 use Rattle.simpl_lang.specs.Sorted.{is_sorted, is_local, are_conditions, fits_target, scope_of}
@@ -23,8 +23,7 @@ use Rattle.rule_local.proofs.LiftedNames.{either}
 
 words_some : (w w' : Option ℕ) (f : ℕ → Option Sort) → is_some (of_words w w' f) ≡ true → (is_some w ≡ true) × (is_some w' ≡ true)
 words_some (Some m) (Some n) f h = (refl, refl)
-words_some (Some m) None f h = absurd (false≢true h)
-words_some None w f h = absurd (false≢true h)
+words_some _ _ _ h = absurd (false≢true h)
 
 word_some : (w : Option ℕ) (f : ℕ → Option Sort) → is_some (of_word w f) ≡ true → is_some w ≡ true
 word_some (Some n) f h = refl
@@ -52,8 +51,7 @@ word_of_some n None h = absurd (false≢true h)
 
 same_some : (o p : Option Sort) → are_same o p ≡ true → (is_some o ≡ true) × (is_some p ≡ true)
 same_some (Some s) (Some t) h = (refl, refl)
-same_some (Some s) None h = absurd (false≢true h)
-same_some None p h = absurd (false≢true h)
+same_some _ _ h = absurd (false≢true h)
 
 shape_some : (o : Option Shape) (f : Shape → Option Sort) → is_some (of_shape o f) ≡ true → (s : Shape) × (o ≡ Some s) × (is_some (f s) ≡ true)
 shape_some (Some s) f h = (s, refl, h)
@@ -121,9 +119,6 @@ module _ (g : Scope) (y : Name) where
   mutual
     pub exp_in_scope : (e : Exp) → is_some (sort_of g e) ≡ true → names y e ≡ true → InScope
     exp_in_scope (Var x) h n = var_in_scope x (scalar_some (g.names x) h) n
-    exp_in_scope (WordLit w) h n = absurd (false≢true n)
-    exp_in_scope (NumberLit k) h n = absurd (false≢true n)
-    exp_in_scope (TruthLit b) h n = absurd (false≢true n)
     exp_in_scope (WordBinary op a b) h n = both a b (words a b word_sort h) (exp_in_scope a) (exp_in_scope b) n
     exp_in_scope (WordShift op a k) h n =
         let w = where_some (is_number (sort_of g k)) (of_word (word_width (sort_of g a)) word_sort) h in
@@ -181,18 +176,14 @@ module _ (g : Scope) (y : Name) where
         either (names y e || path_names y path) (names y v) n
         (λ k. either (names y e) (path_names y path) k (exp_in_scope e (parts_some (sort_of g e) q.0 q.1)) (path_in_scope path q.0 (some_of (shape_along g path q.0) r.0 r.1)))
         (exp_in_scope v (same_some (sort_at r.0) (sort_of g v) (where_some (are_same (sort_at r.0) (sort_of g v)) (sort_of g e) r.2).0).1)
+    exp_in_scope _ _ n = absurd (false≢true n)
 
     pub path_in_scope : (path : Path) (s : Shape) → is_some (shape_along g path s) ≡ true → path_names y path ≡ true → InScope
     path_in_scope Here s h n = absurd (false≢true n)
     path_in_scope (IntoField k path) (Record x m align fs) h n = let q = member_some (member_spot fs k) path h in path_in_scope path q.0 q.1 n
     path_in_scope (IntoElement e path) (Row s m) h n =
         let q = element_some (is_number (sort_of g e)) (shape_along g path s) h in either (names y e) (path_names y path) n (exp_in_scope e (number_some (sort_of g e) q.0)) (path_in_scope path s q.1)
-    path_in_scope (IntoField k path) Incomplete h n = absurd (false≢true h)
-    path_in_scope (IntoField k path) (WordShape t w) h n = absurd (false≢true h)
-    path_in_scope (IntoField k path) (Row s m) h n = absurd (false≢true h)
-    path_in_scope (IntoElement e path) Incomplete h n = absurd (false≢true h)
-    path_in_scope (IntoElement e path) (WordShape t w) h n = absurd (false≢true h)
-    path_in_scope (IntoElement e path) (Record x m align fs) h n = absurd (false≢true h)
+    path_in_scope _ _ h _ = absurd (false≢true h)
 
   program_some : (e : Exp) → is_some (program_sort g e) ≡ true → is_some (sort_of g e) ≡ true
   program_some e h = of (has is_part_of_value e) h
@@ -210,13 +201,11 @@ module _ (g : Scope) (y : Name) where
 
   scalar_fits : (o : Option Scalar) (p : Option Sort) → is_scalar_of o p ≡ true → (is_some o ≡ true) × (is_some p ≡ true)
   scalar_fits (Some s) (Some t) h = (refl, refl)
-  scalar_fits (Some s) None h = absurd (false≢true h)
-  scalar_fits None p h = absurd (false≢true h)
+  scalar_fits _ _ h = absurd (false≢true h)
 
   place_fits : (o p : Option Sort) → fits_place o p ≡ true → (is_some o ≡ true) × (is_some p ≡ true)
   place_fits (Some s) (Some t) h = (refl, refl)
-  place_fits (Some s) None h = absurd (false≢true h)
-  place_fits None p h = absurd (false≢true h)
+  place_fits _ _ h = absurd (false≢true h)
 
   sort_in_some : (o : Option Shape) → is_some (sort_in o) ≡ true → is_some o ≡ true
   sort_in_some (Some s) h = refl
@@ -243,8 +232,7 @@ module _ (g : Scope) (y : Name) where
 
   with_scalar_some : (o : Option Scalar) (r : Option (List Scalar)) → is_some (with_scalar o r) ≡ true → (is_some o ≡ true) × (is_some r ≡ true)
   with_scalar_some (Some s) (Some ss) h = (refl, refl)
-  with_scalar_some (Some s) None h = absurd (false≢true h)
-  with_scalar_some None r h = absurd (false≢true h)
+  with_scalar_some _ _ h = absurd (false≢true h)
 
   all_in_scope : (es : List Exp) → is_some (scalars_of g es) ≡ true → some_names y es ≡ true → InScope
   all_in_scope [] h n = absurd (false≢true n)
@@ -254,17 +242,13 @@ module _ (g : Scope) (y : Name) where
 
   call_some : (f : Kind → Scalar) (s : Option Signature) (o : Option (List Scalar)) → is_some (call_scalars f s o) ≡ true → is_some o ≡ true
   call_some f (Some s) (Some ss) h = refl
-  call_some f (Some s) None h = absurd (false≢true h)
-  call_some f None o h = absurd (false≢true h)
+  call_some _ _ _ h = absurd (false≢true h)
 
   target_fits : (x : Option Name) (o : Option (List Scalar)) → fits_target g x o ≡ true → (is_some o ≡ true) × (is_target y x ≡ true → InScope)
   target_fits None (Some []) h = (refl, λ n. absurd (false≢true n))
   target_fits (Some x) (Some (s ∷ [])) h = (refl, var_in_scope x (scalar_fits (g.names x) (Some (Of s)) h).0)
-  target_fits None None h = absurd (false≢true h)
-  target_fits None (Some (s ∷ ss)) h = absurd (false≢true h)
-  target_fits (Some x) None h = absurd (false≢true h)
-  target_fits (Some x) (Some []) h = absurd (false≢true h)
   target_fits (Some x) (Some (s ∷ t ∷ ss)) h = absurd (false≢true h)
+  target_fits _ _ h = absurd (false≢true h)
 
   conditions_in_scope : (cs : List Condition) → are_conditions g cs ≡ true → conditions_name y cs ≡ true → InScope
   conditions_in_scope [] h n = absurd (false≢true n)
@@ -272,8 +256,6 @@ module _ (g : Scope) (y : Name) where
       let p = and_parts (is_truth (program_sort g c.exp)) (are_conditions g cs) h in either (names y c.exp) (conditions_name y cs) n (truth_in_scope c.exp p.0) (conditions_in_scope cs p.1)
 
   pub command_in_scope : (sigs : List Signature) (a : Simpl) → is_sorted g sigs a ≡ true → command_names y a ≡ true → InScope
-  command_in_scope ss Skip h n = absurd (false≢true n)
-  command_in_scope ss Throw h n = absurd (false≢true n)
   command_in_scope ss (Set x e) h n =
       let p = scalar_fits (g.names x) (program_sort g e) h in either (same_name y x) (names y e) n (var_in_scope x p.0) (program_in_scope e p.1)
   command_in_scope ss (SetGlobal x path e) h n =
@@ -307,6 +289,7 @@ module _ (g : Scope) (y : Name) where
   command_in_scope ss (Call x f es) h n =
       let p = target_fits x (call_scalars word_sort_of (signature ss f) (scalars_of g es)) h in
       either (is_target y x) (some_names y es) n p.1 (all_in_scope es (call_some word_sort_of (signature ss f) (scalars_of g es) p.0))
+  command_in_scope _ _ _ n = absurd (false≢true n)
 
 -- what is in a function's scope is a local
 pub local_in_scope : (y : Name) (bs : List Binder) (names : Name → Option Scalar) → is_some (names_with (names_of bs) (map word_sort_of (kinds_of bs)) names y) ≡ true →

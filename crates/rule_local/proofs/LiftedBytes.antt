@@ -4,7 +4,7 @@ use Rattle.std.proofs.lemmas.Bool.{or_parts, or_from, not-true, not_from_false}
 use Rattle.c_values.specs.Name.{Name, same_name, is_among}
 use Rattle.expression_lang.specs.Expression.{Exp, Var}
 use Rattle.expression_lang.specs.Form.{has, path_has, is_read}
-use Rattle.expression_lang.specs.Sort.{Kind, WordKind, NatKind, IntKind, BoolKind}
+use Rattle.expression_lang.specs.Sort.{Kind, WordKind}
 use Rattle.expression_lang.specs.Signature.{Binder, names_of}
 use Rattle.simpl_lang.specs.Command.{Condition, Simpl, Skip, Throw, Set, SetGlobal, Store, Pick, Seq, Cond, Guard, Catch, While, Call, kind_of}
 use Rattle.monad_lang.specs.Program.{Mon}
@@ -43,9 +43,7 @@ conj_none (g ∷ d ∷ gs) h =
 
 zero_none : (k : Kind) → has is_read (zero_exp k) ≡ false
 zero_none (WordKind n) = refl
-zero_none (NatKind n) = refl
-zero_none (IntKind n) = refl
-zero_none BoolKind = refl
+zero_none _ = refl
 
 zeros_none : (bs : List Binder) (xs : List Name) → some_has is_read (zeros_there (zeros bs xs)) ≡ false
 zeros_none bs [] = refl
@@ -53,8 +51,7 @@ zeros_none bs (x ∷ xs) = first (kind_of bs x) (zeros bs xs) (zeros_none bs xs)
   where
     first : (o : Option Kind) (r : Option (List Exp)) → some_has is_read (zeros_there r) ≡ false → some_has is_read (zeros_there (zero_first o r)) ≡ false
     first (Some k) (Some es) h = or_from (has is_read (zero_exp k)) (some_has is_read es) (zero_none k) h
-    first (Some k) None h = refl
-    first None r h = refl
+    first _ _ _ = refl
 
 set_none : (x : Name) (e : Exp) (vs : List Name) (b : Bool) → has is_read e ≡ false → HasNone (set_lifted b x e vs).right
 set_none x e vs true h = with_none x e vs h

@@ -25,11 +25,7 @@ either {P} p q h j k = of (or_cases p q h)
     of (inr e) = k e
 
 pub assigned_named : (y : Name) (a : Simpl) → assigns y a ≡ true → command_names y a ≡ true
-assigned_named y Skip h = absurd (false≢true h)
-assigned_named y Throw h = absurd (false≢true h)
 assigned_named y (Set x e) h = or_left (same_name y x) (names y e) h
-assigned_named y (SetGlobal x path e) h = absurd (false≢true h)
-assigned_named y (Store t p path e) h = absurd (false≢true h)
 assigned_named y (Pick x) h = h
 assigned_named y (Seq a b) h =
     either (assigns y a) (assigns y b) h (λ k. or_left (command_names y a) (command_names y b) (assigned_named y a k)) (λ k. or_right (command_names y a) (command_names y b) (assigned_named y b k))
@@ -42,6 +38,7 @@ assigned_named y (Catch a b) h =
     either (assigns y a) (assigns y b) h (λ k. or_left (command_names y a) (command_names y b) (assigned_named y a k)) (λ k. or_right (command_names y a) (command_names y b) (assigned_named y b k))
 assigned_named y (While cs e a) h = or_right (conditions_name y cs || names y e) (command_names y a) (assigned_named y a h)
 assigned_named y (Call x f es) h = or_left (is_target y x) (some_names y es) h
+assigned_named _ _ h = absurd (false≢true h)
 
 -- what a loop hands on is assigned, and is one of the locals
 pub handed_on_assigned : (xs : List Name) (gs : List Condition) (e : Exp) (a : Simpl) (body : List Name → Mon) (vs : List Name) (y : Name) → is_among y (handed_on xs gs e a body vs) ≡ true →

@@ -9,7 +9,7 @@ use Rattle.c_values.proofs.Laid.{name_is, other_name, same_name-refl}
 use Rattle.expression_lang.specs.Expression.{Exp, Var, And}
 use Rattle.expression_lang.specs.Mentions.{names}
 use Rattle.expression_lang.specs.Form.{has, is_part_of_value}
-use Rattle.expression_lang.specs.Sort.{Scalar, WordSort, TruthSort, Sort, Of, PartsSort, Kind, WordKind, NatKind, IntKind, BoolKind, Scope, is_truth, truth_sort, where_holds, scalar_sort, sort_of, is_kind, is_width, word_sort_of, sort_of_kind}
+use Rattle.expression_lang.specs.Sort.{Scalar, WordSort, TruthSort, Sort, Of, Kind, WordKind, NatKind, IntKind, BoolKind, Scope, is_truth, truth_sort, where_holds, scalar_sort, sort_of, is_kind, is_width, word_sort_of, sort_of_kind}
 use Rattle.expression_lang.specs.Signature.{Binder, Signature, names_of, signature}
 use Rattle.expression_lang.specs.Sorted.{names_with, program_sort, scalar_in, with_scalar, scalars_of, fits_place, call_scalars}
 use Rattle.expression_lang.proofs.Inversion.{same_inv}
@@ -77,9 +77,7 @@ fitting (Some s) (Some (Of t)) h = sym (ap scalar_in (same (same_inv (Some (Of s
   where
     same : ((o : Sort) × ((let p : Option Sort = Some (Of s) in p) ≡ Some o) × ((let p : Option Sort = Some (Of t) in p) ≡ Some o)) → (let p : Option Sort = Some (Of s) in p) ≡ Some (Of t)
     same q = q.1 ∙ sym q.2
-fitting (Some s) (Some (PartsSort t)) h = absurd (false≢true h)
-fitting (Some s) None h = absurd (false≢true h)
-fitting None p h = absurd (false≢true h)
+fitting _ _ h = absurd (false≢true h)
 
 module _ (ns : Name → Option Scalar) where
   abbrev pub AllThere : List Name → Type 0
@@ -111,15 +109,11 @@ module _ (ns : Name → Option Scalar) where
 
 pub word_sort_is : (k : Kind) → sort_of_kind (word_kind k) ≡ word_sort_of k
 word_sort_is (WordKind n) = refl
-word_sort_is (NatKind n) = refl
-word_sort_is (IntKind n) = refl
-word_sort_is BoolKind = refl
+word_sort_is _ = refl
 
 pub word_kind_is : (k : Kind) → is_kind k ≡ true → is_kind (word_kind k) ≡ true
 word_kind_is (WordKind n) h = h
-word_kind_is (NatKind n) h = h
-word_kind_is (IntKind n) h = h
-word_kind_is BoolKind h = h
+word_kind_is _ h = h
 
 -- What is known of a function: its scope, its locals, the signatures, and the signatures of what its calls are lifted to.
 pub record Known (ns : Name → Option Scalar) (bs : List Binder) (ss signatures : List Signature) : Type 0 where

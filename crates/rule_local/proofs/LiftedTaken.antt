@@ -43,7 +43,6 @@ module _ (ctx : Context) where
 
   pub lifted_taken : (a : Simpl) → is_flat a ≡ true → AssignsThese ctx.locals a → (vs : List Name) → Taken a (lifted ctx.locals a vs) vs
   lifted_taken C.Skip f h vs = ((refl, tt), tt)
-  lifted_taken C.Throw f h vs = absurd (false≢true f)
   lifted_taken (C.Set x e) f h vs = set_taken x e vs (is_among x vs) refl
   lifted_taken (C.SetGlobal x path e) f h vs = (((refl, refl, refl), tt), tt)
   lifted_taken (C.Store t p path e) f h vs = (((refl, refl, refl), tt), tt)
@@ -59,8 +58,8 @@ module _ (ctx : Context) where
       let d = and_parts (is_flat a) (is_flat b) f in
       ((refl, tt), (lifted_taken a d.0 (λ y k. h y (or_left (assigns y a) (assigns y b) k)) vs, (lifted_taken b d.1 (λ y k. h y (or_right (assigns y a) (assigns y b) k)) vs, tt)))
   lifted_taken (C.Guard g a) f h vs = ((refl, tt), (lifted_taken a f h vs, tt))
-  lifted_taken (C.Catch a b) f h vs = absurd (false≢true f)
   lifted_taken (C.While gs e a) f h vs =
       (((refl, refl, refl, refl, handed_on_carries (names_of ctx.locals) a h gs e (λ us. (lifted ctx.locals a us).right) vs), tt), (lifted_taken a f h _, tt))
   lifted_taken (C.Call (Some x) g es) f h vs = (((refl, refl, refl, refl), tt), tt)
   lifted_taken (C.Call None g es) f h vs = (((refl, refl, refl), tt), tt)
+  lifted_taken _ f _ _ = absurd (false≢true f)

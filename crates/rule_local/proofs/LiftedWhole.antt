@@ -6,7 +6,7 @@ use Rattle.c_values.specs.Name.{Name, same_name, is_among}
 use Rattle.c_values.proofs.Laid.{same_name-refl}
 use Rattle.expression_lang.specs.Expression.{Exp}
 use Rattle.expression_lang.specs.Mentions.{names}
-use Rattle.expression_lang.specs.Sort.{Kind, WordKind, NatKind, IntKind, BoolKind}
+use Rattle.expression_lang.specs.Sort.{Kind, WordKind}
 use Rattle.expression_lang.specs.Signature.{Binder, names_of}
 use Rattle.simpl_lang.specs.Command as C
 use Rattle.simpl_lang.specs.Command.{Simpl, kind_of}
@@ -48,9 +48,7 @@ module _ (ctx : Context) where
 
 zero_unnamed : (y : Name) (k : Kind) → names y (zero_exp k) ≡ false
 zero_unnamed y (WordKind n) = refl
-zero_unnamed y (NatKind n) = refl
-zero_unnamed y (IntKind n) = refl
-zero_unnamed y BoolKind = refl
+zero_unnamed _ _ = refl
 
 -- locals have zeros, which name nothing
 pub record HaveZeros (bs : List Binder) (xs : List Name) : Type 0 where

@@ -3,7 +3,7 @@ use Rattle.std.proofs.Common.{◌≡◌, ◌↔◌, Bool, true, false, not, ◌|
 use Rattle.std.proofs.lemmas.Bool.{false≢true, not-true, false_from_ne_true, and_parts, and_from, or_left, or_right}
 use Rattle.c_values.specs.Name.{Name, same_name, is_among}
 use Rattle.c_values.proofs.Laid.{name_is, same_name-refl}
-use Rattle.simpl_lang.specs.Command.{Simpl, Skip, Throw, Set, SetGlobal, Store, Pick, Seq, Cond, Guard, Catch, While, Call}
+use Rattle.simpl_lang.specs.Command.{Simpl, Set, Pick, Seq, Cond, Guard, Catch, While, Call}
 use Rattle.simpl_lang.specs.Names.{is_target}
 use Rattle.rule_local.specs.Assigned.{assigns, Carries}
 use Rattle.rule_local.specs.CodeAssigned.{target_passes, assigns_some, is_lost}
@@ -32,11 +32,7 @@ in_target test None h = absurd (false≢true h)
 in_target test (Some x) h = this_one test x h
 
 some_passes : (test : Name → Bool) (a : Simpl) → assigns_some test a ≡ true → Passes test (λ y. assigns y a)
-some_passes test Skip h = absurd (false≢true h)
-some_passes test Throw h = absurd (false≢true h)
 some_passes test (Set x e) h = this_one test x h
-some_passes test (SetGlobal x path e) h = absurd (false≢true h)
-some_passes test (Store t p path e) h = absurd (false≢true h)
 some_passes test (Pick x) h = this_one test x h
 some_passes test (Seq a b) h = in_either test (λ y. assigns y a) (λ y. assigns y b) (assigns_some test a) (assigns_some test b) (some_passes test a) (some_passes test b) h
 some_passes test (Cond e a b) h = in_either test (λ y. assigns y a) (λ y. assigns y b) (assigns_some test a) (assigns_some test b) (some_passes test a) (some_passes test b) h
@@ -44,6 +40,7 @@ some_passes test (Guard c a) h = some_passes test a h
 some_passes test (Catch a b) h = in_either test (λ y. assigns y a) (λ y. assigns y b) (assigns_some test a) (assigns_some test b) (some_passes test a) (some_passes test b) h
 some_passes test (While cs e a) h = some_passes test a h
 some_passes test (Call x f es) h = in_target test x h
+some_passes _ _ h = absurd (false≢true h)
 
 here : (test : Name → Bool) (y x : Name) → same_name y x ≡ true → test y ≡ true → test x ≡ true
 here test y x h k = subst (λ z. test z ≡ true) (name_is y x h) k
@@ -57,11 +54,7 @@ target_there test y None h k = absurd (false≢true h)
 target_there test y (Some x) h k = here test y x h k
 
 there : (test : Name → Bool) (y : Name) (a : Simpl) → assigns y a ≡ true → test y ≡ true → assigns_some test a ≡ true
-there test y Skip h k = absurd (false≢true h)
-there test y Throw h k = absurd (false≢true h)
 there test y (Set x e) h k = here test y x h k
-there test y (SetGlobal x path e) h k = absurd (false≢true h)
-there test y (Store t p path e) h k = absurd (false≢true h)
 there test y (Pick x) h k = here test y x h k
 there test y (Seq a b) h k = either_there (assigns_some test a) (assigns_some test b) (assigns y a) (assigns y b) (λ e. there test y a e k) (λ e. there test y b e k) h
 there test y (Cond e' a b) h k = either_there (assigns_some test a) (assigns_some test b) (assigns y a) (assigns y b) (λ e. there test y a e k) (λ e. there test y b e k) h
@@ -69,6 +62,7 @@ there test y (Guard c a) h k = there test y a h k
 there test y (Catch a b) h k = either_there (assigns_some test a) (assigns_some test b) (assigns y a) (assigns y b) (λ e. there test y a e k) (λ e. there test y b e k) h
 there test y (While cs e a) h k = there test y a h k
 there test y (Call x f es) h k = target_there test y x h k
+there _ _ _ h _ = absurd (false≢true h)
 
 carried : (us : List Name) (needed : Name → Bool) (a : Simpl) → assigns_some (is_lost us needed) a ≡ false → Carries us a needed
 carried us needed a h y k n = by_place (is_among y us) refl
@@ -97,15 +91,10 @@ target_is y (Some x) = refl
 
 -- the test whether a name is this one passes where the command assigns it
 pub assigns_is : (y : Name) (a : Simpl) → assigns_some (same_name y) a ≡ assigns y a
-assigns_is y Skip = refl
-assigns_is y Throw = refl
-assigns_is y (Set x e) = refl
-assigns_is y (SetGlobal x path e) = refl
-assigns_is y (Store t p path e) = refl
-assigns_is y (Pick x) = refl
 assigns_is y (Seq a b) = ap₂ (λ p q. p || q) (assigns_is y a) (assigns_is y b)
 assigns_is y (Cond e a b) = ap₂ (λ p q. p || q) (assigns_is y a) (assigns_is y b)
 assigns_is y (Guard c a) = assigns_is y a
 assigns_is y (Catch a b) = ap₂ (λ p q. p || q) (assigns_is y a) (assigns_is y b)
 assigns_is y (While cs e a) = assigns_is y a
 assigns_is y (Call x f es) = target_is y x
+assigns_is _ _ = refl

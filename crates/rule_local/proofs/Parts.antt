@@ -141,9 +141,7 @@ starts_held l s (x ∷ xs) env env' h =
 module _ (l : Layout) (s : State) (env locals : Env) where
   zero_is : (k : Kind) → value l env s (zero_exp k) ≡ zero_word_at k
   zero_is (WordKind n) = refl
-  zero_is (NatKind n) = refl
-  zero_is (IntKind n) = refl
-  zero_is BoolKind = refl
+  zero_is _ = refl
 
   one_more : (x : Name) (xs : List Name) (o : Option Kind) (r : Option (List Exp)) (zs : List Exp) → zero_first o r ≡ Some zs →
       ((k : Kind) → o ≡ Some k → locals x ≡ zero_word_at k) → ((es : List Exp) → r ≡ Some es → values_of l env s es ≡ held xs locals) → values_of l env s zs ≡ held (x ∷ xs) locals

@@ -24,17 +24,13 @@ either true b c = refl
 either false b c = refl
 
 lost_beside : (l pl r d pf rf : Bool) → ((l || pl || (d && pf)) || r || (d && rf)) ≡ (l || (pl || r) || (d && (pf || rf)))
-lost_beside true pl r d pf rf = refl
-lost_beside false true r d pf rf = refl
-lost_beside false false r false pf rf = refl
 lost_beside false false true true true rf = refl
-lost_beside false false false true true rf = refl
 lost_beside false false r true false rf = refl
+lost_beside _ _ _ _ _ _ = refl
 
 free_beside : (f hidden pf rf : Bool) → ((f || (not hidden && pf)) || (not hidden && rf)) ≡ (f || (not hidden && (pf || rf)))
-free_beside true hidden pf rf = refl
 free_beside false true pf rf = refl
-free_beside false false pf rf = refl
+free_beside _ _ _ _ = refl
 
 pub beside_then : (p : Passed) (y : Name) (e e' : Exp) (a b : Simpl) (m n : Mon) (vs : List Name) →
     ended (beside p (under (names y e') (uses y a m vs))) (uses y b n vs) ≡ ended p (uses y (C.Cond e a b) (M.If e' m n) vs)
@@ -44,22 +40,16 @@ beside_then p y e e' a b m n vs = same_made _ _ _ _ _ _
     (free_beside p.uses.free p.hidden (names y e' || is_free y m) (is_free y n))
 
 lost_after : (l pl r d pa h pf rf : Bool) → ((l || pl || (d && pf)) || r || (not h && (d || pa) && rf)) ≡ (l || (pl || r || (not h && pa && rf)) || (d && (pf || (not h && rf))))
-lost_after true pl r d pa h pf rf = refl
-lost_after false true r d pa h pf rf = refl
-lost_after false false true false pa h pf rf = refl
 lost_after false false true true pa h true rf = refl
-lost_after false false true true pa h false rf = refl
 lost_after false false false true pa h true rf = sym (or-true (not h && pa && rf))
 lost_after false false false true pa true false rf = refl
-lost_after false false false true false false false rf = refl
 lost_after false false false true true false false true = refl
-lost_after false false false true true false false false = refl
 lost_after false false false false pa h pf rf = sym (or-false (not h && pa && rf))
+lost_after _ _ _ _ _ _ _ _ = refl
 
 free_after : (f hidden h pf rf : Bool) → ((f || (not hidden && pf)) || (not (hidden || h) && rf)) ≡ (f || (not hidden && (pf || (not h && rf))))
-free_after true hidden h pf rf = refl
 free_after false true h pf rf = refl
-free_after false false h pf rf = refl
+free_after _ _ _ _ _ = refl
 
 pub after_then : (p : Passed) (y : Name) (a b : Simpl) (m n : Mon) (us vs : List Name) →
     ended (after p (uses y a m us) (is_among y us)) (uses y b n vs) ≡ ended p (uses y (C.Seq a b) (M.Bind m us n) vs)
@@ -69,9 +59,8 @@ after_then p y a b m n us vs = same_made _ _ _ _ _ _
     (free_after p.uses.free p.hidden (is_among y us) (is_free y m) (is_free y n))
 
 no_more : (r h f : Bool) → (r || (not h && false && f)) ≡ r
-no_more true h f = refl
 no_more false true f = refl
-no_more false false f = refl
+no_more _ _ _ = refl
 
 -- a guard assigns nothing
 pub guard_then : (p : Passed) (y : Name) (g : C.Condition) (a : Simpl) (m n : Mon) (us vs : List Name) →

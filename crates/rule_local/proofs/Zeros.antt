@@ -19,13 +19,11 @@ zeros_end bs g f (x ∷ xs) es h = absurd (omega arith)
 
 first_is : (k : Option Kind) (zs : Option (List Exp)) (e : Exp) (es : List Exp) → zero_first k zs ≡ Some (e ∷ es) → IsZeroOf k e × (zs ≡ Some es)
 first_is (Some k) (Some zs) e es h = (cc, cc)
-first_is None zs e es h = cc
-first_is (Some k) None e es h = cc
+first_is _ _ e es h = cc
 
 first_none : (k : Option Kind) (zs : Option (List Exp)) → zero_first k zs ≡ Some [] → ⊥
 first_none (Some k) (Some zs) h = cc
-first_none None zs h = cc
-first_none (Some k) None h = cc
+first_none _ _ h = cc
 
 first_goes : (k : Option Kind) (zs : Option (List Exp)) (e : Exp) (es : List Exp) → IsZeroOf k e → zs ≡ Some es → zero_first k zs ≡ Some (e ∷ es)
 first_goes (Some k) zs e es h j = subst (λ o. zero_first (Some k) o ≡ Some (e ∷ es)) (sym j) (ap (λ z. Some (z ∷ es)) (sym h))

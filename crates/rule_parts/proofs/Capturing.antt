@@ -19,11 +19,6 @@ bound_none false true free inner h k = k h
 bound_none false false free inner h k = ap₂ (λ b c. b || c) h (k h)
 
 pub unfree_none : (e : Exp) (x : Name) (m : Mon) → is_free x m ≡ false → captures e x m ≡ false
-unfree_none e x (M.Ret es) h = refl
-unfree_none e x (M.Guard a) h = refl
-unfree_none e x (M.Write place a) h = refl
-unfree_none e x (M.Call f es) h = refl
-unfree_none e x (M.Pick k) h = refl
 unfree_none e x (M.If a m n) h =
     let o = or_parts (X.names x a || is_free x m) (is_free x n) h in
     let q = or_parts (X.names x a) (is_free x m) o.0 in
@@ -38,14 +33,14 @@ unfree_none e x (M.Loop starts guard test m) h =
     let o = or_parts (is_in_start x starts) (not among && inside) h in
     bound_none among (is_unnamed (start_names starts) e) inside (captures e x m) o.1
     (λ i. unfree_none e x m (or_parts (X.names x guard || X.names x test) (is_free x m) i).1)
+unfree_none _ _ _ _ = refl
 
 -- a binder of a name of the expression alone
 captured_alone : (among named free inner : Bool) → among ≡ false → named ≡ false → (free ≡ false → inner ≡ false) →
     (not among && ((not named && free) || inner)) ≡ free
 captured_alone false false true inner h i k = refl
 captured_alone false false false inner h i k = k refl
-captured_alone true named free inner h i k = absurd cc
-captured_alone false true free inner h i k = absurd cc
+captured_alone _ _ free inner h i k = absurd cc
 
 pub bind_captures : (e : Exp) (x : Name) (m : Mon) (xs : List Name) (n : Mon) → captures e x m ≡ false → is_among x xs ≡ false →
     is_unnamed xs e ≡ false → captures e x (M.Bind m xs n) ≡ is_free x n

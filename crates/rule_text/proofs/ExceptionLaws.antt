@@ -10,19 +10,7 @@ use Rattle.rule_text.proofs.RuleLaws.{AreWords, reads, spells}
 
 pub rules_found : AreFound word all_rules
 rules_found R.Skip = refl
-rules_found R.Set = refl
-rules_found R.Pick = refl
-rules_found R.Call = refl
-rules_found R.Throw = refl
-rules_found R.SeqPlain = refl
-rules_found R.SeqTest = refl
-rules_found R.Cond = refl
-rules_found R.Guard = refl
-rules_found R.WhilePlain = refl
-rules_found R.WhileTest = refl
-rules_found R.CatchPlain = refl
-rules_found R.CatchTest = refl
-rules_found R.CatchSkip = refl
+rules_found _ = refl
 
 are_words : AreWords word data_of (λ r. true) words
 are_words = record {

@@ -10,18 +10,7 @@ use Rattle.rule_text.proofs.RuleLaws.{AreWords, reads, spells}
 
 pub rules_found : AreFound word all_rules
 rules_found R.Skip = refl
-rules_found R.Set = refl
-rules_found R.Dead = refl
-rules_found R.Global = refl
-rules_found R.Memory = refl
-rules_found R.Pick = refl
-rules_found R.Seq = refl
-rules_found R.Cond = refl
-rules_found R.Guard = refl
-rules_found R.While = refl
-rules_found R.Call = refl
-rules_found R.Void = refl
-rules_found R.Start = refl
+rules_found _ = refl
 
 are_words : AreWords word data_of (λ r. true) words
 are_words = record {

@@ -60,9 +60,8 @@ module _ {Rule : Type 0} (words : Words Rule) where
   no_word at word ts e f = none (words.plain word) (words.given word) ts e f
     where
       none : (o : Option Rule) (g : Option (Given Rule)) (ts : Trees) → None ≡ o → None ≡ option_map (λ (g : Given Rule). g.arity) g → front_by words at o g ts ≡ Err at
-      none (Some r) g ts e f = absurd cc
-      none None (Some g) ts e f = absurd cc
       none None None ts e f = refl
+      none _ _ ts e f = absurd cc
 
   -- data that don't fit, or that are read
   pub given_misfits : (at : ℕ) (word : Name) (ts : Trees) (a : Arity) (t : Tree) (xs : List S.Sx) (b : Bool) → Some (t, trees_in xs) ≡ first_of ts → None ≡ words.plain word → Some a ≡ option_map (λ (g : Given Rule). g.arity) (words.given word) →
@@ -70,11 +69,10 @@ module _ {Rule : Type 0} (words : Words Rule) where
   given_misfits at word ts a t xs b e f is fit fails = ap (front_at words at word) (first_is ts (trees_in xs) t e) ∙ by (words.plain word) (words.given word) f is
     where
       by : (o : Option Rule) (g : Option (Given Rule)) → None ≡ o → Some a ≡ option_map (λ (g : Given Rule). g.arity) g → front_by words at o g (more t (trees_in xs)) ≡ Err at
-      by (Some r) g f is = absurd cc
-      by None None f is = absurd cc
       by None (Some g) f is =
           let same : a ≡ g.arity = cc in
           cond-false (fits g.arity (count (trees_in xs))) (g.read (next (next at)) t >>= λ x. Ok ((x.0, trees_in xs), x.1)) (Err at) (ap₂ fits (sym same) (counted xs) ∙ sym fit ∙ fails)
+      by _ _ f is = absurd cc
 
   abbrev of_data : ℕ → Tree → Trees → Given Rule → Read (Rule × Trees)
   of_data at t us g = g.read (next (next at)) t >>= λ x. Ok ((x.0, us), x.1)
@@ -104,8 +102,7 @@ module _ {Rule : Type 0} (words : Words Rule) where
       failed : (g : Given Rule) (fault : TextFault) → Fails fault (g.read inner t) → Fails fault (of_data at t (trees_in xs) g)
       failed g (F.Shape n) h = ap (λ r. r >>= λ x. Ok ((x.0, trees_in xs), x.1)) (ap (λ k. g.read k t) (sym d) ∙ h)
       failed g F.Memory h = tt
-      failed g F.NotText h = h
-      failed g F.Deep h = h
+      failed _ _ h = h
 
       by : (g : Option (Given Rule)) → Some a ≡ option_map (λ (g : Given Rule). g.arity) g → IfSome g (λ g. Fails fault (g.read inner t)) → Fails fault (front_by words at (words.plain word) g (more t (trees_in xs)))
       by None is read = absurd cc
@@ -131,10 +128,7 @@ module _ {Rule : Type 0} (words : Words Rule) where
   first_then r ts (Err n) = refl
 
   list_is : (at : ℕ) (o : Option Rule) (g : Option (Given Rule)) (ts : Trees) → list_at words at (next (next at)) o g ts ≡ with_parts words (front_by words at o g ts)
-  list_is at (Some r) g no_trees = refl
-  list_is at None (Some g) no_trees = refl
   list_is at None None no_trees = refl
-  list_is at None None (more t ts) = refl
   list_is at (Some r) g (more t ts) = by (fits (words.arity r) (suc (count ts)))
     where
       by : (b : Bool) → cond {A = Read (rules.Tree Rule)} b (tree_at words (next (next at)) t >>= λ x. trees_at words x.1 ts >>= λ y. Ok (rules.node r (rules.tree x.0 y.0), y.1)) (Err at)
@@ -147,12 +141,11 @@ module _ {Rule : Type 0} (words : Words Rule) where
           ≡ with_parts words (cond {A = Read (Rule × Trees)} b (of_data at t ts g) (Err at))
       by false = refl
       by true = sym (seq {A = Rule} {B = Rule × Trees} {C = rules.Tree Rule} (g.read (next (next at)) t) (λ x. Ok ((x.0, ts), x.1)) (λ x. trees_at words x.1 x.0.1 >>= λ y. Ok (rules.node x.0.0 y.0, y.1)))
+  list_is _ _ _ _ = refl
 
   pub tree_is : (at : ℕ) (t : Tree) → tree_at words at t ≡ tree_by words at (word_in t) (headed_in t)
-  tree_is at (Atom word) = refl
-  tree_is at (Node no_trees) = refl
-  tree_is at (Node (more (Node us) ts)) = refl
   tree_is at (Node (more (Atom word) ts)) = list_is at (words.plain word) (words.given word) ts
+  tree_is _ _ = refl
 
   pub word_reads : (at : ℕ) (word : Name) (t : Tree) → Some word ≡ word_in t → tree_at words at t ≡ leaf_at words at (words.plain word)
   word_reads at word (Atom w) e = let h : word ≡ w = cc in ap (λ x. leaf_at words at (words.plain x)) (sym h)

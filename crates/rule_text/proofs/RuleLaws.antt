@@ -140,8 +140,7 @@ module _ {Rule : Type 0} (word : Rule → Name) (data' : Rule → Trees) (has_te
 
     list_none : (at inner : ℕ) (o : Option Rule) (p : Option (Given Rule)) → list_at words at inner o p no_trees ≡ Err at
     list_none at inner None None = refl
-    list_none at inner None (Some g) = refl
-    list_none at inner (Some r) p = refl
+    list_none _ _ _ _ = refl
 
     list_spells : (w : Name) (t : Tree) (ts : Trees) (at inner : ℕ) (x : rules.Tree Rule) (n : ℕ) (o : Option Rule) (p : Option (Given Rule)) → words.plain w ≡ o → words.given w ≡ p →
         ((at : ℕ) (y : rules.Tree Rule) (n : ℕ) → tree_at words at t ≡ Ok (y, n) → IsText t y) → ((at : ℕ) (ys : rules.Trees Rule) (n : ℕ) → trees_at words at ts ≡ Ok (ys, n) → AreTexts ts ys) →
@@ -167,11 +166,10 @@ module _ {Rule : Type 0} (word : Rule → Name) (data' : Rule → Trees) (has_te
     mutual
       pub spells : (t : Tree) (at : ℕ) (x : rules.Tree Rule) (n : ℕ) → tree_at words at t ≡ Ok (x, n) → IsText t x
       spells (Atom w) at x n e = leaf_spells w at x n (words.plain w) refl e
-      spells (Node no_trees) at x n e = absurd cc
-      spells (Node (more (Node us) ts)) at x n e = absurd cc
       spells (Node (more (Atom w) no_trees)) at x n e = absurd (let h = sym (list_none at (next (next at)) (words.plain w) (words.given w)) ∙ e in cc)
       spells (Node (more (Atom w) (more t ts))) at x n e =
           list_spells w t ts at (next (next at)) x n (words.plain w) (words.given w) refl refl (λ k y m f. spells t k y m f) (λ k ys m f. all_spell ts k ys m f) e
+      spells _ at x n e = absurd cc
 
       pub all_spell : (ts : Trees) (at : ℕ) (xs : rules.Trees Rule) (n : ℕ) → trees_at words at ts ≡ Ok (xs, n) → AreTexts ts xs
       all_spell no_trees at xs n e = subst (λ ys. AreTexts no_trees ys) (value_ok rules.no_trees at xs n e) (refl, refl)

@@ -21,8 +21,7 @@ joined_nothing (more t ts) = ap (λ us. more t us) (joined_nothing ts)
 
 with_last : (word : Name) (data' ts : Trees) (t : Tree) (us : Trees) → word_with word (joined data' (joined ts (more t us))) ≡ Node (more (Atom word) (joined data' (joined ts (more t us))))
 with_last word no_trees no_trees t us = refl
-with_last word no_trees (more v vs) t us = refl
-with_last word (more u ds) ts t us = refl
+with_last _ _ _ _ _ = refl
 
 module _ {R : Type 0} (word : R → Name) (data' : R → Trees) where
   texts_last : (ts : List (T.Tree R)) (t : T.Tree R) → texts_in word data' (ts ++ t ∷ []) ≡ joined (texts_in word data' ts) (more (text_in word data' t) no_trees)

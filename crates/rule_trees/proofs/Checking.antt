@@ -21,14 +21,12 @@ module _ {Rule Claim : Type 0} (table : Table Rule Claim) where
     all_checked_accept no_trees [] at n h = tt
     all_checked_accept (tree t ts) (c ∷ cs) at n (inl h) = (checked_accepts t c at h.0 h.1, all_checked_accept ts cs h.0 n h.2)
     all_checked_accept (tree t ts) (c ∷ cs) at n (inr h) = ok_err h.2
-    all_checked_accept no_trees (c ∷ cs) at n h = absurd h
-    all_checked_accept (tree t ts) [] at n h = absurd h
+    all_checked_accept _ _ _ _ h = absurd h
 
   a_tree_each : (ts : Trees Rule) (cs : List Claim) → AcceptsAll table ts cs → count ts ≡ length cs
   a_tree_each no_trees [] h = refl
   a_tree_each (tree t ts) (c ∷ cs) h = ap suc (a_tree_each ts cs h.1)
-  a_tree_each no_trees (c ∷ cs) h = absurd h
-  a_tree_each (tree t ts) [] h = absurd h
+  a_tree_each _ _ h = absurd h
 
   mutual
     pub accepted_is_never_bad : (t : Tree Rule) (c : Claim) (at n : ℕ) → Accepts table t c → Checked table t c at (Err n) → ⊥
@@ -39,8 +37,7 @@ module _ {Rule Claim : Type 0} (table : Table Rule Claim) where
     none_is_bad no_trees [] at n h k = ok_err (sym k)
     none_is_bad (tree t ts) (c ∷ cs) at n h (inl k) = none_is_bad ts cs k.0 n h.1 k.2
     none_is_bad (tree t ts) (c ∷ cs) at n h (inr k) = accepted_is_never_bad t c at k.0 h.0 k.1
-    none_is_bad no_trees (c ∷ cs) at n h k = absurd h
-    none_is_bad (tree t ts) [] at n h k = absurd h
+    none_is_bad _ _ _ _ h _ = absurd h
 
   mutual
     pub checked_once : (t : Tree Rule) (c : Claim) (at : ℕ) (r r' : Result ℕ ℕ) → Checked table t c at r → Checked table t c at r' → r ≡ r'
@@ -56,8 +53,7 @@ module _ {Rule Claim : Type 0} (table : Table Rule Claim) where
     all_checked_once (tree t ts) (c ∷ cs) at r r' (inl h) (inr k) = ok_err (checked_once t c at (Ok h.0) (Err k.0) h.1 k.1)
     all_checked_once (tree t ts) (c ∷ cs) at r r' (inr h) (inl k) = ok_err (sym (checked_once t c at (Err h.0) (Ok k.0) h.1 k.1))
     all_checked_once (tree t ts) (c ∷ cs) at r r' (inr h) (inr k) = h.2 ∙ checked_once t c at (Err h.0) (Err k.0) h.1 k.1 ∙ sym k.2
-    all_checked_once no_trees (c ∷ cs) at r r' h k = absurd h
-    all_checked_once (tree t ts) [] at r r' h k = absurd h
+    all_checked_once _ _ _ _ _ h _ = absurd h
 
   pub one_verdict : (t : Tree Rule) (c : Claim) (r r' : Result (Unit {0}) ℕ) → IsVerdict table t c r → IsVerdict table t c r' → r ≡ r'
   one_verdict t c (Ok u) (Ok v) h k = refl

@@ -10,5 +10,4 @@ module _ {Rule Claim : Type 0} (table : Table Rule Claim) (P : Claim → Type 1)
     all_hold : (ts : Trees Rule) (cs : List Claim) → AcceptsAll table ts cs → AllHold P cs
     all_hold no_trees [] h = tt
     all_hold (tree t ts) (c ∷ cs) h = (holds t c h.0, all_hold ts cs h.1)
-    all_hold no_trees (c ∷ cs) h = absurd h
-    all_hold (tree t ts) [] h = absurd h
+    all_hold _ _ h = absurd h

@@ -128,8 +128,7 @@ module _ (test : Exp → Bool) (elsewhere : (e : Exp) → looks_at_heap e ≡ fa
 
   exact_inv : (m b : Bool) (base : Base) → is_exact m b base ≡ true → m ≡ true → b ≡ true → is_no_word base ≡ true
   exact_inv true true base h k l = h
-  exact_inv true false base h k l = absurd cc
-  exact_inv false b base h k l = absurd cc
+  exact_inv _ _ base h k l = absurd cc
 
   arith_clean : (o : N.NumberOp) (x y : Exp) → Clean x → Clean y → Clean (X.Arith o x y)
   arith_clean o x y c d = over_two (X.Arith o x y) x y c d (λ h k n. neither (has is_word_arithmetic x) (has is_word_arithmetic y) h k) refl refl
@@ -163,10 +162,8 @@ module _ (test : Exp → Bool) (elsewhere : (e : Exp) → looks_at_heap e ≡ fa
     binary_clean same fs n Wmul Integers e h = integers N.Mul
     binary_clean same fs n Wudiv Words e h = at_words Wudiv refl h
     binary_clean same fs n Wudiv Naturals e h = naturals N.Div
-    binary_clean same fs n Wudiv Integers e h = absurd (no_integers numbers e)
     binary_clean same fs n Wumod Words e h = at_words Wumod refl h
     binary_clean same fs n Wumod Naturals e h = naturals N.Mod
-    binary_clean same fs n Wumod Integers e h = absurd (no_integers numbers e)
     binary_clean same fs n Wsdiv Words e h = at_words Wsdiv refl h
     binary_clean same fs n Wsdiv Naturals e h = absurd (no_signed_naturals same fs n (X.Arith N.Div os.integers.0.right os.integers.1.right) numbers e)
     binary_clean same fs n Wsdiv Integers e h = integers N.Div
@@ -176,6 +173,7 @@ module _ (test : Exp → Bool) (elsewhere : (e : Exp) → looks_at_heap e ≡ fa
     binary_clean same fs n Wand base e h = words_clean Wand (λ n. refl)
     binary_clean same fs n Wor base e h = words_clean Wor (λ n. refl)
     binary_clean same fs n Wxor base e h = words_clean Wxor (λ n. refl)
+    binary_clean _ _ _ _ _ e _ = absurd (no_integers numbers e)
 
   unary_clean : (op : UnaryOp) (base : Base) (word natural integer : Abstracted) → is_exact numbers (is_negation op) base ≡ true → Clean word.right → Clean natural.right → Clean integer.right → Clean (unary_at op base word natural integer).right
   unary_clean Wneg Words word natural integer h x y z =

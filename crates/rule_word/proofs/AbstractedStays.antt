@@ -3,7 +3,7 @@
 use Rattle.std.proofs.Common.{◌≡◌, ℕ, Bool, true, false, cond, ◌&&◌, ◌||◌, List, [], ◌∷◌, ◌++◌, map, Option, Some, None, refl, sym, ap, ap₂, ◌∙◌}
 use Rattle.std.proofs.Math.Path.{fun_ext}
 use Rattle.std.proofs.lemmas.Bool.{and_parts}
-use Rattle.c_values.specs.Word.{WordOp, Wadd, Wsub, Wmul, Wand, Wor, Wxor, Wudiv, Wumod, Wsdiv, Wsmod, UnaryOp, Wneg, Wnot}
+use Rattle.c_values.specs.Word.{WordOp, Wadd, Wsub, Wmul, Wsdiv, UnaryOp, Wneg, Wnot}
 use Rattle.c_values.specs.Number as N
 use Rattle.expression_lang.specs.Expression as X
 use Rattle.expression_lang.specs.Expression.{Exp, Path}
@@ -88,12 +88,7 @@ module _ (same : Exp → Exp → Bool) where
   binary_stays numbers k k' l n Wsub os h = base_stays numbers k k' l n (X.Arith N.Sub os.naturals.0.right os.naturals.1.right) (X.Arith N.Sub os.integers.0.right os.integers.1.right) h
   binary_stays numbers k k' l n Wmul os h = base_stays numbers k k' l n (X.Arith N.Mul os.naturals.0.right os.naturals.1.right) (X.Arith N.Mul os.integers.0.right os.integers.1.right) h
   binary_stays numbers k k' l n Wsdiv os h = signed_stays numbers k k' l n (X.Arith N.Div os.integers.0.right os.integers.1.right) h
-  binary_stays numbers k k' l n Wudiv os h = refl
-  binary_stays numbers k k' l n Wumod os h = refl
-  binary_stays numbers k k' l n Wsmod os h = refl
-  binary_stays numbers k k' l n Wand os h = refl
-  binary_stays numbers k k' l n Wor os h = refl
-  binary_stays numbers k k' l n Wxor os h = refl
+  binary_stays _ _ _ _ _ _ _ _ = refl
 
   negation_stays : (numbers : Bool) (k k' : Surroundings) → IsLater k k' → (n : ℕ) (op : UnaryOp) (a b : Abstracted) → is_exact numbers (is_negation op) (negation_base same numbers k n op a b) ≡ true → negation_base same numbers k' n op a b ≡ negation_base same numbers k n op a b
   negation_stays numbers k k' l n Wneg a b h = base_stays numbers k k' l n (X.Negate a.right) (X.Negate b.right) h
@@ -141,10 +136,6 @@ module _ (same : Exp → Exp → Bool) where
 
     mutual
       pub stays : (k k' : Surroundings) → IsLater k k' → (e : Exp) → Ready k e ≡ true → (v : View) → A k' e v ≡ A k e v
-      stays k k' l (X.Var x) r v = refl
-      stays k k' l (X.WordLit w) r v = refl
-      stays k k' l (X.NumberLit n) r v = refl
-      stays k k' l (X.TruthLit b) r v = refl
       stays k k' l (X.WordBinary op a b) r v =
           let n = or_zero (width_in g a) in
           let i = and_parts (is_exact numbers (is_arithmetic op) (binary_base same numbers k n op (os_in k a b)) && Ready k a) (Ready k b) r in
@@ -207,6 +198,7 @@ module _ (same : Exp → Exp → Bool) where
           let j = and_parts (Ready k e) (path_ready same numbers g names k path) i.0 in
           ap₂ (λ x y. let q = I k' path (one y) in by_head v (X.Upd x.right q.path y.right) (tree x.tree q.trees)) (stays k k' l e j.0 (own g e)) (stays k k' l w i.1 (own g w))
           ∙ ap (λ q. let x = A k e (own g e) in by_head v (X.Upd x.right q.path (A k w (own g w)).right) (tree x.tree q.trees)) (path_stays k k' l path j.1 (one (A k w (own g w))))
+      stays _ _ _ _ _ _ = refl
 
       pub path_stays : (k k' : Surroundings) → IsLater k k' → (path : Path) → path_ready same numbers g names k path ≡ true → (ts : Trees R.Rule) → I k' path ts ≡ I k path ts
       path_stays k k' l X.Here r ts = refl
@@ -225,7 +217,4 @@ module _ (same : Exp → Exp → Bool) where
           let j = and_parts (is_exact numbers (is_negation op) (negation_base same numbers k n op (A k a (Unsigned n)) (A k a (Signed n)))) (Ready k a) r in
           negation_same k k' l op a j.0 (λ u. stays k k' l a j.1 u)
       same_base k k' l (X.Cast X.Zext m a) r = refl
-      same_base k k' l (X.Cast X.Sext m a) r = refl
-      same_base k k' l (X.Cast X.Trunc m a) r = refl
-      same_base k k' l (X.Var x) r = refl
-      same_base k k' l e r = refl
+      same_base _ _ _ _ _ = refl

@@ -3,7 +3,7 @@ use Rattle.std.proofs.Common.{◌≡◌, ℕ, Bool, true, false, cond, not, ◌&
 use Rattle.std.proofs.lemmas.Bool.{and_parts}
 use Rattle.c_values.specs.Name.{Name, same_name}
 use Rattle.c_values.specs.Types.{address_width}
-use Rattle.c_values.specs.Layout.{Shape, Incomplete, Scalar as WordShape, Record, Row as Elements, shape_of, is_object}
+use Rattle.c_values.specs.Layout.{Shape, Record, Row as Elements, shape_of, is_object}
 use Rattle.c_values.specs.Path.{member_spot, Spot}
 use Rattle.c_values.specs.Word.{WordOp, Wadd, Wsub, Wmul, Wand, Wor, Wxor, Wudiv, Wumod, Wsdiv, Wsmod, UnaryOp, Wneg, Wnot, WordTest, Wult, Wule, Wslt, Wsle}
 use Rattle.c_values.specs.Number as N
@@ -178,12 +178,7 @@ module _ (ctx : Context) (names : List Binder) (same : Exp → Exp → Bool) (is
     binary_taken Wand Words q h = words_taken Wand q
     binary_taken Wor Words q h = words_taken Wor q
     binary_taken Wxor Words q h = words_taken Wxor q
-    binary_taken Wand Naturals q h = absurd cc
-    binary_taken Wor Naturals q h = absurd cc
-    binary_taken Wxor Naturals q h = absurd cc
-    binary_taken Wand Integers q h = absurd cc
-    binary_taken Wor Integers q h = absurd cc
-    binary_taken Wxor Integers q h = absurd cc
+    binary_taken _ _ q h = absurd cc
 
   unary_taken : (fs : Surroundings) (n : ℕ) (a : Exp) (op : UnaryOp) (word natural integer : Abstracted) (base : Base) → sort_of g (X.WordUnary op a) ≡ word_sort n →
       Taken fs a (own g a) word → Taken fs a (Unsigned n) natural → Taken fs a (Signed n) integer → negation_base same numbers fs n op natural integer ≡ base → Taken fs (X.WordUnary op a) (view_at_base base n) (unary_at op base word natural integer)
@@ -191,8 +186,7 @@ module _ (ctx : Context) (names : List Binder) (same : Exp → Exp → Bool) (is
   unary_taken fs n a Wneg word natural integer Naturals q w x y h = ((q, base_known same is_same numbers fs n (X.Negate natural.right) (X.Negate integer.right) Naturals h), (x, tt))
   unary_taken fs n a Wneg word natural integer Integers q w x y h = ((q, base_known same is_same numbers fs n (X.Negate natural.right) (X.Negate integer.right) Integers h), (y, tt))
   unary_taken fs n a Wnot word natural integer Words q w x y h = op_taken fs (X.WordUnary Wnot a) (X.WordUnary Wnot word.right) (one word) (word_sort n) q refl refl (w, tt)
-  unary_taken fs n a Wnot word natural integer Naturals q w x y h = absurd cc
-  unary_taken fs n a Wnot word natural integer Integers q w x y h = absurd cc
+  unary_taken fs n a _ word natural integer _ q w x y h = absurd cc
 
   -- what is seen of an operand whose width is that of its sort
   width_row : (o : Option ℕ) (n : ℕ) (f : ℕ → List Claim) (ts : Trees Rule) → o ≡ Some n → AcceptsAll (table ctx) ts (f n) → (of_width o f).holds × AcceptsAll (table ctx) ts (of_width o f).parts
@@ -238,8 +232,7 @@ module _ (ctx : Context) (names : List Binder) (same : Exp → Exp → Bool) (is
 
   base_sort : (b : Base) (n : ℕ) → sort_seen (view_for (kind_at_base b n)) ≡ word_sort n
   base_sort Words n = refl
-  base_sort Naturals n = refl
-  base_sort Integers n = refl
+  base_sort _ _ = refl
 
   equal_taken : (fs : Surroundings) (a b : Exp) (f h : View → Abstracted) (base : Base) (s : Sort) → sort_of g (X.Eq a b) ≡ truth_sort → sort_of g a ≡ Some s → sort_of g b ≡ Some s →
       ((v : View) → sort_seen v ≡ Some s → Taken fs a v (f v)) → ((v : View) → sort_seen v ≡ Some s → Taken fs b v (h v)) → Taken fs (X.Eq a b) truth (equal f h (own g a) (own g b) (equality_kind (Some s) base))
@@ -250,9 +243,7 @@ module _ (ctx : Context) (names : List Binder) (same : Exp → Exp → Bool) (is
 
   test_sort : (test : WordTest) (n : ℕ) → sort_seen (view_of_test test n) ≡ word_sort n
   test_sort Wult n = refl
-  test_sort Wule n = refl
-  test_sort Wslt n = refl
-  test_sort Wsle n = refl
+  test_sort _ _ = refl
 
   -- the indices of a path are numbers
   abbrev pub AllNumbers : Path → Type 0
@@ -262,22 +253,17 @@ module _ (ctx : Context) (names : List Binder) (same : Exp → Exp → Bool) (is
 
   pub all_numbers : (path : Path) (s q : Shape) → shape_along g path s ≡ Some q → AllNumbers path
   all_numbers X.Here s q h = tt
-  all_numbers (X.IntoField k path) Incomplete q h = absurd cc
-  all_numbers (X.IntoField k path) (WordShape t n) q h = absurd cc
-  all_numbers (X.IntoField k path) (Elements r n) q h = absurd cc
   all_numbers (X.IntoField k path) (Record y n align ms) q h = by_member (member_spot ms k) h (λ r. all_numbers path r q)
     where
       by_member : (o : Option Spot) → shape_in o (λ s. shape_along g path s) ≡ Some q → ((r : Shape) → shape_along g path r ≡ Some q → AllNumbers path) → AllNumbers path
       by_member None h rest = absurd cc
       by_member (Some r) h rest = rest r.shape h
-  all_numbers (X.IntoElement e path) Incomplete q h = absurd cc
-  all_numbers (X.IntoElement e path) (WordShape t n) q h = absurd cc
-  all_numbers (X.IntoElement e path) (Record y n align ms) q h = absurd cc
   all_numbers (X.IntoElement e path) (Elements r n) q h = by_index (is_number (sort_of g e)) refl h (λ k. all_numbers path r q k)
     where
       by_index : (b : Bool) → is_number (sort_of g e) ≡ b → cond b (shape_along g path r) None ≡ Some q → (shape_along g path r ≡ Some q → AllNumbers path) → AllNumbers (X.IntoElement e path)
       by_index true i h rest = (number_inv (sort_of g e) i, rest h)
       by_index false i h rest = absurd cc
+  all_numbers _ _ q h = absurd cc
 
   pub path_head_kept : (fs : Surroundings) (path : Path) (ts : Trees Rule) → path_head (indices same numbers g names fs path ts).path ≡ path_head path
   path_head_kept fs X.Here ts = refl

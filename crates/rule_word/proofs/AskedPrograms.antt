@@ -1,5 +1,5 @@
 -- What lists show whose lengths or first members are looked at.
-use Rattle.std.proofs.Common.{◌≡◌, ◌↔◌, ◌==◌, ℕ, suc, true, List, [], ◌∷◌, map, length, Option, Some, None, refl, sym, ap, ap₂, ◌∙◌, eqb-true, arith, IsTrue}
+use Rattle.std.proofs.Common.{◌≡◌, ◌↔◌, ◌==◌, ℕ, suc, true, List, [], ◌∷◌, map, length, Option, Some, refl, sym, ap, ap₂, ◌∙◌, eqb-true, arith, IsTrue}
 use Rattle.std.proofs.lemmas.Bool.Decides.{Decides-eqb}
 use Rattle.std.proofs.Math.Nat.{suc_inj}
 use Rattle.c_values.specs.Name.{Name}
@@ -46,8 +46,7 @@ kinds_go_on f x y xs ys h = ((λ e. ap₂ (λ a b. a ∷ b) h e), (λ e. let sam
 -- recasts
 first_inv : (o : Option Exp) (os : Option (List Exp)) (e : Exp) (es : List Exp) → recast_first o os ≡ Some (e ∷ es) → (o ≡ Some e) × (os ≡ Some es)
 first_inv (Some d) (Some ds) e es h = let p : d ≡ e = cc in let q : ds ≡ es = cc in (ap (λ x. Some x) p, ap (λ x. Some x) q)
-first_inv (Some d) None e es h = absurd cc
-first_inv None os e es h = absurd cc
+first_inv _ _ e es h = absurd cc
 
 pub recasts_end : (ks : List Kind) (ys : List Name) (es : List Exp) → ((ks ≡ []) × (ys ≡ []) × (es ≡ [])) ↔ (recasts [] ks ys ≡ Some es)
 recasts_end [] [] [] = ((λ h. refl), (λ h. (refl, refl, refl)))

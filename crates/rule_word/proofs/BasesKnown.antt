@@ -141,8 +141,7 @@ module _ (same : Exp → Exp → Bool) (is_same : (a b : Exp) → same a b ≡ t
 
   either_range : (b : Base) (r : Exp) (fs all : List Fact) → SomeFact (λ fact. Gives all fact (Range b r r)) fs → (b ≡ Words → ⊥) → SomeFact (λ fact. Gives all fact r) fs
   either_range Words r fs all h k = absurd (k refl)
-  either_range Naturals r fs all h k = h
-  either_range Integers r fs all h k = h
+  either_range _ _ _ _ h _ = h
 
   -- a fact gives no words
   module _ (x y : Exp) where
@@ -156,9 +155,8 @@ module _ (same : Exp → Exp → Bool) (is_same : (a b : Exp) → same a b ≡ t
     no_words before fact h = by_tests (same fact x) (same fact y) h
       where
         by_tests : (p q : Bool) → cond p (Some Naturals) (cond q (Some Integers) None) ≡ Some Words → ⊥
-        by_tests true q k = cc
         by_tests false true k = cc
-        by_tests false false k = cc
+        by_tests _ _ k = cc
 
     no_first : (before : List Fact) (fact : Exp) → first_range same before x y fact ≡ Some Words → ⊥
     no_first before (And c d) h =

@@ -2,7 +2,7 @@
 use Rattle.std.proofs.Common.{◌≡◌, Bool, true, false, cond, not, ◌&&◌, List, [], ◌∷◌, ◌++◌, Option, Some, None, refl}
 use Rattle.std.proofs.lemmas.Bool.{and_parts}
 use Rattle.c_values.specs.Types.{CType, address_width}
-use Rattle.c_values.specs.Layout.{Shape, Incomplete, Scalar as WordShape, Record, Row as Elements, shape_of, is_object}
+use Rattle.c_values.specs.Layout.{Shape, Record, Row as Elements, shape_of, is_object}
 use Rattle.c_values.specs.Path.{member_spot, Spot}
 use Rattle.expression_lang.specs.Expression as X
 use Rattle.expression_lang.specs.Expression.{Exp, Path}
@@ -20,22 +20,17 @@ module _ (g : Scope) where
 
   pub path_sorted : (path : Path) (s q : Shape) → shape_along g path s ≡ Some q → AreSorted (path_children path)
   path_sorted X.Here s q h = tt
-  path_sorted (X.IntoField k path) Incomplete q h = absurd cc
-  path_sorted (X.IntoField k path) (WordShape t n) q h = absurd cc
-  path_sorted (X.IntoField k path) (Elements r n) q h = absurd cc
   path_sorted (X.IntoField k path) (Record y n align ms) q h = by_member (member_spot ms k) h (λ r. path_sorted path r q)
     where
       by_member : (o : Option Spot) → shape_in o (λ s. shape_along g path s) ≡ Some q → ((r : Shape) → shape_along g path r ≡ Some q → AreSorted (path_children path)) → AreSorted (path_children path)
       by_member None h rest = absurd cc
       by_member (Some r) h rest = rest r.shape h
-  path_sorted (X.IntoElement e path) Incomplete q h = absurd cc
-  path_sorted (X.IntoElement e path) (WordShape t n) q h = absurd cc
-  path_sorted (X.IntoElement e path) (Record y n align ms) q h = absurd cc
   path_sorted (X.IntoElement e path) (Elements r n) q h = by_index (is_number (sort_of g e)) refl h (λ k. path_sorted path r q k)
     where
       by_index : (b : Bool) → is_number (sort_of g e) ≡ b → cond b (shape_along g path r) None ≡ Some q → (shape_along g path r ≡ Some q → AreSorted (path_children path)) → AreSorted (e ∷ path_children path)
       by_index true i h rest = ((Of NumberSort, number_inv (sort_of g e) i), rest h)
       by_index false i h rest = absurd cc
+  path_sorted _ _ q h = absurd cc
 
   pub and_one : (es : List Exp) (e : Exp) → AreSorted es → IsSorted e → AreSorted (es ++ (e ∷ []))
   and_one [] e h k = (k, tt)
@@ -74,10 +69,6 @@ module _ (g : Scope) where
       (an_address t p r.0, path_sorted path (shape_of g.layout t) i.0 i.1)
 
   pub children_sorted : (e : Exp) (s : Sort) → sort_of g e ≡ Some s → AreSorted (children e)
-  children_sorted (X.Var x) s q = tt
-  children_sorted (X.WordLit w) s q = tt
-  children_sorted (X.NumberLit n) s q = tt
-  children_sorted (X.TruthLit b) s q = tt
   children_sorted (X.WordBinary op a b) s q = two_words a b word_sort s q
   children_sorted (X.WordShift op a n) s q =
       let r = where_inv (is_number (sort_of g n)) (of_word (word_width (sort_of g a)) word_sort) s q in (one_word a word_sort s r.1, (a_number n r.0, tt))
@@ -134,3 +125,4 @@ module _ (g : Scope) where
       let d = where_inv (are_same (sort_at c.0) (sort_of g x)) (sort_of g e) s c.2 in
       let r = same_inv (sort_at c.0) (sort_of g x) d.0 in
       ((PartsSort b.0, b.1), and_one (path_children path) x (path_sorted path a.0 c.0 c.1) (r.0, r.2))
+  children_sorted _ _ _ = tt

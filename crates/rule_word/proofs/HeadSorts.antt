@@ -2,9 +2,9 @@
 use Rattle.std.proofs.Common.{◌≡◌, ℕ, not, cond, ◌&&◌, List, [], ◌∷◌, Option, Some, None, refl, sym, ap, ap₂, ◌∙◌}
 use Rattle.c_values.specs.Name.{Name}
 use Rattle.c_values.specs.Types.{CType, address_width}
-use Rattle.c_values.specs.Layout.{Layout, Shape, Incomplete, Scalar as WordShape, Record, Row, shape_of, is_object}
+use Rattle.c_values.specs.Layout.{Layout, Shape, Record, Row, shape_of, is_object}
 use Rattle.c_values.specs.Path.{Spot, member_spot}
-use Rattle.expression_lang.specs.Expression.{Exp, Var, WordLit, NumberLit, TruthLit, WordBinary, WordShift, WordUnary, WordCompare, Cast, ToNat, ToInt, ToWord, Arith, Negate, Lt, Le, Between, Eq, And, Or, Imp, Not, If, Padd, At, Load, Read, Tagged, PtrOk, Global, Sel, Upd, Path, Here, IntoField, IntoElement}
+use Rattle.expression_lang.specs.Expression.{Exp, Var, WordBinary, WordShift, WordUnary, WordCompare, Cast, ToNat, ToInt, ToWord, Arith, Negate, Lt, Le, Between, Eq, And, Or, Imp, Not, If, Padd, At, Load, Read, Tagged, PtrOk, Global, Sel, Upd, Path, Here, IntoField, IntoElement}
 use Rattle.expression_lang.specs.Sort.{Scalar, Sort, Scope, sort_of, shape_along, shape_in, sort_at, is_width, word_width, is_word_of, is_number, is_truth, number_sort, truth_sort, where_holds, of_words, of_word, word_sort, are_same, of_shape, of_type, parts_shape, cast_fits, is_unary, is_one_step}
 use Rattle.ac_expr.specs.Heads.{children, head}
 use Rattle.ac_expr.proofs.HeadsAgree.{first, others, path_filled, left_by, filled, whole}
@@ -48,15 +48,9 @@ module _ (l : Layout) (globals : Name → Option CType) (names names' : Name →
   by_member (Some q) f k h = h q.shape
 
   along : (path : Path) (es es' : List Exp) → SameSorts es es' → (s : Shape) → shape_along g' (path_filled path es') s ≡ shape_along g (path_filled path es) s
-  along Here es es' h s = refl
   along (IntoField k path) es es' h (Record x n align ms) = by_member (member_spot ms k) (λ s. shape_along g' (path_filled path es') s) (λ s. shape_along g (path_filled path es) s) (λ s. along path es es' h s)
   along (IntoElement e path) es es' h (Row s n) = ap₂ (λ b o. cond b o None) (ap is_number (firsts es es' h)) (along path (others es) (others es') (rest es es' h) s)
-  along (IntoField k path) es es' h Incomplete = refl
-  along (IntoField k path) es es' h (WordShape t n) = refl
-  along (IntoField k path) es es' h (Row s n) = refl
-  along (IntoElement e path) es es' h Incomplete = refl
-  along (IntoElement e path) es es' h (WordShape t n) = refl
-  along (IntoElement e path) es es' h (Record x n align ms) = refl
+  along _ _ _ _ _ = refl
 
   lefts : (path : Path) (es es' : List Exp) → SameSorts es es' → SameSorts (left_by path es) (left_by path es')
   lefts Here es es' h = h
@@ -73,13 +67,9 @@ module _ (l : Layout) (globals : Name → Option CType) (names names' : Name →
   at_type (Some t) f k h = ap (λ q. where_holds (is_object l t) (of_shape q sort_at)) (h (shape_of l t))
 
   one_step : (path : Path) (es es' : List Exp) → is_one_step (path_filled path es') ≡ is_one_step (path_filled path es)
-  one_step Here es es' = refl
   one_step (IntoField k Here) es es' = refl
   one_step (IntoElement e Here) es es' = refl
-  one_step (IntoField k (IntoField j path)) es es' = refl
-  one_step (IntoField k (IntoElement e path)) es es' = refl
-  one_step (IntoElement e (IntoField j path)) es es' = refl
-  one_step (IntoElement e (IntoElement d path)) es es' = refl
+  one_step _ _ _ = refl
 
   abbrev pub IsNoName : Exp → Type 0
   IsNoName (Var x) = ⊥
@@ -90,9 +80,6 @@ module _ (l : Layout) (globals : Name → Option CType) (names names' : Name →
 
   filled_sort : (e : Exp) (es es' : List Exp) → IsNoName e → SameSorts es es' → sort_of g' (filled e es') ≡ sort_of g (filled e es)
   filled_sort (Var x) es es' i h = absurd i
-  filled_sort (WordLit x) es es' i h = refl
-  filled_sort (NumberLit x) es es' i h = refl
-  filled_sort (TruthLit x) es es' i h = refl
   filled_sort (WordBinary op a b) es es' i h = ap₂ (λ o q. of_words (word_width o) (word_width q) word_sort) (firsts es es' h) (firsts (others es) (others es') (rest es es' h))
   filled_sort (WordShift op a b) es es' i h = ap₂ (λ o q. where_holds (is_number q) (of_word (word_width o) word_sort)) (firsts es es' h) (firsts (others es) (others es') (rest es es' h))
   filled_sort (WordUnary op a) es es' i h = ap (λ o. of_word (word_width o) word_sort) (firsts es es' h)
@@ -131,6 +118,7 @@ module _ (l : Layout) (globals : Name → Option CType) (names names' : Name →
       let j = lefts path (others es) (others es') k in
       ap₂ (λ o q. of_shape (parts_shape l o) (λ s. of_shape (shape_along g' (path_filled path (others es')) s) (λ r. where_holds (are_same (sort_at r) q) o))) (firsts es es' h) (firsts (left_by path (others es)) (left_by path (others es')) j)
       ∙ at_end (λ s. shape_along g' (path_filled path (others es')) s) (λ s. shape_along g (path_filled path (others es)) s) (parts_shape l (sort_of g (first es))) (λ r. where_holds (are_same (sort_at r) (sort_of g (first (left_by path (others es))))) (sort_of g (first es))) (λ s. along path (others es) (others es') k s)
+  filled_sort _ _ _ _ _ = refl
 
   head_named : (e : Exp) → IsNoName e → IsNoName (head e)
   head_named (Var x) i = absurd i

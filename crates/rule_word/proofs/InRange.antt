@@ -3,7 +3,7 @@ use Rattle.std.proofs.Common.{◌≡◌, ℕ, zero, suc, ◌<◌, ◌≤◌, ◌
 use Rattle.std.proofs.lemmas.Int.{ints}
 use Rattle.c_values.specs.Word.{Word, IsWord, unsigned, signed}
 use Rattle.c_values.specs.Number.{is_between}
-use Rattle.c_values.specs.Value.{Value, Bits, Number, Truth, Parts}
+use Rattle.c_values.specs.Value.{Value, Bits, Truth}
 use Rattle.c_values.proofs.WordValues.{IsSigned, low, high, signed_of}
 use Rattle.c_values.proofs.WordResults.{positive_between, negative_between, high_below}
 use Rattle.expression_lang.specs.Sort.{Kind, WordKind, NatKind, IntKind, BoolKind, word_sort_of}
@@ -31,18 +31,7 @@ view_fits (WordKind n) (Bits w) h = h
 view_fits (NatKind n) (Bits w) h = unsigned_fits n w h
 view_fits (IntKind n) (Bits w) h = signed_fits n w h
 view_fits BoolKind (Truth b) h = tt
-view_fits (WordKind n) (Number z) h = absurd h
-view_fits (WordKind n) (Truth b) h = absurd h
-view_fits (WordKind n) (Parts vs) h = absurd h
-view_fits (NatKind n) (Number z) h = absurd h
-view_fits (NatKind n) (Truth b) h = absurd h
-view_fits (NatKind n) (Parts vs) h = absurd h
-view_fits (IntKind n) (Number z) h = absurd h
-view_fits (IntKind n) (Truth b) h = absurd h
-view_fits (IntKind n) (Parts vs) h = absurd h
-view_fits BoolKind (Bits w) h = absurd h
-view_fits BoolKind (Number z) h = absurd h
-view_fits BoolKind (Parts vs) h = absurd h
+view_fits _ _ h = absurd h
 
 pub views_fit : (ks : List Kind) (vs : List Value) → AreOfSorts (map word_sort_of ks) vs → AreOfKinds ks (views_at ks vs)
 views_fit [] [] h = tt

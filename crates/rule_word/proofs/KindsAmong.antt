@@ -94,17 +94,12 @@ by_kind f (b ∷ bs) x = ap (λ o. cond (same_name b.name x) (Some (f b.kind)) o
 
 -- where a sequence ends, no name is passed
 pub no_bind : (n : ℕ) (r : Rule) (ts : Trees Rule) (m : Mon) (y : Name) (found : Option Kind) → is_bind r ≡ false → kind_passed n (node r ts) m y found ≡ found
-no_bind zero r ts m y found h = refl
 no_bind (suc n) (R.Bind js) ts m y found h = absurd cc
-no_bind (suc n) r ts m y found h = refl
+no_bind _ _ _ _ _ _ _ = refl
 
 pub not_two : (n : ℕ) (r : Rule) (ts : Trees Rule) (m : Mon) (y : Name) (found : Option Kind) → (count ts ≡ 2 → ⊥) → kind_passed n (node r ts) m y found ≡ found
-not_two zero r ts m y found h = refl
-not_two (suc n) (R.Bind js) no_trees m y found h = refl
-not_two (suc n) (R.Bind js) (tree a no_trees) m y found h = refl
 not_two (suc n) (R.Bind js) (tree a (tree b no_trees)) m y found h = absurd (h refl)
-not_two (suc n) (R.Bind js) (tree a (tree b (tree d ts))) m y found h = refl
-not_two (suc n) r ts m y found h = refl
+not_two _ _ _ _ _ _ _ = refl
 
 pub no_names : (n : ℕ) (js : List Kind) (a b : Tree Rule) (m : Mon) (y : Name) (found : Option Kind) → ((l : Mon) (xs : List Name) (r : Mon) → m ≡ M.Bind l xs r → ⊥) →
     kind_passed n (node (R.Bind js) (tree a (tree b no_trees))) m y found ≡ found

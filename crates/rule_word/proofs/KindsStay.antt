@@ -27,10 +27,8 @@ use Rattle.rule_word.proofs.ProgramWidths.{AllWide, WideNames, WideCalls, given_
 
 -- a word's kind is of its width
 pub word_kind : (k : Kind) → IsWide (Some (Of (word_sort_of k))) → is_kind k ≡ true
-word_kind (WordKind n) h = h
-word_kind (NatKind n) h = h
-word_kind (IntKind n) h = h
 word_kind BoolKind h = refl
+word_kind _ h = h
 
 pub kind_word : (k : Kind) (n : ℕ) → is_kind k ≡ true → word_sort_of k ≡ WordSort n → is_width n ≡ true
 kind_word (WordKind m) n h q = let e : m ≡ n = cc in subst (λ j. is_width j ≡ true) e h

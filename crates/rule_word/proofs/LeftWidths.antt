@@ -1,7 +1,7 @@
 -- The width along first operands is that of the sort, where there is one.
 use Rattle.std.proofs.Common.{◌≡◌, ◌^◌, nat_lt, Bool, true, false, cond, not, ◌&&◌, Option, Some, None, sym, ap, ◌∙◌}
 use Rattle.c_values.specs.Types.{CType, address_width}
-use Rattle.c_values.specs.Layout.{Shape, Incomplete, Scalar as WordShape, Record, Row as Elements, shape_of, is_object}
+use Rattle.c_values.specs.Layout.{Shape, Record, Row as Elements, shape_of, is_object}
 use Rattle.c_values.specs.Path.{member_spot, Spot}
 use Rattle.expression_lang.specs.Expression as X
 use Rattle.expression_lang.specs.Expression.{Exp, Path}
@@ -12,22 +12,17 @@ use Rattle.rule_word.specs.LeftWidth.{shape_there, left_width}
 module _ (g : Scope) where
   same_end : (path : Path) (s q : Shape) → shape_along g path s ≡ Some q → shape_there path s ≡ Some q
   same_end X.Here s q h = h
-  same_end (X.IntoField k path) Incomplete q h = absurd cc
-  same_end (X.IntoField k path) (WordShape t n) q h = absurd cc
-  same_end (X.IntoField k path) (Elements r n) q h = absurd cc
   same_end (X.IntoField k path) (Record y n align ms) q h = by_member (member_spot ms k) h (λ r i. same_end path r q i)
     where
       by_member : (o : Option Spot) → shape_in o (λ s. shape_along g path s) ≡ Some q → ((r : Shape) → shape_along g path r ≡ Some q → shape_there path r ≡ Some q) → shape_in o (λ s. shape_there path s) ≡ Some q
       by_member None h rest = absurd cc
       by_member (Some r) h rest = rest r.shape h
-  same_end (X.IntoElement e path) Incomplete q h = absurd cc
-  same_end (X.IntoElement e path) (WordShape t n) q h = absurd cc
-  same_end (X.IntoElement e path) (Record y n align ms) q h = absurd cc
   same_end (X.IntoElement e path) (Elements r n) q h = by_index (is_number (sort_of g e)) h (λ i. same_end path r q i)
     where
       by_index : (b : Bool) → cond b (shape_along g path r) None ≡ Some q → (shape_along g path r ≡ Some q → shape_there path r ≡ Some q) → shape_there path r ≡ Some q
       by_index true h rest = rest h
       by_index false h rest = absurd cc
+  same_end _ _ q h = absurd cc
 
   at_end : (path : Path) (t : CType) (s : Sort) → of_shape (shape_along g path (shape_of g.layout t)) sort_at ≡ Some s → of_shape (shape_there path (shape_of g.layout t)) sort_at ≡ Some s
   at_end path t s h =

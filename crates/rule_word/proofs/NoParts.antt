@@ -35,10 +35,6 @@ path_plain (X.IntoField k path) h = path_plain path h
 path_plain (X.IntoElement e path) h = let r = or_parts (has is_part_of_value e) (path_has is_part_of_value path) h in (r.0, path_plain path r.1)
 
 pub plain_children : (e : Exp) → IsPlain e → ArePlain (children e)
-plain_children (X.Var x) h = tt
-plain_children (X.WordLit w) h = tt
-plain_children (X.NumberLit n) h = tt
-plain_children (X.TruthLit b) h = tt
 plain_children (X.WordBinary op a b) h = two_plain a b h
 plain_children (X.WordShift op a b) h = two_plain a b h
 plain_children (X.WordCompare op a b) h = two_plain a b h
@@ -67,6 +63,7 @@ plain_children (X.Read t a path) h = let r = or_parts (has is_part_of_value a) (
 plain_children (X.Global x path) h = path_plain path h
 plain_children (X.Sel a path) h = absurd (no_part (has is_part_of_value a) (path_has is_part_of_value path) h)
 plain_children (X.Upd a path b) h = absurd (no_part (has is_part_of_value a || path_has is_part_of_value path) (has is_part_of_value b) h)
+plain_children _ _ = tt
 
 first_plain : (es : List Exp) → ArePlain es → IsPlain (first es)
 first_plain [] h = refl
@@ -82,10 +79,6 @@ path_filled_plain (X.IntoField k path) es h = path_filled_plain path es h
 path_filled_plain (X.IntoElement e path) es h = or_from _ _ (first_plain es h) (path_filled_plain path (others es) (rest_plain es h))
 
 filled_plain : (e : Exp) (es : List Exp) → is_part_of_value e ≡ false → ArePlain es → IsPlain (filled e es)
-filled_plain (X.Var x) es i h = refl
-filled_plain (X.WordLit w) es i h = refl
-filled_plain (X.NumberLit n) es i h = refl
-filled_plain (X.TruthLit b) es i h = refl
 filled_plain (X.WordBinary op a b) es i h = or_from _ _ (first_plain es h) (first_plain (others es) (rest_plain es h))
 filled_plain (X.WordShift op a b) es i h = or_from _ _ (first_plain es h) (first_plain (others es) (rest_plain es h))
 filled_plain (X.WordCompare op a b) es i h = or_from _ _ (first_plain es h) (first_plain (others es) (rest_plain es h))
@@ -114,41 +107,14 @@ filled_plain (X.Read t a path) es i h = or_from _ _ (first_plain es h) (path_fil
 filled_plain (X.Global x path) es i h = path_filled_plain path es h
 filled_plain (X.Sel a path) es i h = absurd cc
 filled_plain (X.Upd a path b) es i h = absurd cc
+filled_plain _ _ _ _ = refl
 
 -- the head of what has no part of a value
 head_plain : (e : Exp) → IsPlain e → is_part_of_value (head e) ≡ false
-head_plain (X.Var x) h = refl
-head_plain (X.WordLit w) h = refl
-head_plain (X.NumberLit n) h = refl
-head_plain (X.TruthLit b) h = refl
-head_plain (X.WordBinary op a b) h = refl
-head_plain (X.WordShift op a b) h = refl
-head_plain (X.WordCompare op a b) h = refl
-head_plain (X.Arith op a b) h = refl
-head_plain (X.Lt a b) h = refl
-head_plain (X.Le a b) h = refl
-head_plain (X.Eq a b) h = refl
-head_plain (X.And a b) h = refl
-head_plain (X.Or a b) h = refl
-head_plain (X.Imp a b) h = refl
-head_plain (X.Padd t a b) h = refl
-head_plain (X.WordUnary op a) h = refl
-head_plain (X.Cast op m a) h = refl
-head_plain (X.ToNat a) h = refl
-head_plain (X.ToInt a) h = refl
-head_plain (X.ToWord m a) h = refl
-head_plain (X.Negate a) h = refl
 head_plain (X.Between low a high) h = refl
-head_plain (X.Not a) h = refl
-head_plain (X.Tagged t a) h = refl
-head_plain (X.PtrOk t a) h = refl
-head_plain (X.If c a b) h = refl
-head_plain (X.At t a path) h = refl
-head_plain (X.Load t a path) h = refl
-head_plain (X.Read t a path) h = refl
-head_plain (X.Global x path) h = refl
 head_plain (X.Sel a path) h = absurd (no_part (has is_part_of_value a) (path_has is_part_of_value path) h)
 head_plain (X.Upd a path b) h = absurd (no_part (has is_part_of_value a || path_has is_part_of_value path) (has is_part_of_value b) h)
+head_plain _ _ = refl
 
 pub heads_plain : (a b : Exp) → head b ≡ head a → IsPlain a → ArePlain (children b) → IsPlain b
 heads_plain a b h i k =

@@ -8,5 +8,4 @@ use Rattle.rule_word.specs.CodeRule.{view_at}
 
 pub again_view : (g : Scope) (e d : Exp) (v : V.View) → view_at g d v ≡ again g (view_at g e v) d
 again_view g e d V.TheVariants.AsIs = refl
-again_view g e d (V.TheVariants.Unsigned n) = refl
-again_view g e d (V.TheVariants.Signed n) = refl
+again_view _ _ _ _ = refl

@@ -8,7 +8,7 @@ use Rattle.c_values.specs.Number as N
 use Rattle.c_values.proofs.Options.{some_is}
 use Rattle.expression_lang.specs.Expression as X
 use Rattle.expression_lang.specs.Expression.{Exp}
-use Rattle.expression_lang.specs.Sort.{Sort, Of, WordSort, TruthSort, Kind, WordKind, NatKind, IntKind, BoolKind, Scope, sort_of, word_sort, truth_sort, word_width, is_truth, are_same, where_holds}
+use Rattle.expression_lang.specs.Sort.{Sort, Of, WordSort, TruthSort, Kind, NatKind, IntKind, Scope, sort_of, word_sort, truth_sort, word_width, is_truth, are_same, where_holds}
 use Rattle.expression_lang.proofs.Inversion.{where_inv, words_inv, word_inv, width_inv, truth_inv, same_inv}
 use Rattle.ac_expr.specs.Heads.{children}
 use Rattle.rule_word.specs.Rule as R
@@ -90,8 +90,7 @@ module _ (ctx : Context) where
     at_kind : (k : Kind) (n : ℕ) → number_width k ≡ Some n → sort_seen (view_for k) ≡ word_sort n
     at_kind (NatKind m) n h = ap word_sort (some_is h)
     at_kind (IntKind m) n h = ap word_sort (some_is h)
-    at_kind (WordKind m) n h = absurd cc
-    at_kind BoolKind n h = absurd cc
+    at_kind _ n h = absurd cc
 
     pub children_fit : (rule : Rule) (e : Exp) (v : View) (a : Exp) → Fits at e v → (expression_row g at rule e v a).holds → AllFit (looked_at rule (expression_row g at rule e v a).parts) → AllFit (expression_row g at rule e v a).parts
     children_fit R.Var (X.Var x) v (X.Var y) f h k = tt

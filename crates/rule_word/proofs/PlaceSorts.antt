@@ -24,8 +24,7 @@ looking_at (M.Global x path) = X.Global x path
 
 pub same_children : (p : Place) → children (looking_at p) ≡ place_children p
 same_children (M.Stored t p path) = refl
-same_children (M.Written t p path) = refl
-same_children (M.Global x path) = refl
+same_children _ = refl
 
 abbrev looks : Place → Exp
 looks (M.Stored t p path) = X.Load t p path
@@ -34,8 +33,7 @@ looks (M.Global x path) = X.Global x path
 
 same_head : (p : Place) → head (looking_at p) ≡ looks (place_head p)
 same_head (M.Stored t p path) = refl
-same_head (M.Written t p path) = refl
-same_head (M.Global x path) = refl
+same_head _ = refl
 
 pub heads_looking : (p q : Place) → place_head q ≡ place_head p → head (looking_at q) ≡ head (looking_at p)
 heads_looking p q h = same_head q ∙ ap looks h ∙ sym (same_head p)

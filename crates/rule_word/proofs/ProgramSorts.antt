@@ -41,8 +41,7 @@ bind_inv o b f ss cs e h = (fits_inv (b ss) (f ss) cs (subst (λ z. and_then_sca
 -- the first of scalars, and the others
 pub scalar_first : (o : Option Scalar) (r : Option (List Scalar)) (cs : List Scalar) → with_scalar o r ≡ Some cs → (c : Scalar) × (ds : List Scalar) × (cs ≡ c ∷ ds) × (r ≡ Some ds) × (o ≡ Some c)
 scalar_first (Some c) (Some ds) cs h = (c, ds, sym (some_is h), refl, refl)
-scalar_first None r cs h = absurd cc
-scalar_first (Some c) None cs h = absurd cc
+scalar_first _ _ cs h = absurd cc
 
 -- places
 pub part_there : (g : Scope) (t : CType) (path : Path) (s : Sort) → part_place g t path ≡ Some s → (q : Shape) × (shape_along g path (shape_of g.layout t) ≡ Some q)

@@ -82,22 +82,14 @@ module _ (test : Exp → Bool) (elsewhere : (e : Exp) → looks_at_heap e ≡ fa
   recast_clean (WordKind n) (IntKind m) y e h = subst C (same_or (m == n) (X.ToInt (X.Var y)) e h) (int_clean y)
   recast_clean (NatKind n) (WordKind m) y e h = subst C (same_or (m == n) (X.ToWord m (X.Var y)) e h) (word_clean m y)
   recast_clean (IntKind n) (WordKind m) y e h = subst C (same_or (m == n) (X.ToWord m (X.Var y)) e h) (word_clean m y)
-  recast_clean (NatKind n) (IntKind m) y e h = absurd cc
-  recast_clean (IntKind n) (NatKind m) y e h = absurd cc
-  recast_clean BoolKind (WordKind m) y e h = absurd cc
-  recast_clean BoolKind (NatKind m) y e h = absurd cc
-  recast_clean BoolKind (IntKind m) y e h = absurd cc
-  recast_clean (WordKind n) BoolKind y e h = absurd cc
-  recast_clean (NatKind n) BoolKind y e h = absurd cc
-  recast_clean (IntKind n) BoolKind y e h = absurd cc
+  recast_clean _ _ y e h = absurd cc
 
   first_inv : (o : Option Exp) (r : Option (List Exp)) (es : List Exp) → recast_first o r ≡ Some es → (e : Exp) × (as' : List Exp) × (o ≡ Some e) × (r ≡ Some as') × (e ∷ as' ≡ es)
   first_inv (Some e) (Some as') es h = (e, as', refl, refl, some_is h)
     where
       some_is : {a b : List Exp} → ◌≡◌ {A = Option (List Exp)} (Some a) (Some b) → a ≡ b
       some_is h = cc
-  first_inv None r es h = absurd cc
-  first_inv (Some e) None es h = absurd cc
+  first_inv _ _ es h = absurd cc
 
   recasts_clean : (js ks : List Kind) (ys : List Name) (es : List Exp) → recasts js ks ys ≡ Some es → CleanList es
   recasts_clean [] [] [] es h = subst CleanList (some_is h) none_clean

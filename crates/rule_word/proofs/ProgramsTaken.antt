@@ -38,9 +38,8 @@ use Rattle.rule_word.proofs.ScopesAfter.{sort_of_view, setting_after}
 
 -- kinds for scalars
 pub word_kind_sort : (c : Scalar) → is_word_or_truth c ≡ true → word_sort_of (word_kind_of c) ≡ c
-word_kind_sort (WordSort n) h = refl
 word_kind_sort NumberSort h = absurd cc
-word_kind_sort TruthSort h = refl
+word_kind_sort _ _ = refl
 
 pub kind_for_sort : (o : Option Kind) (c : Scalar) → is_word_or_truth c ≡ true → word_sort_of (kind_for o c) ≡ c
 kind_for_sort None c h = word_kind_sort c h
@@ -66,13 +65,11 @@ scalars_first (Some d) (Some ds) c cs h = (ap head_of (some_is h), ap tail_of (s
     tail_of : List Scalar → Option (List Scalar)
     tail_of [] = None
     tail_of (x ∷ xs) = Some xs
-scalars_first None r c cs h = absurd cc
-scalars_first (Some d) None c cs h = absurd cc
+scalars_first _ _ c cs h = absurd cc
 
 no_scalars : (o : Option Scalar) (r : Option (List Scalar)) → with_scalar o r ≡ Some [] → ⊥
 no_scalars (Some d) (Some ds) h = cc
-no_scalars None r h = cc
-no_scalars (Some d) None h = cc
+no_scalars _ _ h = cc
 
 module _ (ctx : Context) (same : Exp → Exp → Bool) (is_same : (a b : Exp) → same a b ≡ true → a ≡ b) (numbers : Bool) (table' : Name → Option Kind) where
   abbrev g_in : List Binder → Scope
@@ -178,8 +175,7 @@ module _ (ctx : Context) (same : Exp → Exp → Bool) (is_same : (a b : Exp) �
 
   none_given : (b : Bool) (ks : List Kind) → where_fits b (Some []) ≡ Some (map word_sort_of ks) → (b ≡ true) × (ks ≡ [])
   none_given true [] h = (refl, refl)
-  none_given true (k ∷ ks) h = absurd cc
-  none_given false ks h = absurd cc
+  none_given _ _ h = absurd cc
 
   guard_taken : (fs : List Fact) (names : List Binder) (e : Exp) (ks : List Kind) → IsSorted names (M.Guard e) ks → IsTaken fs names (M.Guard e) ks
   guard_taken fs names e ks q =
@@ -240,27 +236,16 @@ module _ (ctx : Context) (same : Exp → Exp → Bool) (is_same : (a b : Exp) �
       first_of : Scalar → List Scalar → Scalar
       first_of d [] = d
       first_of d (x ∷ xs) = x
-  one_given true c [] h = absurd cc
-  one_given true c (k ∷ k' ∷ ks) h = absurd cc
-  one_given false c ks h = absurd cc
+  one_given _ c _ h = absurd cc
 
   pick_one : (fs : List Fact) (names : List Binder) (j k : Kind) → sort_of_kind j ≡ word_sort_of k → IsTaken fs names (M.Pick j) (k ∷ [])
   pick_one fs names (WordKind n) (WordKind m) h = let e : n ≡ m = cc in ((refl, ap (λ i. WordKind i ∷ []) (sym e), refl), tt)
   pick_one fs names (WordKind n) (NatKind m) h = let e : n ≡ m = cc in ((refl, ap (λ i. NatKind i ∷ []) (sym e)), tt)
   pick_one fs names (WordKind n) (IntKind m) h = let e : n ≡ m = cc in ((refl, ap (λ i. IntKind i ∷ []) (sym e)), tt)
-  pick_one fs names (WordKind n) BoolKind h = absurd cc
   pick_one fs names BoolKind BoolKind h = ((refl, refl, refl), tt)
-  pick_one fs names BoolKind (WordKind m) h = absurd cc
-  pick_one fs names BoolKind (NatKind m) h = absurd cc
-  pick_one fs names BoolKind (IntKind m) h = absurd cc
   pick_one fs names (NatKind n) (WordKind m) h = absurd cc
-  pick_one fs names (NatKind n) (NatKind m) h = absurd cc
-  pick_one fs names (NatKind n) (IntKind m) h = absurd cc
-  pick_one fs names (NatKind n) BoolKind h = absurd cc
   pick_one fs names (IntKind n) (WordKind m) h = absurd cc
-  pick_one fs names (IntKind n) (NatKind m) h = absurd cc
-  pick_one fs names (IntKind n) (IntKind m) h = absurd cc
-  pick_one fs names (IntKind n) BoolKind h = absurd cc
+  pick_one fs names _ _ h = absurd cc
 
   pick_taken : (fs : List Fact) (names : List Binder) (j : Kind) (ks : List Kind) → IsSorted names (M.Pick j) ks → IsTaken fs names (M.Pick j) ks
   pick_taken fs names j ks q = let r = one_given (is_kind j) (sort_of_kind j) ks q in subst (λ z. IsTaken fs names (M.Pick j) z) (sym r.1) (pick_one fs names j r.0 r.2)

@@ -3,7 +3,7 @@ use Rattle.std.proofs.Common.{◌≡◌, ℕ, ◌==◌, Bool, true, false, cond,
 use Rattle.std.proofs.lemmas.Bool.{and_parts, cond-true, eqb-true, not-true}
 use Rattle.c_values.specs.Name.{Name, same_name, with_name, is_among, are_distinct}
 use Rattle.c_values.specs.Word.{IsWord, word, unsigned, signed}
-use Rattle.c_values.specs.Value.{Value, Bits, Number, Truth, Parts, word_in, number_in}
+use Rattle.c_values.specs.Value.{Value, Bits, Number, word_in, number_in}
 use Rattle.c_values.specs.Layout.{Layout}
 use Rattle.c_values.proofs.Laid.{same_name-refl}
 use Rattle.c_values.proofs.WordValues.{word-unsigned, word-signed}
@@ -37,20 +37,11 @@ recast_sort (WordKind n) (NatKind m) e a h = ap (λ k. word_sort_of (WordKind k)
 recast_sort (WordKind n) (IntKind m) e a h = ap (λ k. word_sort_of (WordKind k)) (sym (same_widths m n (X.ToInt e) a h).0)
 recast_sort (NatKind n) (WordKind m) e a h = ap (λ k. word_sort_of (WordKind k)) (sym (same_widths m n (X.ToWord m e) a h).0)
 recast_sort (IntKind n) (WordKind m) e a h = ap (λ k. word_sort_of (WordKind k)) (sym (same_widths m n (X.ToWord m e) a h).0)
-recast_sort (NatKind n) (IntKind m) e a h = absurd cc
-recast_sort (IntKind n) (NatKind m) e a h = absurd cc
-recast_sort BoolKind (WordKind m) e a h = absurd cc
-recast_sort BoolKind (NatKind m) e a h = absurd cc
-recast_sort BoolKind (IntKind m) e a h = absurd cc
-recast_sort (WordKind n) BoolKind e a h = absurd cc
-recast_sort (NatKind n) BoolKind e a h = absurd cc
-recast_sort (IntKind n) BoolKind e a h = absurd cc
+recast_sort _ _ e a h = absurd cc
 
 is_bits : (n : ℕ) (v : Value) → IsOfSort (word_sort_of (WordKind n)) v → (v ≡ Bits (word_in v)) × IsWord n (word_in v)
 is_bits n (Bits w) h = (refl, h)
-is_bits n (Number z) h = absurd h
-is_bits n (Truth b) h = absurd h
-is_bits n (Parts vs) h = absurd h
+is_bits _ _ h = absurd h
 
 module _ (l : Layout) (env : Env) (s : State) where
   pub recast_value : (j k : Kind) (e a : Exp) (u : Value) → recast j k e ≡ Some a → value l env s e ≡ view_at j u → IsOfSort (word_sort_of j) u → value l env s a ≡ view_at k u
@@ -68,19 +59,11 @@ module _ (l : Layout) (env : Env) (s : State) where
       let w = same_widths m n (X.ToWord m e) a h in
       let b = is_bits n u i in
       ap (value l env s) (sym w.1) ∙ ap₂ (λ k x. Bits (word k (number_in x))) w.0 v ∙ ap (λ x. Bits x) (word-signed n (word_in u) b.1) ∙ sym b.0
-  recast_value (NatKind n) (IntKind m) e a u h v i = absurd cc
-  recast_value (IntKind n) (NatKind m) e a u h v i = absurd cc
-  recast_value BoolKind (WordKind m) e a u h v i = absurd cc
-  recast_value BoolKind (NatKind m) e a u h v i = absurd cc
-  recast_value BoolKind (IntKind m) e a u h v i = absurd cc
-  recast_value (WordKind n) BoolKind e a u h v i = absurd cc
-  recast_value (NatKind n) BoolKind e a u h v i = absurd cc
-  recast_value (IntKind n) BoolKind e a u h v i = absurd cc
+  recast_value _ _ e a u h v i = absurd cc
 
 pub first_inv : (o : Option Exp) (r : Option (List Exp)) (es : List Exp) → recast_first o r ≡ Some es → (e : Exp) × (as' : List Exp) × (o ≡ Some e) × (r ≡ Some as') × (es ≡ e ∷ as')
 first_inv (Some e) (Some as') es h = (e, as', refl, refl, sym (some_is h))
-first_inv None r es h = absurd cc
-first_inv (Some e) None es h = absurd cc
+first_inv _ _ es h = absurd cc
 
 pub recast_sorts : (js ks : List Kind) (ys : List Name) (es : List Exp) → recasts js ks ys ≡ Some es → map word_sort_of js ≡ map word_sort_of ks
 recast_sorts [] [] [] es h = refl

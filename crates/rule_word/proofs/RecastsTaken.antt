@@ -32,18 +32,7 @@ same_kind_is (WordKind m) (WordKind n) h = ap (λ x. WordKind x) (eqb-true m n h
 same_kind_is (NatKind m) (NatKind n) h = ap (λ x. NatKind x) (eqb-true m n h)
 same_kind_is (IntKind m) (IntKind n) h = ap (λ x. IntKind x) (eqb-true m n h)
 same_kind_is BoolKind BoolKind h = refl
-same_kind_is (WordKind m) (NatKind n) h = absurd cc
-same_kind_is (WordKind m) (IntKind n) h = absurd cc
-same_kind_is (WordKind m) BoolKind h = absurd cc
-same_kind_is (NatKind m) (WordKind n) h = absurd cc
-same_kind_is (NatKind m) (IntKind n) h = absurd cc
-same_kind_is (NatKind m) BoolKind h = absurd cc
-same_kind_is (IntKind m) (WordKind n) h = absurd cc
-same_kind_is (IntKind m) (NatKind n) h = absurd cc
-same_kind_is (IntKind m) BoolKind h = absurd cc
-same_kind_is BoolKind (WordKind n) h = absurd cc
-same_kind_is BoolKind (NatKind n) h = absurd cc
-same_kind_is BoolKind (IntKind n) h = absurd cc
+same_kind_is _ _ h = absurd cc
 
 same_kinds_are : (js ks : List Kind) → same_kinds js ks ≡ true → js ≡ ks
 same_kinds_are [] [] h = refl

@@ -97,14 +97,7 @@ module _ (g : Scope) where
       subst (λ z. program_sort g z ≡ Some (Of NumberSort)) (same_widths m n (X.ToInt (X.Var y)) a h).1 (ap (λ o. of_word (word_width (scalar_sort o)) (λ i. number_sort)) q)
   recast_right (NatKind n) (WordKind m) y a h q w = let r = same_widths m n (X.ToWord m (X.Var y)) a h in word_is a y n m r.1 q r.0 w
   recast_right (IntKind n) (WordKind m) y a h q w = let r = same_widths m n (X.ToWord m (X.Var y)) a h in word_is a y n m r.1 q r.0 w
-  recast_right (NatKind n) (IntKind m) y a h q w = absurd cc
-  recast_right (IntKind n) (NatKind m) y a h q w = absurd cc
-  recast_right BoolKind (WordKind m) y a h q w = absurd cc
-  recast_right BoolKind (NatKind m) y a h q w = absurd cc
-  recast_right BoolKind (IntKind m) y a h q w = absurd cc
-  recast_right (WordKind n) BoolKind y a h q w = absurd cc
-  recast_right (NatKind n) BoolKind y a h q w = absurd cc
-  recast_right (IntKind n) BoolKind y a h q w = absurd cc
+  recast_right _ _ y a h q w = absurd cc
 
   recasts_right : (js ks : List Kind) (ys : List Name) (es : List Exp) → recasts js ks ys ≡ Some es → AreNamed g.names ys js → AllWide (map word_sort_of js) → scalars_of g es ≡ Some (map sort_of_kind ks)
   recasts_right [] [] [] es h n w = ap (scalars_of g) (sym (some_is h))
@@ -226,8 +219,7 @@ module _ (ctx : Context) (lay : IsLayout ctx.layout) (calls : WideCalls word_sor
 
   no_name : (p : Place) → IsNoName ctx.layout (global_type ctx.globals) (λ x. None) (λ x. None) (looking_at p)
   no_name (M.Stored t p path) = tt
-  no_name (M.Written t p path) = tt
-  no_name (M.Global x path) = tt
+  no_name _ = tt
 
   place_right : (at : Point) (p p' : Place) (s : Sort) → AreWide at → place_head p' ≡ place_head p → AllHold Holds (each at (place_children p) (owns (G at) (place_children p)) (place_children p')) →
       place_sort (G at) p ≡ Some s → place_sort (H at) p' ≡ Some s

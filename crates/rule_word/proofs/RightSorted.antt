@@ -39,9 +39,7 @@ there f (Some k) = Some (f k)
 
 pub given_kind : (k : Kind) → ◌≡◌ {A = Option Sort} (Some (Of (sort_of_kind k))) (sort_given (view_for k))
 given_kind (WordKind n) = refl
-given_kind (NatKind n) = refl
-given_kind (IntKind n) = refl
-given_kind BoolKind = refl
+given_kind _ = refl
 
 same_number : (n : ℕ) (o : Option Sort) → where_holds (n == n) o ≡ o
 same_number n o = ap (λ b. where_holds b o) ((Decides-eqb n n).1 refl)
@@ -107,8 +105,7 @@ module _ (ctx : Context) where
 
     given_number : (v : View) (fs : List Fact) (r : Exp) → IsInRange fs v r → number_sort ≡ sort_given v
     given_number (AsIs p) fs r k = absurd k
-    given_number (Unsigned n) fs r k = refl
-    given_number (Signed n) fs r k = refl
+    given_number _ _ _ _ = refl
 
     op_sorted : (op : N.NumberOp) (a b a' b' : Exp) (v : View) → is_unary op ≡ false → IsInRange at.facts v (X.Arith op a' b') → Sorted at a v a' → Sorted at b v b' → sort_of h (X.Arith op a' b') ≡ sort_given v
     op_sorted op a b a' b' v u k c d =

@@ -31,8 +31,7 @@ owns_map g (e ∷ es) = ap (λ vs. own g e ∷ vs) (owns_map g es)
 -- what fits is seen in the way that its sort and the whole's view say
 pub again_is : (g : Scope) (d : Exp) (v : View) → Fits g d v → again g v d ≡ v
 again_is g d (AsIs o) h = ap (λ q. AsIs q) (h.1 ∙ sym h.2)
-again_is g d (Unsigned n) h = refl
-again_is g d (Signed n) h = refl
+again_is _ _ _ _ = refl
 
 pub own_is : (g : Scope) (d : Exp) (o : Option Sort) → Fits g d (AsIs o) → own g d ≡ AsIs o
 own_is g d o h = ap (λ q. AsIs q) (h.1 ∙ sym h.2)
@@ -45,8 +44,7 @@ literal_bare v (X.WordLit w) a h = refl
 literal_bare v (X.NumberLit w) a h = refl
 literal_bare v (X.TruthLit w) a h = refl
 literal_bare (AsIs o) e a h = absurd cc
-literal_bare (Unsigned n) e a h = absurd cc
-literal_bare (Signed n) e a h = absurd cc
+literal_bare _ e a h = absurd cc
 
 module _ (g : Scope) (at : Point) where
   literal_thens : (v : View) (e a : Exp) → constant v e ≡ Some a → exp_thens g at e v a ≡ []
@@ -54,30 +52,20 @@ module _ (g : Scope) (at : Point) where
   literal_thens v (X.NumberLit w) a h = refl
   literal_thens v (X.TruthLit w) a h = refl
   literal_thens (AsIs o) e a h = absurd cc
-  literal_thens (Unsigned n) e a h = absurd cc
-  literal_thens (Signed n) e a h = absurd cc
+  literal_thens _ e a h = absurd cc
 
   -- nothing is under more facts where the right side has one operand
   word_thens : (e : Exp) (v : View) (n : ℕ) (a : Exp) → exp_thens g at e v (X.ToWord n a) ≡ []
   word_thens (X.And a b) v n d = refl
-  word_thens (X.Or a b) v n d = refl
-  word_thens (X.Imp a b) v n d = refl
-  word_thens (X.If c a b) v n d = refl
-  word_thens e v n d = refl
+  word_thens _ _ _ _ = refl
 
   nat_thens : (e : Exp) (v : View) (a : Exp) → exp_thens g at e v (X.ToNat a) ≡ []
   nat_thens (X.And a b) v d = refl
-  nat_thens (X.Or a b) v d = refl
-  nat_thens (X.Imp a b) v d = refl
-  nat_thens (X.If c a b) v d = refl
-  nat_thens e v d = refl
+  nat_thens _ _ _ = refl
 
   int_thens : (e : Exp) (v : View) (a : Exp) → exp_thens g at e v (X.ToInt a) ≡ []
   int_thens (X.And a b) v d = refl
-  int_thens (X.Or a b) v d = refl
-  int_thens (X.Imp a b) v d = refl
-  int_thens (X.If c a b) v d = refl
-  int_thens e v d = refl
+  int_thens _ _ _ = refl
 
   -- of a head that other rules are for nothing is left
   plain_firsts : (a : Exp) → is_operator a ≡ true → firsts a ≡ children a

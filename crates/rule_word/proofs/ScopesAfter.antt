@@ -4,7 +4,7 @@ use Rattle.c_values.specs.Name.{Name, same_name, with_name}
 use Rattle.c_values.specs.Value.{Value}
 use Rattle.c_values.proofs.Options.{some_is}
 use Rattle.expression_lang.specs.Evaluation.{Env}
-use Rattle.expression_lang.specs.Sort.{Scalar, Sort, Of, Kind, WordKind, NatKind, IntKind, BoolKind, word_sort_of}
+use Rattle.expression_lang.specs.Sort.{Scalar, Sort, Of, Kind, WordKind, word_sort_of}
 use Rattle.expression_lang.specs.Sorted.{names_with}
 use Rattle.expression_lang.specs.Signature.{Binder, binder, bound}
 use Rattle.expression_lang.specs.View.{view_at, views_at}
@@ -26,15 +26,11 @@ setting_after f ctx xs ks bs =
 
 pub seen_kind : (k : Kind) (v : Value) → seen (view_for k) v ≡ view_at k v
 seen_kind (WordKind n) v = refl
-seen_kind (NatKind n) v = refl
-seen_kind (IntKind n) v = refl
-seen_kind BoolKind v = refl
+seen_kind _ _ = refl
 
 pub sort_of_view : (k : Kind) → ◌≡◌ {A = Option Sort} (sort_seen (view_for k)) (Some (Of (word_sort_of k)))
 sort_of_view (WordKind n) = refl
-sort_of_view (NatKind n) = refl
-sort_of_view (IntKind n) = refl
-sort_of_view BoolKind = refl
+sort_of_view _ = refl
 
 one_seen : (k : Kind) (u u' w : Value) (o : Option View) (v : View) (b : Bool) → (o ≡ Some v → u' ≡ seen v u) → cond b (Some (view_for k)) o ≡ Some v → cond b (view_at k w) u' ≡ seen v (cond b w u)
 one_seen k u u' w o v true h e = subst (λ x. view_at k w ≡ seen x w) (some_is e) (sym (seen_kind k w))

@@ -4,7 +4,7 @@ use Rattle.c_values.specs.Name.{Name, are_distinct}
 use Rattle.expression_lang.specs.Sort.{Scalar, Kind, Scope, is_truth}
 use Rattle.expression_lang.specs.Sorted.{scope_with, program_sort, scalars_of, call_scalars, same_scalars, result_scalars}
 use Rattle.expression_lang.specs.Signature.{Signature, signature, kinds_of}
-use Rattle.monad_lang.specs.Program.{Mon, Ret, Bind, Guard, If, Write, Loop, Call, Pick}
+use Rattle.monad_lang.specs.Program.{Mon, Bind, If, Loop, Call}
 use Rattle.monad_lang.specs.Run.{start_names}
 use Rattle.monad_lang.specs.Sorted.{Setting, scalars_given, start_scalars, and_then_scalars, where_fits, are_scalars, one_for_each}
 
@@ -26,11 +26,10 @@ SignedAlike f g (Some a) (Some b) = TakesAlike f g a b
 SignedAlike f g _ _ = ⊥
 
 calls_alike : (f g : Kind → Scalar) (a b : Option Signature) → SignedAlike f g a b → (o : Option (List Scalar)) → call_scalars f a o ≡ call_scalars g b o
-calls_alike f g None None h o = refl
-calls_alike f g (Some a) (Some b) h None = refl
 calls_alike f g (Some a) (Some b) h (Some ss) = ap₂ (λ cs r. cond (same_scalars cs ss) (Some r) None) h.takes h.gives
 calls_alike f g None (Some b) h o = absurd h
 calls_alike f g (Some a) None h o = absurd h
+calls_alike _ _ _ _ _ _ = refl
 
 module _ (f g : Kind → Scalar) (fs gs : List Signature) (alike : (x : Name) → SignedAlike f g (signature fs x) (signature gs x)) where
   abbrev one : Scope → Setting
@@ -40,18 +39,15 @@ module _ (f g : Kind → Scalar) (fs gs : List Signature) (alike : (x : Name) �
   other s = record { scope = s; functions = gs; sort_for = g }
 
   pub given_alike : (m : Mon) (s : Scope) → scalars_given (record { scope = s; functions = fs; sort_for = f }) m ≡ scalars_given (record { scope = s; functions = gs; sort_for = g }) m
-  given_alike (Ret es) s = refl
   given_alike (Bind m xs n) s =
       then_same (scalars_given (one s) m) (scalars_given (other s) m) _ _ (given_alike m s)
       (λ ss. ap (where_fits (one_for_each xs ss && are_distinct xs)) (given_alike n (scope_with xs ss s)))
-  given_alike (Guard e) s = refl
   given_alike (If e m n) s =
       then_same (scalars_given (one s) m) (scalars_given (other s) m) _ _ (given_alike m s)
       (λ ss. ap (λ o. where_fits (is_truth (program_sort s e) && are_scalars ss o) (Some ss)) (given_alike n s))
-  given_alike (Write place e) s = refl
   given_alike (Loop starts guard test m) s =
       then_same (start_scalars s starts) (start_scalars s starts) _ _ refl
       (λ ss. let inner = scope_with (start_names starts) ss s in
       ap (λ o. where_fits (are_distinct (start_names starts) && is_truth (program_sort inner guard) && is_truth (program_sort inner test) && are_scalars ss o) (Some ss)) (given_alike m inner))
   given_alike (Call x es) s = calls_alike f g (signature fs x) (signature gs x) (alike x) (scalars_of s es)
-  given_alike (Pick k) s = refl
+  given_alike _ _ = refl

@@ -6,7 +6,7 @@ use Rattle.c_values.specs.Name.{Name}
 use Rattle.c_values.specs.Word.{Word, IsWord, unsigned, signed, word, WordOp, Wadd, Wsub, Wmul, Wudiv, Wumod, Wsdiv, Wsmod, Wneg, Wult, Wule, Wslt, Wsle, word_op, word_unary}
 use Rattle.c_values.specs.Number as N
 use Rattle.c_values.specs.Number.{quotient, remainder, is_between, least, greatest}
-use Rattle.c_values.specs.Value.{Value, Bits, Number, Truth, Parts, word_in, number_in, truth_in, same_value}
+use Rattle.c_values.specs.Value.{Value, Bits, Number, Truth, word_in, number_in, truth_in, same_value}
 use Rattle.c_values.specs.Layout.{Layout, IsLayout, GlobalVar, global_type}
 use Rattle.c_values.specs.Path.{IsBits}
 use Rattle.c_values.proofs.WordResults.{unsigned_quotient, unsigned_remainder, positive_cast}
@@ -38,9 +38,7 @@ use Rattle.rule_word.proofs.SameWords.{unsigned_same, signed_same}
 
 is_bits : (n : ℕ) (v : Value) → IsBits n v → (v ≡ Bits (word_in v)) × IsWord n (word_in v)
 is_bits n (Bits w) h = (refl, h)
-is_bits n (Number z) h = absurd h
-is_bits n (Truth b) h = absurd h
-is_bits n (Parts vs) h = absurd h
+is_bits _ _ h = absurd h
 
 pub one_less : (m n : ℕ) → suc m ≡ suc n → m ≡ n
 one_less m n h = cc

@@ -59,14 +59,10 @@ each_turn turns P next h [] a = tt
 each_turn turns P next h (f ∷ fs) a = λ t. (h fs a, λ b n. each_turn turns P next h fs b)
 
 everywhere : (l : Layout) (p : Choice) (m : Mon) (env : Env) (depth : Option ℕ) (fs : List Runs) (s : State) → AtEach l p Nothing m env depth fs s
-everywhere l p (M.Ret es) env depth fs s = tt
 everywhere l p (M.Bind m xs n) env depth fs s = (everywhere l p m env depth fs s, λ a r. everywhere l p n (bound xs a.values env) depth fs a.state)
-everywhere l p (M.Guard e) env depth fs s = tt
 everywhere l p (M.If e m n) env depth fs s = (if_true (holds l env s e) _ (everywhere l p m env depth fs s), if_false (holds l env s e) _ (everywhere l p n env depth fs s))
-everywhere l p (M.Write place e) env depth fs s = tt
 everywhere l p (M.Loop starts guard test m) env depth fs s = each_turn _ _ _ (λ gs a. everywhere l p m (bound (start_names starts) a.values env) depth gs a.state) fs _
-everywhere l p (M.Call f es) env depth fs s = tt
-everywhere l p (M.Pick k) env depth fs s = tt
+everywhere _ _ _ _ _ _ _ = tt
 
 taken_by_name : (f : FinalFn) (o : Option FinalFn) (q : Option Signature) (g : Signature) (vs : List Value) → AreOfKinds (kinds_of g.params) vs → (b : Bool) → (q ≡ Some g → TakesThem o vs) → cond b (Some (signature_of f)) q ≡ Some g → TakesThem (cond b (Some f) o) vs
 taken_by_name f o q g vs h true k e = subst (λ (s : Signature). AreOfKinds (kinds_of s.params) vs) (sym (some_is e)) h
@@ -85,14 +81,9 @@ covered l (Written t p path) (Written t' p' path') e e' env env' s h k c =
       ap (λ (v : Value). is_tagged l s.heap t (word_in v).bits) (ap first_of k) ∙ c.0,
       ap (in_range (shape_of l t)) (steps_same l env env' s s path path' (ap path_in h) (ap others_of k)) ∙ c.1,
     )
-covered l (Stored t p path) (Stored t' p' path') e e' env env' s h k c = tt
-covered l (Global x path) (Global x' path') e e' env env' s h k c = tt
-covered l (Written t p path) (Stored t' p' path') e e' env env' s h k c = tt
-covered l (Written t p path) (Global x' path') e e' env env' s h k c = tt
 covered l (Stored t p path) (Written t' p' path') e e' env env' s h k c = absurd cc
-covered l (Stored t p path) (Global x' path') e e' env env' s h k c = tt
 covered l (Global x path) (Written t' p' path') e e' env env' s h k c = absurd cc
-covered l (Global x path) (Stored t' p' path') e e' env env' s h k c = tt
+covered _ _ _ _ _ _ _ _ _ _ _ = tt
 
 turned_round : {A B F G : Type 0} (answers : A → B → Type 0) (faults : F → G → Type 0) (p : Ends A F) (q : Ends B G) → Corresponds answers faults p q → Corresponds (λ b a. answers a b) (λ g f. faults f g) q p
 turned_round answers faults p q c = both (back c) (there c)

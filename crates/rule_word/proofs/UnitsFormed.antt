@@ -3,7 +3,7 @@ use Rattle.std.proofs.Common.{◌≡◌, Bool, true, false, cond, ◌&&◌, List
 use Rattle.std.proofs.lemmas.Bool.{and_parts, and_from}
 use Rattle.c_values.specs.Name.{same_name, are_distinct}
 use Rattle.c_values.specs.Layout.{IsLayout}
-use Rattle.expression_lang.specs.Sort.{Scalar, Kind, WordKind, NatKind, IntKind, BoolKind, Of, sort_of_kind, word_sort_of, is_kind, are_kinds}
+use Rattle.expression_lang.specs.Sort.{Scalar, Kind, WordKind, Of, sort_of_kind, word_sort_of, is_kind, are_kinds}
 use Rattle.expression_lang.specs.Sorted.{call_scalars, result_scalars}
 use Rattle.expression_lang.specs.Signature.{Signature, signature, names_of, kinds_of}
 use Rattle.monad_lang.specs.Program.{FinalFn, FinalUnit}
@@ -22,9 +22,7 @@ use Rattle.rule_word.proofs.KindsStay.{word_kind}
 
 kind_wide : (k : Kind) → is_kind k ≡ true → IsWide (Some (Of (sort_of_kind k)))
 kind_wide (WordKind n) h = h
-kind_wide (NatKind n) h = tt
-kind_wide (IntKind n) h = tt
-kind_wide BoolKind h = tt
+kind_wide _ _ = tt
 
 kinds_wide : (ks : List Kind) → are_kinds ks ≡ true → AllWide (map sort_of_kind ks)
 kinds_wide [] h = tt

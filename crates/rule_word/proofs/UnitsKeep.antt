@@ -171,8 +171,7 @@ module _ (u v : FinalUnit) (lay : IsLayout v.layout) (abstracted : IsUnitAbstrac
       (found_keeps f g h.0 h.1 depth fs gs k c.arguments c'.arguments c.state c'.state
       (subst (λ (r : Signature). AreOfSorts (map word_sort_of (kinds_of r.params)) c.arguments) (sym q) words) (args ∙ ap (λ (r : Signature). views_at (kinds_of r.params) c.arguments) (sym q)) state i)
   function_keeps (Some f) (Some g) None h q depth fs gs k c c' words args state i = absurd q
-  function_keeps (Some f) None s h q depth fs gs k c c' words args state i = absurd h
-  function_keeps None (Some g) s h q depth fs gs k c c' words args state i = absurd h
+  function_keeps _ _ _ h _ _ _ _ _ _ _ _ _ _ _ = absurd h
 
   bodies_keep : are_fns_sorted u u.functions ≡ true → (fs gs : List Runs) → Paired (Function (context_of v) lay p) fs gs → WordsKept (context_of v) (bodies u p fs) (bodies v p gs)
   bodies_keep sorted fs gs k depth c c' h =

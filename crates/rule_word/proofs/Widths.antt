@@ -2,13 +2,13 @@
 use Rattle.std.proofs.Common.{◌≡◌, ◌==◌, ◌*◌, ◌/◌, ◌^◌, nat_lt, ℕ, Bool, true, false, not, cond, ◌&&◌, inl, inr, Option, Some, None, refl, subst, ap, ◌∙◌}
 use Rattle.std.proofs.lemmas.Bool.{and_parts}
 use Rattle.c_values.specs.Types.{Target, Ilp32, Lp64, CType, address_width}
-use Rattle.c_values.specs.Layout.{IsLayout, Shape, Incomplete, Scalar as WordShape, Record, Row as Elements, shape_of, is_object}
+use Rattle.c_values.specs.Layout.{IsLayout, Shape, Scalar as WordShape, Record, Row as Elements, shape_of, is_object}
 use Rattle.c_values.specs.Path.{Spot, member_spot}
 use Rattle.c_values.proofs.Formed.{IsAlignment}
 use Rattle.c_values.proofs.Laid.{shape_good}
 use Rattle.expression_lang.specs.Expression as X
 use Rattle.expression_lang.specs.Expression.{Exp, Path}
-use Rattle.expression_lang.specs.Sort.{Scalar, WordSort, NumberSort, TruthSort, Sort, Of, PartsSort, Scope, sort_of, shape_along, shape_in, sort_at, parts_shape, word_sort, number_sort, truth_sort, word_width, is_width, is_number, is_truth, is_word_of, is_unary, is_one_step, are_same, cast_fits, where_holds, of_words, of_word, of_shape, of_type, scalar_sort}
+use Rattle.expression_lang.specs.Sort.{Scalar, WordSort, Sort, Of, PartsSort, Scope, sort_of, shape_along, shape_in, sort_at, parts_shape, word_sort, number_sort, truth_sort, word_width, is_width, is_number, is_truth, is_word_of, is_unary, is_one_step, are_same, cast_fits, where_holds, of_words, of_word, of_shape, of_type, scalar_sort}
 use Rattle.expression_lang.proofs.Good.{Good, good_object, good_member}
 use Rattle.expression_lang.proofs.WholeShapes.{parts_complete}
 
@@ -38,17 +38,11 @@ module _ (g : Scope) (lay : IsLayout g.layout) (wide : (x : _) (n : ℕ) → g.n
       by_other : (p : Option ℕ) → IsWide (of_words (Some m) p word_sort)
       by_other (Some n) = where_wide (m == n) (word_sort m) (λ e. w)
       by_other None = tt
-  words_wide (Some (Of NumberSort)) q w = tt
-  words_wide (Some (Of TruthSort)) q w = tt
-  words_wide (Some (PartsSort t)) q w = tt
-  words_wide None q w = tt
+  words_wide _ _ _ = tt
 
   word_wide : (o : Option Sort) → IsWide o → IsWide (of_word (word_width o) word_sort)
   word_wide (Some (Of (WordSort m))) w = w
-  word_wide (Some (Of NumberSort)) w = tt
-  word_wide (Some (Of TruthSort)) w = tt
-  word_wide (Some (PartsSort t)) w = tt
-  word_wide None w = tt
+  word_wide _ _ = tt
 
   some_word : (o : Option ℕ) (f : ℕ → Option Sort) → ((n : ℕ) → IsWide (f n)) → IsWide (of_word o f)
   some_word (Some n) f w = w n
@@ -56,8 +50,7 @@ module _ (g : Scope) (lay : IsLayout g.layout) (wide : (x : _) (n : ℕ) → g.n
 
   both_words : (o q : Option ℕ) → IsWide (of_words o q (λ n. truth_sort))
   both_words (Some m) (Some n) = truth_wide (m == n)
-  both_words (Some m) None = tt
-  both_words None q = tt
+  both_words _ _ = tt
 
   shape_wide : (o : Option Shape) (f : Shape → Option Sort) → ((s : Shape) → o ≡ Some s → IsWide (f s)) → IsWide (of_shape o f)
   shape_wide (Some s) f w = w s refl
@@ -69,9 +62,7 @@ module _ (g : Scope) (lay : IsLayout g.layout) (wide : (x : _) (n : ℕ) → g.n
 
   name_wide : (o : Option Scalar) → ((n : ℕ) → o ≡ Some (WordSort n) → is_width n ≡ true) → IsWide (scalar_sort o)
   name_wide (Some (WordSort n)) w = w n refl
-  name_wide (Some NumberSort) w = tt
-  name_wide (Some TruthSort) w = tt
-  name_wide None w = tt
+  name_wide _ _ = tt
 
   aligned_wide : (n a : ℕ) → n ≡ 8 * a → IsAlignment a → is_width n ≡ true
   aligned_wide n a e (inl h) = ap is_width (e ∙ ap (λ b. 8 * b) h)
@@ -80,31 +71,24 @@ module _ (g : Scope) (lay : IsLayout g.layout) (wide : (x : _) (n : ℕ) → g.n
   aligned_wide n a e (inr (inr (inr h))) = ap is_width (e ∙ ap (λ b. 8 * b) h)
 
   place_wide : (s : Shape) → Good g.layout s → IsWide (sort_at s)
-  place_wide Incomplete k = tt
   place_wide (WordShape t n) k = aligned_wide n (n / 8) k.formed.whole k.formed.bytes
-  place_wide (Record x n align fs) k = tt
-  place_wide (Elements r n) k = tt
+  place_wide _ _ = tt
 
   -- the shape that a path leads to
   along_good : (path : Path) (s q : Shape) → shape_along g path s ≡ Some q → Good g.layout s → Good g.layout q
   along_good X.Here s q e k = let same : s ≡ q = cc in subst (λ r. Good g.layout r) same k
-  along_good (X.IntoField i path) Incomplete q e k = absurd cc
-  along_good (X.IntoField i path) (WordShape t n) q e k = absurd cc
-  along_good (X.IntoField i path) (Elements r n) q e k = absurd cc
   along_good (X.IntoField i path) (Record x n align fs) q e k = by_member (member_spot fs i) refl e (λ r. along_good path r q)
     where
       by_member : (o : Option Spot) → member_spot fs i ≡ o → shape_in o (λ r. shape_along g path r) ≡ Some q →
           ((r : Shape) → shape_along g path r ≡ Some q → Good g.layout r → Good g.layout q) → Good g.layout q
       by_member None same e' rest = absurd cc
       by_member (Some r) same e' rest = rest r.shape e' (good_member g.layout fs align n 0 i r k.formed.members k.laid.members same)
-  along_good (X.IntoElement i path) Incomplete q e k = absurd cc
-  along_good (X.IntoElement i path) (WordShape t n) q e k = absurd cc
-  along_good (X.IntoElement i path) (Record x n align fs) q e k = absurd cc
   along_good (X.IntoElement i path) (Elements r n) q e k = by_index (is_number (sort_of g i)) e (along_good path r q)
     where
       by_index : (b : Bool) → cond b (shape_along g path r) None ≡ Some q → (shape_along g path r ≡ Some q → Good g.layout r → Good g.layout q) → Good g.layout q
       by_index true e' rest = rest e' (record { formed = k.formed.element; laid = k.laid })
       by_index false e' rest = absurd cc
+  along_good _ _ q e k = absurd cc
 
   part_wide : (path : Path) (s : Shape) → Good g.layout s → IsWide (of_shape (shape_along g path s) sort_at)
   part_wide path s k = shape_wide (shape_along g path s) sort_at (λ q e. place_wide q (along_good path s q e k))
@@ -119,15 +103,12 @@ module _ (g : Scope) (lay : IsLayout g.layout) (wide : (x : _) (n : ℕ) → g.n
 
   -- a value that has parts
   parts_wide : (o : Option Sort) (f : Shape → Option Sort) → ((t : CType) → o ≡ Some (PartsSort t) → IsWide (f (shape_of g.layout t))) → IsWide (of_shape (parts_shape g.layout o) f)
-  parts_wide None f w = tt
-  parts_wide (Some (Of c)) f w = tt
   parts_wide (Some (PartsSort t)) f w = w t refl
+  parts_wide _ _ _ = tt
 
   pub expression_wide : (e : Exp) → IsWide (sort_of g e)
   expression_wide (X.Var x) = name_wide (g.names x) (wide x)
   expression_wide (X.WordLit w) = where_wide (is_width w.width && nat_lt w.bits (2 ^ w.width)) (word_sort w.width) (λ e. (and_parts (is_width w.width) (nat_lt w.bits (2 ^ w.width)) e).0)
-  expression_wide (X.NumberLit n) = tt
-  expression_wide (X.TruthLit b) = tt
   expression_wide (X.WordBinary op a b) = words_wide (sort_of g a) (sort_of g b) (expression_wide a)
   expression_wide (X.WordShift op a n) = where_wide (is_number (sort_of g n)) (of_word (word_width (sort_of g a)) word_sort) (λ e. word_wide (sort_of g a) (expression_wide a))
   expression_wide (X.WordUnary op a) = word_wide (sort_of g a) (expression_wide a)
@@ -168,6 +149,7 @@ module _ (g : Scope) (lay : IsLayout g.layout) (wide : (x : _) (n : ℕ) → g.n
       parts_wide (sort_of g a) (λ s. of_shape (shape_along g path s) (λ q. where_holds (are_same (sort_at q) (sort_of g v)) (sort_of g a)))
       (λ t i. shape_wide (shape_along g path (shape_of g.layout t)) (λ q. where_holds (are_same (sort_at q) (sort_of g v)) (sort_of g a))
       (λ q e. where_wide (are_same (sort_at q) (sort_of g v)) (sort_of g a) (λ e'. expression_wide a)))
+  expression_wide _ = tt
 
   -- so words of the scope have one of the four widths
   pub has_widths : (e : Exp) (n : ℕ) → sort_of g e ≡ word_sort n → is_width n ≡ true

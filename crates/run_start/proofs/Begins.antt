@@ -4,7 +4,7 @@ use Rattle.std.specs.Prelude.{nat_lt}
 use Rattle.std.specs.Option.{option_map}
 use Rattle.std.proofs.lemmas.Bool.{and_parts}
 use Rattle.c_values.specs.Name.{Name, same_name, are_distinct}
-use Rattle.c_values.specs.Types.{CType, Integer, Void, Ptr, Struct, Array}
+use Rattle.c_values.specs.Types.{CType, Integer, Ptr}
 use Rattle.c_values.specs.Value.{Value, Values, no_values, more}
 use Rattle.c_values.specs.Layout.{Layout, shape_of, is_scalar}
 use Rattle.c_values.specs.Path.{HasShape}
@@ -46,9 +46,7 @@ memory_parts u m h =
 scalar_typed : (l : Layout) (t : CType) (v : Value) → is_scalar t ≡ true → HasShape (shape_of l t) v → IsOfType l t v
 scalar_typed l (Integer i) v is h = h
 scalar_typed l (Ptr t) v is h = h
-scalar_typed l Void v is h = absurd cc
-scalar_typed l (Struct x) v is h = absurd cc
-scalar_typed l (Array t n) v is h = absurd cc
+scalar_typed l _ v is h = absurd cc
 
 words_typed : (l : Layout) (xs : List Variable) (vs : Values) → are_variables xs ≡ true → are_values l.target (map (λ (v : Variable). shape_of l v.type) xs) vs ≡ true →
     AreOfTypes l xs (listed (all_as_words (map (λ (v : Variable). shape_of l v.type) xs) vs))

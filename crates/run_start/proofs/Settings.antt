@@ -27,8 +27,7 @@ AreShaped l (g ∷ gs) [] = ⊥
 
 taken : (a b : Bool) (gs : List GlobalVar) (test : List GlobalVar → Bool) → goes_on (cond a (cond b (Some gs) None) None) test ≡ true → (b ≡ true) × (test gs ≡ true)
 taken true true gs test h = (refl, h)
-taken true false gs test h = absurd cc
-taken false b gs test h = absurd cc
+taken _ _ gs test h = absurd cc
 
 pub values_shaped : (l : Layout) (gs : List GlobalVar) (ss : List Setting) → AreInitialised l gs → are_chained (after_setting l) gs ss ≡ true → AreShaped l gs (values_set l gs ss)
 values_shaped l [] ss initials h = tt

@@ -83,11 +83,8 @@ module _ (u : TypedUnit) (levels : Name → Level) (a : FinalUnit) (f : TypedFn)
         ReturnsAs u.layout (result_kind u.layout.target level f.result) (heap_for u.layout (is_lifted level)) (λ end. c ≡ end) r
     agree (Done q) h r e = subst (λ (x : Answer). ReturnsAs u.layout (result_kind u.layout.target level f.result) (heap_for u.layout (is_lifted level)) (λ end. c ≡ end) x) (done_same q r (Done q) refl e)
         (returned q (from.results (sound q (narrows.done q h)) q (narrows.done q h)))
-    agree (Failed t) h r e = absurd cc
-    agree (Stopped w) h r e = absurd cc
+    agree _ h r e = absurd cc
 
   pub fail : (p : Outcome Answer W.Trouble) → wide_ends u level a f b (heap_for u.layout (is_lifted level) b.memory) p → p ≡ Failed W.Fails → IsUndefined (c_ends u levels f b)
   fail (Failed W.Fails) h e = from.fails (narrows.fails h)
-  fail (Failed (W.IsWide o)) h e = absurd cc
-  fail (Done a) h e = absurd cc
-  fail (Stopped w) h e = absurd cc
+  fail _ h e = absurd cc

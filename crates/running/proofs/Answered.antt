@@ -14,7 +14,7 @@ use Rattle.memory_text.specs.MemoryText.{Memory, most_turns}
 use Rattle.memory_text.specs.Answer.{IsMemoryText}
 use Rattle.memory_text.specs.declared.fault.MemoryFault.TheVariants as M
 use Rattle.answers.specs.declared.status.Status.{Status}
-use Rattle.answers.specs.declared.status.Status.TheVariants.{Done, No, Words, Source, Text, ReadFault, WriteFault, Limit, Memory as Short, NotYet}
+use Rattle.answers.specs.declared.status.Status.TheVariants.{Done, No, Text, Limit}
 use Rattle.checking.specs.Checked.{target_for, level_in}
 use Rattle.checking.specs.CodeJudged.{IsAcceptedAs, IsTurnedAway}
 use Rattle.checking.specs.declared.verdicts.Accepted.{Accepted}
@@ -25,14 +25,7 @@ module _ (target : Target) (text memory : List ℕ) (unit : TypedUnit) where
   pub turned_away : (status : Status) (lines : List ℕ) → IsTurnedAway target text unit status lines → IsRan target text memory unit status lines
   turned_away Text lines h = inl h
   turned_away No lines h = h
-  turned_away Done lines h = absurd h
-  turned_away Words lines h = absurd h
-  turned_away Source lines h = absurd h
-  turned_away ReadFault lines h = absurd h
-  turned_away WriteFault lines h = absurd h
-  turned_away Limit lines h = absurd h
-  turned_away Short lines h = absurd h
-  turned_away NotYet lines h = absurd h
+  turned_away _ _ h = absurd h
 
   module _ (typed : IsWellTyped unit) (c : Certificate) (for_target : target_for c.version ≡ target) (a : Accepted) (is : IsAcceptedAs text unit c a) where
     of_accepted : (next : List Steps → Type 0) → next c.functions → OfAccepted target unit text next
@@ -47,13 +40,7 @@ module _ (target : Target) (text memory : List ℕ) (unit : TypedUnit) where
     after_certificate Done lines h = of_accepted (OfMemory unit memory lines) h
     after_certificate Limit lines h = of_accepted (λ cs. HasTooManyTurns unit memory lines) h
     after_certificate Text lines h = inr (of_accepted (λ cs. IsNoMemory unit memory lines ⊎ IsBadlyTagged unit memory lines) h)
-    after_certificate No lines h = absurd h
-    after_certificate Words lines h = absurd h
-    after_certificate Source lines h = absurd h
-    after_certificate ReadFault lines h = absurd h
-    after_certificate WriteFault lines h = absurd h
-    after_certificate Short lines h = absurd h
-    after_certificate NotYet lines h = absurd h
+    after_certificate _ _ h = absurd h
 
 module _ (unit : TypedUnit) (cs : List Steps) (text : List ℕ) where
 
@@ -62,14 +49,7 @@ module _ (unit : TypedUnit) (cs : List Steps) (text : List ℕ) where
     from_memory Done lines h = record { memory = m; text = record { is_text = is; within = within }; runs = h }
     from_memory Text lines (fault, first, written) =
         inr (record { memory = m; text = record { is_text = is; within = within }; fault = fault; first = first; written = written })
-    from_memory No lines h = absurd h
-    from_memory Limit lines h = absurd h
-    from_memory Words lines h = absurd h
-    from_memory Source lines h = absurd h
-    from_memory ReadFault lines h = absurd h
-    from_memory WriteFault lines h = absurd h
-    from_memory Short lines h = absurd h
-    from_memory NotYet lines h = absurd h
+    from_memory _ _ h = absurd h
 
   pub bad_tag : (m : Memory) (fault : HeapFault) (status : Status) (lines : List ℕ) →
       (fault ≡ H.Memory) ⊎ (first_fault unit.layout [] 0 m.tags ≡ Some fault) → (status ≡ Text) × (lines ≡ heap_text fault) × (fault ≡ H.Memory → ⊥) →

@@ -4,7 +4,7 @@ use Rattle.correspondence.specs.Outcome.{Outcome, Done, Failed, Stopped}
 use Rattle.expression_lang.specs.GuardKind.{GuardKind}
 use Rattle.expression_lang.specs.Machine.{Returned}
 use Rattle.monad_lang.specs.Run.{Answer}
-use Rattle.program_runs.specs.WideRun.{Trouble, Fails, IsWide}
+use Rattle.program_runs.specs.WideRun.{Trouble, Fails}
 use Rattle.acceptance_laws.proofs.AcceptedExact.{accepted_is_exact}
 use Rattle.certificate_text.specs.CertificateText.{Certificate}
 use Rattle.run_start.specs.Start.{bytes_in, globals_in, arguments_in, nested_calls}
@@ -20,18 +20,10 @@ use Rattle.running.proofs.Starts.{found, is_begin}
 use Rattle.running.proofs.Agree as both
 
 pub same_verdict : (c : Outcome Returned GuardKind) (p : Outcome Answer Trouble) → verdict_for (c_came c) (program_came p) ≡ verdict c (told p)
-same_verdict (Done r) (Done a) = refl
 same_verdict (Done r) (Failed Fails) = refl
-same_verdict (Done r) (Failed (IsWide o)) = refl
-same_verdict (Done r) (Stopped w) = refl
-same_verdict (Failed k) (Done a) = refl
 same_verdict (Failed k) (Failed Fails) = refl
-same_verdict (Failed k) (Failed (IsWide o)) = refl
-same_verdict (Failed k) (Stopped w) = refl
-same_verdict (Stopped v) (Done a) = refl
 same_verdict (Stopped v) (Failed Fails) = refl
-same_verdict (Stopped v) (Failed (IsWide o)) = refl
-same_verdict (Stopped v) (Stopped w) = refl
+same_verdict _ _ = refl
 
 module _ (s : S.Start) (is : IsStart s) (text : List ℕ) (c : Certificate) (a : Accepted) (accepted : IsAcceptedAs text (unit_at s) c a) where
   pub both_run : (first second third : List ℕ) (came went : C.Came) (said : Verdict) → CSide s [] first came → ProgramSide s c.functions first second went →

@@ -165,10 +165,8 @@ module _ (s : S.Start) (is : IsStart s) (u : U.SimplUnit) (made : simpl_unit_of 
           globals = of_types_there u.layout (unit_at s).layout u.globals.items s.unit.now.globals.items st.globals.items layouts globals lasts.globals;
         },
       )
-      outcome_held (O.TheVariants.Guard k) h lasts = h
-      outcome_held O.TheVariants.OutOfTurns h lasts = h
-      outcome_held O.TheVariants.Deep h lasts = h
       outcome_held O.TheVariants.Memory h lasts = tt
+      outcome_held _ h _ = h
 
       is_end : (p q : Ends Returned GuardKind) → ((o : Outcome Returned GuardKind) → p o → q o) → (o : O.COutcome) → IsEnd u p o → IsEnd u q o
       is_end p q f (O.TheVariants.Value v st) h = f _ h

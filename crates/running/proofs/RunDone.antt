@@ -19,7 +19,7 @@ use Rattle.memory_text.specs.Answer.{IsMemoryText, IsFaultOf}
 use Rattle.memory_text.specs.declared.fault.MemoryFault.TheVariants as M
 use Rattle.memory_text.proofs.MemoryLaws.{memory_reads}
 use Rattle.answers.specs.declared.status.Status.{Status}
-use Rattle.answers.specs.declared.status.Status.TheVariants.{Done, No, Words, Source, Text, ReadFault, WriteFault, Limit, Memory as Short, NotYet}
+use Rattle.answers.specs.declared.status.Status.TheVariants.{Done, No, Text, Limit}
 use Rattle.checking.specs.Checked.{IsAcceptedText}
 use Rattle.checking.proofs.AcceptedText.{accepted_is_done}
 use Rattle.running.specs.Ran.{IsNoMemory, IsBadlyTagged, HasTooManyTurns, IsRan}
@@ -73,9 +73,4 @@ module _ (unit : TypedUnit) (text : List ℕ) (m : Memory) (is : IsMemoryText un
     runs_are_done Limit lines h = absurd (few_turns within lines h.answer)
     runs_are_done Text lines (inl h) = accepted_is_done target certificate unit c accepted Text lines h
     runs_are_done Text lines (inr h) = absurd (bad_text lines h.answer)
-    runs_are_done Words lines h = absurd h
-    runs_are_done Source lines h = absurd h
-    runs_are_done ReadFault lines h = absurd h
-    runs_are_done WriteFault lines h = absurd h
-    runs_are_done Short lines h = absurd h
-    runs_are_done NotYet lines h = absurd h
+    runs_are_done _ _ h = absurd h

@@ -13,18 +13,7 @@ same_kind_is (WordKind m) (WordKind n) h = ap (λ i. WordKind i) (eqb-true m n h
 same_kind_is (NatKind m) (NatKind n) h = ap (λ i. NatKind i) (eqb-true m n h)
 same_kind_is (IntKind m) (IntKind n) h = ap (λ i. IntKind i) (eqb-true m n h)
 same_kind_is BoolKind BoolKind h = refl
-same_kind_is (WordKind m) (NatKind n) h = absurd (false≢true h)
-same_kind_is (WordKind m) (IntKind n) h = absurd (false≢true h)
-same_kind_is (WordKind m) BoolKind h = absurd (false≢true h)
-same_kind_is (NatKind m) (WordKind n) h = absurd (false≢true h)
-same_kind_is (NatKind m) (IntKind n) h = absurd (false≢true h)
-same_kind_is (NatKind m) BoolKind h = absurd (false≢true h)
-same_kind_is (IntKind m) (WordKind n) h = absurd (false≢true h)
-same_kind_is (IntKind m) (NatKind n) h = absurd (false≢true h)
-same_kind_is (IntKind m) BoolKind h = absurd (false≢true h)
-same_kind_is BoolKind (WordKind n) h = absurd (false≢true h)
-same_kind_is BoolKind (NatKind n) h = absurd (false≢true h)
-same_kind_is BoolKind (IntKind n) h = absurd (false≢true h)
+same_kind_is _ _ h = absurd (false≢true h)
 
 pub local_is_kind : (bs : List Binder) (x : Name) (k : Kind) → are_kinds (kinds_of bs) ≡ true → kind_of bs x ≡ Some k → is_kind k ≡ true
 local_is_kind [] x k h e = none_is e
@@ -36,16 +25,10 @@ local_is_kind (b ∷ bs) x k h e = let p = and_parts (is_kind b.kind) (are_kinds
 
 pub same_level-refl : (level : Level) → same_level level level ≡ true
 same_level-refl Bytes = refl
-same_level-refl Words = refl
-same_level-refl Numbers = refl
+same_level-refl _ = refl
 
 pub level_is : (a b : Level) → same_level a b ≡ true → a ≡ b
 level_is Bytes Bytes h = refl
 level_is Words Words h = refl
 level_is Numbers Numbers h = refl
-level_is Bytes Words h = absurd (false≢true h)
-level_is Bytes Numbers h = absurd (false≢true h)
-level_is Words Bytes h = absurd (false≢true h)
-level_is Words Numbers h = absurd (false≢true h)
-level_is Numbers Bytes h = absurd (false≢true h)
-level_is Numbers Words h = absurd (false≢true h)
+level_is _ _ h = absurd (false≢true h)

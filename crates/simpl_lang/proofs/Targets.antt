@@ -15,9 +15,8 @@ calls_none g (Some x) o = refl
 
 goes_to : (g : Scope) (x : Option Name) (r : Option Kind) → fits_target g x (Some (result_scalars word_sort_of r)) ≡ may_go_to g.names x r
 goes_to g None None = refl
-goes_to g None (Some k) = refl
 goes_to g (Some x) None = refl
-goes_to g (Some x) (Some k) = refl
+goes_to _ _ _ = refl
 
 nowhere : (g : Scope) (x : Option Name) → fits_target g x None ≡ false
 nowhere g None = refl

@@ -10,7 +10,7 @@ use Rattle.c_values.specs.Layout.{Layout, size_of, shape_of}
 use Rattle.c_values.specs.Path.{Field, Index, spot, sel, upd}
 use Rattle.c_memory.specs.Tags.{is_pointer_ok}
 use Rattle.c_memory.specs.Heap.{read_heap, is_tagged}
-use Rattle.expression_lang.specs.Expression.{Exp, Var, WordLit, NumberLit, TruthLit, WordBinary, WordShift, WordUnary, WordCompare, Cast, ToNat, ToInt, ToWord, Arith, Negate, Lt, Le, Between, Eq, And, Or, Imp, Not, If, Padd, At, Load, Read, Tagged, PtrOk, Global, Sel, Upd, Path, Here, IntoField, IntoElement}
+use Rattle.expression_lang.specs.Expression.{Exp, Var, WordBinary, WordShift, WordUnary, WordCompare, Cast, ToNat, ToInt, ToWord, Arith, Negate, Lt, Le, Between, Eq, And, Or, Imp, Not, If, Padd, At, Load, Read, Tagged, PtrOk, Global, Sel, Upd, Path, Here, IntoField, IntoElement}
 use Rattle.expression_lang.specs.Evaluation.{Env, State, value, steps, cast_op, moved, moved_to, if_truth}
 use Rattle.expression_lang.specs.Mentions.{names}
 use Rattle.expression_lang.specs.Signature.{values_of}
@@ -24,9 +24,6 @@ module _ (l : Layout) (x : Name) (env env' : Env) (agree : AgreeBut x env env') 
   mutual
     pub value_same : (e : Exp) → names x e ≡ false → value l env' s e ≡ value l env s e
     value_same (Var y) h = agree y h
-    value_same (WordLit w) h = refl
-    value_same (NumberLit n) h = refl
-    value_same (TruthLit b) h = refl
     value_same (WordBinary op a b) h = both (λ u v. Bits (word_op op (word_in u) (word_in v))) _ _ h (value_same a) (value_same b)
     value_same (WordShift op a n) h = both (λ u v. Bits (word_shift op (word_in u) (number_in v))) _ _ h (value_same a) (value_same n)
     value_same (WordUnary op a) h = ap (λ u. Bits (word_unary op (word_in u))) (value_same a h)
@@ -62,6 +59,7 @@ module _ (l : Layout) (x : Name) (env env' : Env) (agree : AgreeBut x env env') 
         let p = or_parts (names x e || path_names x path) (names x v) h in
         let q = or_parts (names x e) (path_names x path) p.0 in
         ap₂ (λ u ss. upd u ss (value l env' s v)) (value_same e q.0) (steps_same path q.1) ∙ ap (λ w. upd (value l env s e) (steps l env s path) w) (value_same v p.1)
+    value_same _ _ = refl
 
     pub steps_same : (path : Path) → path_names x path ≡ false → steps l env' s path ≡ steps l env s path
     steps_same Here h = refl

@@ -159,22 +159,18 @@ module _ (test : Name → Bool) where
   -- what is put in place of a name calls nothing
   put_in : (x : Name) (e : Exp) (m : Mon) →
       calls_only test (program_substituted x e m) ≡ calls_only test m
-  put_in x e (M.Ret es) = refl
   put_in x e (M.Bind m xs n) =
       let n' = program_substituted x e n in
       ap₂ (λ a b. a && b) (put_in x e m)
       (by_choice (is_among x xs) n n' (calls_only test n) refl (put_in x e n))
-  put_in x e (M.Guard a) = refl
   put_in x e (M.If a m n) = ap₂ (λ a b. a && b) (put_in x e m) (put_in x e n)
-  put_in x e (M.Write place a) = refl
   put_in x e (M.Loop starts guard test' m) =
       let begins = starts_substituted x e starts in
       let m' = program_substituted x e m in
       by_choice (is_among x (start_names starts)) (M.Loop begins guard test' m)
       (M.Loop begins (substituted x e guard) (substituted x e test') m')
       (calls_only test m) refl (put_in x e m)
-  put_in x e (M.Call f es) = refl
-  put_in x e (M.Pick k) = refl
+  put_in _ _ _ = refl
 
   with_values_calls : (es : List Exp) (xs : List Name) (m : Mon) →
       calls_only test (Equality.with_values es xs m) ≡ calls_only test m

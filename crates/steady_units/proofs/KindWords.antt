@@ -2,7 +2,7 @@
 use Rattle.std.proofs.Common.{◌≡◌, ℕ, zero, suc, ◌≤◌, true, List, [], ◌∷◌, map, refl, ap, ap₂, arith}
 use Rattle.std.proofs.lemmas.Bool.{and_parts, false≢true}
 use Rattle.c_values.specs.Word.{word}
-use Rattle.c_values.specs.Value.{Value, Bits, Number, Truth, Parts, number_in}
+use Rattle.c_values.specs.Value.{Value, Bits, Number, Truth, number_in}
 use Rattle.c_values.proofs.WordValues.{unsigned-word, signed-word}
 use Rattle.expression_lang.specs.Sort.{Kind, WordKind, NatKind, IntKind, BoolKind, is_width, is_kind, are_kinds, word_sort_of}
 use Rattle.expression_lang.specs.States.{IsOfSort}
@@ -22,18 +22,7 @@ word_sorted (WordKind n) (Bits w) h = h
 word_sorted (NatKind n) (Number z) h = word_fits n z
 word_sorted (IntKind n) (Number z) h = word_fits n z
 word_sorted BoolKind (Truth b) h = tt
-word_sorted (WordKind n) (Number z) h = absurd h
-word_sorted (WordKind n) (Truth b) h = absurd h
-word_sorted (WordKind n) (Parts vs) h = absurd h
-word_sorted (NatKind n) (Bits w) h = absurd h
-word_sorted (NatKind n) (Truth b) h = absurd h
-word_sorted (NatKind n) (Parts vs) h = absurd h
-word_sorted (IntKind n) (Bits w) h = absurd h
-word_sorted (IntKind n) (Truth b) h = absurd h
-word_sorted (IntKind n) (Parts vs) h = absurd h
-word_sorted BoolKind (Bits w) h = absurd h
-word_sorted BoolKind (Number z) h = absurd h
-word_sorted BoolKind (Parts vs) h = absurd h
+word_sorted _ _ h = absurd h
 
 some_bits : (n : ℕ) → is_width n ≡ true → 1 ≤ n
 some_bits zero h = absurd (false≢true h)
@@ -44,18 +33,7 @@ word_seen (WordKind n) (Bits w) e h = refl
 word_seen (NatKind n) (Number z) e h = ap (λ m. Number m) (unsigned-word n z h)
 word_seen (IntKind n) (Number z) e h = ap (λ m. Number m) (signed-word n z (some_bits n e) h)
 word_seen BoolKind (Truth b) e h = refl
-word_seen (WordKind n) (Number z) e h = absurd h
-word_seen (WordKind n) (Truth b) e h = absurd h
-word_seen (WordKind n) (Parts vs) e h = absurd h
-word_seen (NatKind n) (Bits w) e h = absurd h
-word_seen (NatKind n) (Truth b) e h = absurd h
-word_seen (NatKind n) (Parts vs) e h = absurd h
-word_seen (IntKind n) (Bits w) e h = absurd h
-word_seen (IntKind n) (Truth b) e h = absurd h
-word_seen (IntKind n) (Parts vs) e h = absurd h
-word_seen BoolKind (Bits w) e h = absurd h
-word_seen BoolKind (Number z) e h = absurd h
-word_seen BoolKind (Parts vs) e h = absurd h
+word_seen _ _ _ h = absurd h
 
 -- words whose views at the kinds are the values
 pub record StandsForWords (ks : List Kind) (vs : List Value) : Type 0 where

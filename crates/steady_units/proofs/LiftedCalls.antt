@@ -70,8 +70,7 @@ module _ (u : TypedUnit) (levels : Name → Level) (passes : Name → Bool)
   heaps_pass s c true (Some step) h k =
       heap_calls passes u.layout [] step.tree c.local.program step.program h.1 k
   heaps_pass s c false None h k = k
-  heaps_pass s c true None h k = absurd h
-  heaps_pass s c false (Some step) h k = absurd h
+  heaps_pass _ _ _ _ h _ = absurd h
 
   -- of one function
   module _ (f : SimplFn) (s : Signature) (c : Steps) (h : IsFunctionAccepted unit f s c)

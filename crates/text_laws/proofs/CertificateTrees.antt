@@ -29,8 +29,7 @@ use Rattle.text_laws.proofs.RuleTrees.{exception_is_tree, local_is_tree, heap_is
 
 level_atom : (l : Level) → is_atom (level_word l) ≡ true
 level_atom Bytes = refl
-level_atom Words = refl
-level_atom Numbers = refl
+level_atom _ = refl
 
 target_atom : (t : Target) → is_atom (target_word t) ≡ true
 target_atom Ilp32 = refl

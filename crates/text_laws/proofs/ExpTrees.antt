@@ -4,9 +4,9 @@ use Rattle.std.specs.Fmt.{decimal}
 use Rattle.std.proofs.lemmas.Bool.{and_parts, ltb-true}
 use Rattle.std.proofs.Math.Nat.{pow-le-pow_right}
 use Rattle.c_values.specs.Types as T
-use Rattle.c_values.specs.Word.{WordOp, Wadd, Wsub, Wmul, Wand, Wor, Wxor, Wudiv, Wumod, Wsdiv, Wsmod, ShiftOp, Wshl, Wushr, Wsshr, UnaryOp, Wneg, Wnot, WordTest, Wult, Wule, Wslt, Wsle}
+use Rattle.c_values.specs.Word.{WordOp, Wadd, ShiftOp, Wshl, UnaryOp, Wneg, Wnot, WordTest, Wult}
 use Rattle.c_values.specs.Number as N
-use Rattle.expression_lang.specs.Expression.{Exp, CastOp, Zext, Sext, Trunc, Var, WordLit, NumberLit, TruthLit, WordBinary, WordShift, WordUnary, WordCompare, Cast, ToNat, ToInt, ToWord, Arith, Negate, Lt, Le, Between, Eq, And, Or, Imp, Not, If, Padd, At, Load, Read, Tagged, PtrOk, Global, Sel, Upd, Path, Here, IntoField, IntoElement}
+use Rattle.expression_lang.specs.Expression.{Exp, CastOp, Zext, Var, WordLit, NumberLit, TruthLit, WordBinary, WordShift, WordUnary, WordCompare, Cast, ToNat, ToInt, ToWord, Arith, Negate, Lt, Le, Between, Eq, And, Or, Imp, Not, If, Padd, At, Load, Read, Tagged, PtrOk, Global, Sel, Upd, Path, Here, IntoField, IntoElement}
 use Rattle.ac_sx.specs.Tree.{Tree, IsTree, AreTrees, is_atom}
 use Rattle.expression_text.specs.Names.{is_name}
 use Rattle.expression_text.specs.Numbers.{is_number}
@@ -32,34 +32,19 @@ bits_atom n k h l =
 
 word_op_atom : (op : WordOp) → is_atom (head_word (word_op_head op)) ≡ true
 word_op_atom Wadd = refl
-word_op_atom Wsub = refl
-word_op_atom Wmul = refl
-word_op_atom Wand = refl
-word_op_atom Wor = refl
-word_op_atom Wxor = refl
-word_op_atom Wudiv = refl
-word_op_atom Wumod = refl
-word_op_atom Wsdiv = refl
-word_op_atom Wsmod = refl
+word_op_atom _ = refl
 
 shift_atom : (op : ShiftOp) → is_atom (head_word (shift_head op)) ≡ true
 shift_atom Wshl = refl
-shift_atom Wushr = refl
-shift_atom Wsshr = refl
+shift_atom _ = refl
 
 test_atom : (op : WordTest) → is_atom (head_word (word_test_head op)) ≡ true
 test_atom Wult = refl
-test_atom Wule = refl
-test_atom Wslt = refl
-test_atom Wsle = refl
+test_atom _ = refl
 
 number_op_atom : (op : N.NumberOp) → is_atom (head_word (number_op_head op)) ≡ true
 number_op_atom N.Add = refl
-number_op_atom N.Sub = refl
-number_op_atom N.Mul = refl
-number_op_atom N.Div = refl
-number_op_atom N.Mod = refl
-number_op_atom N.Neg = refl
+number_op_atom _ = refl
 
 unary_atom : (op : UnaryOp) → is_atom (head_word (unary_op_head op)) ≡ true
 unary_atom Wneg = refl
@@ -67,8 +52,7 @@ unary_atom Wnot = refl
 
 cast_atom : (op : CastOp) → is_atom (head_word (cast_head op)) ≡ true
 cast_atom Zext = refl
-cast_atom Sext = refl
-cast_atom Trunc = refl
+cast_atom _ = refl
 
 truth_atom : (b : Bool) → is_atom (truth_word b) ≡ true
 truth_atom true = refl

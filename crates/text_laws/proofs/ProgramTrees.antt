@@ -2,7 +2,7 @@
 use Rattle.std.proofs.Common.{◌≡◌, true, ◌&&◌, List, Option, Some, None, refl}
 use Rattle.std.proofs.lemmas.Bool.{and_parts}
 use Rattle.c_values.specs.Name.{Name, are_distinct}
-use Rattle.expression_lang.specs.GuardKind.{GuardKind, Div, Signed, Shift, Pointer, Bounds, Unreached, Tag, Wrap}
+use Rattle.expression_lang.specs.GuardKind.{GuardKind, Div}
 use Rattle.expression_lang.specs.Expression.{Exp}
 use Rattle.expression_lang.specs.Sort.{Kind, WordKind, NatKind, IntKind, BoolKind, is_kind}
 use Rattle.ac_sx.specs.Tree.{Trees, no_trees, more, Atom, IsTree, AreTrees, is_atom}
@@ -114,13 +114,7 @@ mon_is_tree m h = sequence_is_tree (P.sequence_parts m) (parts_are_trees m h)
 
 guard_atom : (k : GuardKind) → is_atom (guard_word k) ≡ true
 guard_atom Div = refl
-guard_atom Signed = refl
-guard_atom Shift = refl
-guard_atom Pointer = refl
-guard_atom Bounds = refl
-guard_atom Unreached = refl
-guard_atom Tag = refl
-guard_atom Wrap = refl
+guard_atom _ = refl
 
 condition_is_tree : (c : Condition) → is_condition c ≡ true → IsTree (condition_tree c)
 condition_is_tree c h = (guard_atom c.kind, (exp_is_tree c.exp h, tt))
@@ -135,8 +129,6 @@ commands_are_tree (more t no_trees) h = h.0
 commands_are_tree (more t (more u us)) h = (refl, h)
 
 commands_are_trees : (c : Simpl) → is_command c ≡ true → AreTrees (C.sequence_parts c)
-commands_are_trees S.Skip h = (refl, tt)
-commands_are_trees S.Throw h = (refl, tt)
 commands_are_trees (S.Set x e) h =
     let p = and_parts (is_name x) (is_exp e) h in ((refl, (name_atom x p.0, (exp_is_tree e p.1, tt))), tt)
 commands_are_trees (S.SetGlobal x path e) h =
@@ -211,6 +203,7 @@ commands_are_trees (S.Call x f es) h =
     let p = and_parts (is_target x) (is_name f && each is_exp es) h in
     let q = and_parts (is_name f) (each is_exp es) p.1 in
     ((refl, (target_is_tree x p.0, (name_atom f q.0, exps_are_trees es q.1))), tt)
+commands_are_trees _ _ = (refl, tt)
 
 pub command_is_tree : (c : Simpl) → is_command c ≡ true → IsTree (command_tree c)
 command_is_tree c h = commands_are_tree (C.sequence_parts c) (commands_are_trees c h)

@@ -53,64 +53,21 @@ module _ {Rule : Type 0} (word : Rule → Name) (data' : Rule → Trees) (has_te
 
 exception_word : (r : X.Rule) → is_atom (exceptions.word r) ≡ true
 exception_word X.Skip = refl
-exception_word X.Set = refl
-exception_word X.Pick = refl
-exception_word X.Call = refl
-exception_word X.Throw = refl
-exception_word X.SeqPlain = refl
-exception_word X.SeqTest = refl
-exception_word X.Cond = refl
-exception_word X.Guard = refl
-exception_word X.WhilePlain = refl
-exception_word X.WhileTest = refl
-exception_word X.CatchPlain = refl
-exception_word X.CatchTest = refl
-exception_word X.CatchSkip = refl
+exception_word _ = refl
 
 pub exception_is_tree : (t : rules.Tree X.Rule) → exceptions.is_tree t ≡ true → IsTree (exceptions.text_of t)
 exception_is_tree t h = rule_is_tree exceptions.word exceptions.data_of (λ r. true) exception_word (λ r k. tt) exceptions.arity t h
 
 local_word : (r : L.Rule) → is_atom (locals.word r) ≡ true
 local_word L.Skip = refl
-local_word L.Set = refl
-local_word L.Dead = refl
-local_word L.Global = refl
-local_word L.Memory = refl
-local_word L.Pick = refl
-local_word L.Seq = refl
-local_word L.Cond = refl
-local_word L.Guard = refl
-local_word L.While = refl
-local_word L.Call = refl
-local_word L.Void = refl
-local_word L.Start = refl
+local_word _ = refl
 
 pub local_is_tree : (t : rules.Tree L.Rule) → locals.is_tree t ≡ true → IsTree (locals.text_of t)
 local_is_tree t h = rule_is_tree locals.word locals.data_of (λ r. true) local_word (λ r k. tt) locals.arity t h
 
 heap_word : (r : H.Rule) → is_atom (heaps.word r) ≡ true
 heap_word H.Ret = refl
-heap_word H.Bind = refl
-heap_word H.Guard = refl
-heap_word H.If = refl
-heap_word H.Global = refl
-heap_word H.Loop = refl
-heap_word H.Call = refl
-heap_word H.Pick = refl
-heap_word H.Write = refl
-heap_word H.Pointer = refl
-heap_word (H.Drop a) = refl
-heap_word H.Same = refl
-heap_word H.Leaf = refl
-heap_word H.Load = refl
-heap_word H.Tagged = refl
-heap_word H.PtrOk = refl
-heap_word H.Op = refl
-heap_word H.And = refl
-heap_word H.Or = refl
-heap_word H.Imp = refl
-heap_word H.Cond = refl
-heap_word (H.Known a) = refl
+heap_word _ = refl
 
 heap_data : (r : H.Rule) → heaps.has_text r ≡ true → AreTrees (heaps.data_of r)
 heap_data (H.Drop a) h = (exp_is_tree a h, tt)
@@ -123,39 +80,7 @@ heap_is_tree t h =
 
 word_word : (r : W.Rule) → is_atom (words.word r) ≡ true
 word_word W.Ret = refl
-word_word W.Guard = refl
-word_word W.If = refl
-word_word W.Global = refl
-word_word W.Pick = refl
-word_word W.Write = refl
-word_word (W.Bind ks) = refl
-word_word (W.Loop ks) = refl
-word_word W.Call = refl
-word_word W.PickNat = refl
-word_word W.PickInt = refl
-word_word (W.Recast ks) = refl
-word_word W.Var = refl
-word_word W.Const = refl
-word_word W.Nat = refl
-word_word W.Int = refl
-word_word (W.Word k) = refl
-word_word W.Unat = refl
-word_word W.Sint = refl
-word_word W.Add = refl
-word_word W.Sub = refl
-word_word W.Mul = refl
-word_word W.Neg = refl
-word_word W.Udiv = refl
-word_word W.Umod = refl
-word_word W.Sdiv = refl
-word_word W.Smod = refl
-word_word W.Order = refl
-word_word (W.Eq k) = refl
-word_word W.Zext = refl
-word_word W.Sext = refl
-word_word W.Logic = refl
-word_word W.Cond = refl
-word_word W.Op = refl
+word_word _ = refl
 
 word_data : (r : W.Rule) → words.has_text r ≡ true → AreTrees (words.data_of r)
 word_data (W.Bind ks) h = (each_is_tree is_kind kind_tree kind_is_tree ks h, tt)
@@ -171,16 +96,7 @@ word_is_tree t h =
 
 equality_word : (r : Q.Rule) → is_atom (equality.word r) ≡ true
 equality_word Q.Refl = refl
-equality_word (Q.Trans m) = refl
-equality_word Q.Bind = refl
-equality_word Q.If = refl
-equality_word Q.Loop = refl
-equality_word (Q.RetOne i) = refl
-equality_word Q.BindRet = refl
-equality_word Q.Assoc = refl
-equality_word Q.IfConst = refl
-equality_word Q.GuardKnown = refl
-equality_word Q.Exp = refl
+equality_word _ = refl
 
 equality_data : (r : Q.Rule) → equality.has_text r ≡ true → AreTrees (equality.data_of r)
 equality_data (Q.Trans m) h = (mon_is_tree m h, tt)

@@ -3,7 +3,7 @@ use Rattle.std.proofs.Common.{◌≡◌, ℕ, ◌^◌, true, List, [], Option, S
 use Rattle.std.proofs.lemmas.Bool.{false≢true}
 use Rattle.std.proofs.lemmas.Nat.{pow_pos, mod_below}
 use Rattle.std.specs.Prelude.{IsSomeAnd, OnOk, OnErr}
-use Rattle.c_values.specs.Types.{CType, Integer, Void, Ptr, Struct, Array}
+use Rattle.c_values.specs.Types.{CType, Integer, Ptr}
 use Rattle.c_values.specs.Word.{word}
 use Rattle.c_values.specs.Value.{Value, Bits}
 use Rattle.c_values.specs.Layout.{Layout, IsLayout, shape_of, is_object, is_scalar, scalar_width}
@@ -29,9 +29,7 @@ heap_viewed l m (Err e) h tagged k = tt
 word_fits : (l : Layout) (u : CType) (n : ℕ) → is_scalar u ≡ true → HasShape (shape_of l u) (Bits (word (scalar_width l.target u) (pos n)))
 word_fits l (Integer i) n k = record { has_width = refl; fits = mod_below n (2 ^ scalar_width l.target (Integer i)) (pow_pos (scalar_width l.target (Integer i))) }
 word_fits l (Ptr t) n k = record { has_width = refl; fits = mod_below n (2 ^ scalar_width l.target (Ptr t)) (pow_pos (scalar_width l.target (Ptr t))) }
-word_fits l Void n k = absurd (false≢true k)
-word_fits l (Struct x) n k = absurd (false≢true k)
-word_fits l (Array t m) n k = absurd (false≢true k)
+word_fits _ _ _ k = absurd (false≢true k)
 
 -- a word of its width is a value of it
 pub place_word : (l : Layout) (u : CType) (o : Option Spot) (width n : ℕ) → Some (shape_of l u) ≡ shape_at o → is_scalar u ≡ true → width ≡ scalar_width l.target u → IsSomeAnd o (λ q. HasShape q.shape (Bits (word width (pos n))))

@@ -30,10 +30,7 @@ member_formed align n at (field o s fs) (suc k) q f e = member_formed align n (o
 step_formed : (s : Shape) (p : Step) (q : Spot) → IsFormed s → step_spot s p ≡ Some q → IsFormed q.shape
 step_formed (Record x n align fs) (Field k) q f e = member_formed align n 0 fs k q f.members e
 step_formed (Row s n) (Index i) q f e = subst IsFormed (ap (λ r. r.shape) (some_is e)) f.element
-step_formed Incomplete p q f e = absurd cc
-step_formed (Scalar t width) p q f e = absurd cc
-step_formed (Record x n align fs) (Index i) q f e = absurd cc
-step_formed (Row s n) (Field k) q f e = absurd cc
+step_formed _ _ q f e = absurd cc
 
 pub spot_formed : (s : Shape) (ps : List Step) (q : Spot) → IsFormed s → spot s ps ≡ Some q → IsFormed q.shape
 spot_formed s [] q f e = subst IsFormed (ap (λ r. r.shape) (some_is e)) f

@@ -4,8 +4,8 @@ use Rattle.std.proofs.lemmas.Bool.{false≢true}
 use Rattle.std.specs.Prelude.{IsSomeAnd}
 use Rattle.std.specs.Option.{option_map}
 use Rattle.c_values.specs.Types.{CType}
-use Rattle.c_values.specs.Value.{Value, Bits, Number, Truth, Parts, word_in}
-use Rattle.c_values.specs.Layout.{Layout, IsLayout, Shape, Incomplete, Scalar, Record, Row, type_of, shape_of, is_object, is_scalar}
+use Rattle.c_values.specs.Value.{Value, Bits, word_in}
+use Rattle.c_values.specs.Layout.{Layout, IsLayout, Shape, Scalar, Record, Row, type_of, shape_of, is_object, is_scalar}
 use Rattle.c_values.specs.Path.{Step, Spot, spot, step_spot, and_then_spot, further, zeros, HasShape}
 use Rattle.c_values.proofs.Laid.{shape_type}
 use Rattle.c_values.specs.CodeParts.{has_parts}
@@ -42,13 +42,10 @@ scalar_type_at l u (Some q) h object e k =
     ap is_scalar (sym (shape_type l h u (object_complete l u object)) ∙ ap type_of same) ∙ k
 
 bits_of : (s : Shape) (v : Value) → is_scalar (type_of s) ≡ true → HasShape s v → Bits (word_in v) ≡ v
-bits_of Incomplete v k h = absurd h
 bits_of (Scalar t width) (Bits w) k h = refl
-bits_of (Scalar t width) (Number n) k h = absurd h
-bits_of (Scalar t width) (Truth b) k h = absurd h
-bits_of (Scalar t width) (Parts vs) k h = absurd h
 bits_of (Record x n align fs) v k h = absurd (false≢true k)
 bits_of (Row e n) v k h = absurd (false≢true k)
+bits_of _ _ _ h = absurd h
 
 -- a value at the place of a scalar is a word
 pub scalar_value : (o : Option Spot) (v : Value) → IsSomeAnd o (λ q. is_scalar (type_of q.shape) ≡ true) → IfSome o (λ q. HasShape q.shape v) → Bits (word_in v) ≡ v

@@ -2,7 +2,7 @@
 use Rattle.std.proofs.Common.{◌≡◌, ℕ, ◌==◌, Bool, true, ◌&&◌, Option, Some, refl, sym, ap, ◌∙◌, subst}
 use Rattle.std.proofs.lemmas.Bool.{eqb-true, eq-eqb}
 use Rattle.c_values.specs.Types.{CType, Ptr, Array, same_type}
-use Rattle.c_values.specs.Layout.{Shape, Incomplete, Scalar, Record, Row, type_of, shape_of, is_object}
+use Rattle.c_values.specs.Layout.{Shape, Row, type_of, shape_of, is_object}
 use Rattle.c_values.specs.CodeSameType.{same_type-refl}
 use Rattle.typing_rules.specs.Operand.{path_then}
 use Rattle.typing_rules.specs.Expressions.{Tail, Nothing, LastMember, LastElement, behind, tail, address}
@@ -40,9 +40,7 @@ ends_in_row s n i t u e h = along_some s (C.Element n i C.Here) u e (λ w c k. s
     of_row : (w : Shape) → shape_along (Some w) (C.Element n i C.Here) ≡ Some u → leads_to (Some w) (Array t n) ≡ true
     of_row (Row e' m) k = if_some (n == m) (Some e') u k (λ same r. both (subst (λ v. same_type (type_of v) t ≡ true) (sym (some_same r)) (subst (λ v. same_type (type_of u) v ≡ true) h (same_type-refl (type_of u))))
         (eq-eqb m n (sym (eqb-true n m same))))
-    of_row Incomplete k = absurd (none_some k)
-    of_row (Scalar v b) k = absurd (none_some k)
-    of_row (Record x b a fs) k = absurd (none_some k)
+    of_row _ k = absurd (none_some k)
 
 last_index : (g : Scope) (before step : C.Path) → are_typed_indices g (path_then before step) ≡ true → (are_typed_indices g before ≡ true) × (are_typed_indices g step ≡ true)
 last_index g C.Here step h = (refl, h)

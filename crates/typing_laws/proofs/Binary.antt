@@ -23,14 +23,7 @@ record IsPointed (a b : C.Expr) (t : CType) : Type 0 where
 
 pointed_is : (a b : C.Expr) (t u v : CType) → C.type_of a ≡ t → C.type_of b ≡ u → pointed_in t u ≡ Some v → IsPointed a b v
 pointed_is a b (Ptr t) (Integer j) v e c h = record { pointer = e ∙ ap Ptr cc; integer = subst (λ w. is_integer w ≡ true) (sym c) refl }
-pointed_is a b (Ptr t) Void v e c h = absurd cc
-pointed_is a b (Ptr t) (Ptr u) v e c h = absurd cc
-pointed_is a b (Ptr t) (Struct x) v e c h = absurd cc
-pointed_is a b (Ptr t) (Array u n) v e c h = absurd cc
-pointed_is a b (Integer i) u v e c h = absurd cc
-pointed_is a b Void u v e c h = absurd cc
-pointed_is a b (Struct x) u v e c h = absurd cc
-pointed_is a b (Array t n) u v e c h = absurd cc
+pointed_is a b _ _ v e c h = absurd cc
 
 object_pointed : (l : Layout) (t u : CType) → t ≡ Ptr u → is_pointer_to_none l t ≡ false → is_object l u ≡ true
 object_pointed l t u e h = not_false (is_object l u) (subst (λ v. is_pointer_to_none l v ≡ false) e h)
@@ -123,10 +116,7 @@ module _ (g : Scope) (e : C.Expr) (h : IsTyped g e) where
 
   is_struct_is : (x : Name) (t : CType) → is_struct x t ≡ true → t ≡ Struct x
   is_struct_is x (Struct y) c = ap Struct (sym (name_is x y c))
-  is_struct_is x (Integer i) c = absurd (false≢true c)
-  is_struct_is x Void c = absurd (false≢true c)
-  is_struct_is x (Ptr t) c = absurd (false≢true c)
-  is_struct_is x (Array t n) c = absurd (false≢true c)
+  is_struct_is _ _ c = absurd (false≢true c)
 
   pub converted_typed : (l : Layout) (t : CType) → Rules (Has g t) (converted l t e)
   converted_typed l (Integer i) = refused_or (not (O.is_integer (C.type_of e))) _ _ (λ c.

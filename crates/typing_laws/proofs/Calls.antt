@@ -2,7 +2,7 @@
 use Rattle.std.proofs.Common.{◌≡◌, ℕ, suc, ◌==◌, true, not, ◌&&◌, List, [], ◌∷◌, length, map, Option, Some, None, refl, sym, subst}
 use Rattle.std.proofs.lemmas.Bool.{false≢true, eqb-true}
 use Rattle.c_values.specs.Name.{Name}
-use Rattle.c_values.specs.Types.{CType, Integer, Void, Ptr, Struct, Array, same_type}
+use Rattle.c_values.specs.Types.{CType, Integer, Ptr, same_type}
 use Rattle.c_values.specs.Layout.{Layout, is_scalar}
 use Rattle.c_values.specs.CodeSameType.{type_is, same_type-refl}
 use Rattle.c_grammar.specs.Tree as tree
@@ -131,9 +131,7 @@ ignored_typed g (Some t) = same_type-refl t
 goes_to_scalar : (t u : CType) → goes_to t u ≡ true → is_scalar t ≡ true
 goes_to_scalar (Integer i) u h = refl
 goes_to_scalar (Ptr t) u h = refl
-goes_to_scalar Void u h = absurd (false≢true h)
-goes_to_scalar (Struct x) u h = absurd (false≢true h)
-goes_to_scalar (Array t n) u h = absurd (false≢true h)
+goes_to_scalar _ _ h = absurd (false≢true h)
 
 result_typed : (t : CType) (o : Option CType) → Rules (λ u. (o ≡ Some u) × (is_scalar t ≡ true)) (result_for t o)
 result_typed t None = refused

@@ -35,8 +35,7 @@ IsPlace g p = is_typed_place g p ≡ true
 
 pub value_typed : (g : Scope) (a : Operand) → IsOperand g a → IsTyped g (value_in a)
 value_typed g (Valued e) h = h
-value_typed g (Variable x t) h = h
-value_typed g (At p) h = h
+value_typed _ _ h = h
 
 pub destination_typed : (g : Scope) (a : Operand) → IsOperand g a → Rules (λ d. is_typed_target g d ≡ true) (destination a)
 destination_typed g (Valued e) h = refused
@@ -52,10 +51,7 @@ in_memory (C.InGlobal x path u) h = absurd (false≢true (sym h))
 
 array_is : (t : CType) → is_array t ≡ true → is_array_of (first_element t) t ≡ true
 array_is (Array t n) h = same_type-refl t
-array_is (Integer i) h = absurd (false≢true h)
-array_is Void h = absurd (false≢true h)
-array_is (Ptr t) h = absurd (false≢true h)
-array_is (Struct x) h = absurd (false≢true h)
+array_is _ h = absurd (false≢true h)
 
 module _ (g : Scope) where
   decays_typed : (d : Demand) (p : C.Place) → is_array (C.place_type p) ≡ true → is_in_global p ≡ false → IsPlace g p → Rules (IsOperand g) (decays d p (first_element (C.place_type p)))
@@ -100,10 +96,7 @@ module _ (g : Scope) where
 
     array_of_is : (t : CType) (a : CType × ℕ) → array_of t ≡ Some a → t ≡ Array a.0 a.1
     array_of_is (Array t n) a h = let e : ◌≡◌ {A = CType × ℕ} (t, n) a = cc in ap (λ b. Array b.0 b.1) e
-    array_of_is (Integer i) a h = absurd cc
-    array_of_is Void a h = absurd cc
-    array_of_is (Ptr t) a h = absurd cc
-    array_of_is (Struct x) a h = absurd cc
+    array_of_is _ a h = absurd cc
 
     indexed_at_typed : (p : C.Place) (i : C.Expr) (o : Option (CType × ℕ)) → array_of (C.place_type p) ≡ o → IsPlace g p → IsTyped g i → Rules (IsPlace g) (indexed_at l p i o)
     indexed_at_typed p i (Some a) e h k = refused_or (not (O.is_integer (C.type_of i))) _ _ (λ c.

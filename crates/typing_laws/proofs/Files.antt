@@ -2,13 +2,13 @@
 use Rattle.std.proofs.Common.{◌≡◌, Bool, true, not, cond, ◌||◌, List, [], ◌∷◌, Option, Some, None, is_some, refl, sym, ap, ap₂, ◌∙◌, subst, ℕ, length}
 use Rattle.std.proofs.lemmas.Bool.{false≢true}
 use Rattle.c_values.specs.Name.{Name}
-use Rattle.c_values.specs.Types.{CType, Void, Integer, Ptr, Struct, Array, same_type}
+use Rattle.c_values.specs.Types.{CType, Struct, Array, same_type}
 use Rattle.c_values.specs.Layout.{Layout}
 use Rattle.c_values.specs.CodeSameType.{type_is}
 use Rattle.c_grammar.specs.Tree as tree
 use Rattle.c_lang.specs.WellTyped as W
 use Rattle.typing_rules.specs.File.{GlobalSoFar}
-use Rattle.typing_rules.specs.Scope.{Scope, Entity, Enumerator, Global, Function, Local, Hidden, Names, entity, is_declared_here, with_entity, outer, opened, closed}
+use Rattle.typing_rules.specs.Scope.{Scope, Entity, Global, Function, Names, entity, is_declared_here, with_entity, outer, opened, closed}
 use Rattle.typing_rules.specs.Checked.{in_block}
 use Rattle.typing_rules.specs.Declarations.{Declared, has_incomplete_elements}
 use Rattle.typing_rules.specs.Expressions.{declarator, dimensions}
@@ -104,9 +104,8 @@ pub record IsTop (l : Layout) (bs : List Names) (gs : List GlobalSoFar) (x : Nam
 
 same_result_is : (q r : Option CType) → same_result q r ≡ true → q ≡ r
 same_result_is None None h = refl
-same_result_is None (Some u) h = absurd (false≢true h)
-same_result_is (Some t) None h = absurd (false≢true h)
 same_result_is (Some t) (Some u) h = ap Some (type_is t u h)
+same_result_is _ _ h = absurd (false≢true h)
 
 same_types_are : (ts us : List CType) → same_types ts us ≡ true → ts ≡ us
 same_types_are [] [] h = refl
@@ -116,10 +115,7 @@ same_types_are (t ∷ ts) (u ∷ us) h = ap₂ (λ a as'. a ∷ as') (type_is t 
 
 agrees_is : (f : Entity) (r : Option CType) (ts : List CType) → agrees (Some f) r ts ≡ true → f ≡ Function r ts
 agrees_is (Function q qs) r ts h = ap₂ Function (same_result_is q r (left (same_result q r) (same_types qs ts) h)) (same_types_are qs ts (right (same_result q r) (same_types qs ts) h))
-agrees_is (Enumerator n) r ts h = absurd (false≢true h)
-agrees_is (Global t) r ts h = absurd (false≢true h)
-agrees_is (Local x t) r ts h = absurd (false≢true h)
-agrees_is Hidden r ts h = absurd (false≢true h)
+agrees_is _ _ _ h = absurd (false≢true h)
 
 pub entity_alone : (names : Names) (x : Name) (f : Entity) → names x ≡ Some f → entity (names ∷ []) x ≡ Some f
 entity_alone names x f h = subst (λ o. cond (is_some o) o None ≡ Some f) (sym h) refl
@@ -160,11 +156,9 @@ function_added s x r ts h a =
     }
 
 result_scalar : (t : CType) → is_result t ≡ true → W.is_result (result_type t) ≡ true
-result_scalar Void h = refl
-result_scalar (Integer i) h = refl
-result_scalar (Ptr t) h = refl
 result_scalar (Struct x) h = absurd (false≢true h)
 result_scalar (Array t n) h = absurd (false≢true h)
+result_scalar _ _ = refl
 
 -- what the rule of a function's declarator says
 pub record IsResult (d : Declared) (ps : List Parameter) (s : Scope) (r : Option CType) : Type 0 where

@@ -18,9 +18,8 @@ module _ (g : GlobalSoFar) where
   named_with (h ∷ hs) y = by_same (same_name h.name g.name) refl (named_with hs y)
     where
       replaced : h.name ≡ g.name → (b c : Bool) → same_name g.name y ≡ b → same_name h.name y ≡ c → cond b (Some g) (global_named hs y) ≡ cond b (Some g) (cond c (Some h) (global_named hs y))
-      replaced e true c k m = refl
       replaced e false true k m = absurd (true≢false (sym m ∙ ap (λ z. same_name z y) e ∙ k))
-      replaced e false false k m = refl
+      replaced _ _ _ _ _ = refl
 
       further : same_name h.name g.name ≡ false → (b c : Bool) → same_name g.name y ≡ b → same_name h.name y ≡ c → (o p : Option GlobalSoFar) → p ≡ cond b (Some g) o → cond c (Some h) p ≡ cond b (Some g) (cond c (Some h) o)
       further e true true k m o p i = absurd (true≢false (sym (name_itself h.name) ∙ ap (λ z. same_name h.name z) (name_is h.name y m ∙ sym (name_is g.name y k)) ∙ e))

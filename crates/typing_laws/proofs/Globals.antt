@@ -6,7 +6,7 @@ use Rattle.c_values.specs.Types.{CType, Integer, Void, Ptr, Struct, Array}
 use Rattle.c_values.specs.Layout.{Layout, is_object, is_scalar}
 use Rattle.c_values.specs.CodeSameType.{type_is}
 use Rattle.typing_rules.specs.File.{GlobalSoFar, global_named, with_global}
-use Rattle.typing_rules.specs.Scope.{Scope, Entity, Enumerator, Global, Function, Local, Hidden, Names, entity, is_declared_here, with_entity, outer}
+use Rattle.typing_rules.specs.Scope.{Scope, Entity, Global, Names, entity, is_declared_here, with_entity, outer}
 use Rattle.typing_rules.specs.Checked.{Checked, Ruling, Ruled, Refused, ◌>=>◌}
 use Rattle.typing_rules.specs.Constant.{constant_value}
 use Rattle.typing_rules.specs.Operators.{converted}
@@ -58,10 +58,7 @@ global_ruled is_extern d s =
 
 has_type_is : (t : CType) (f : Entity) → has_type t (Some f) ≡ true → f ≡ Global t
 has_type_is t (Global u) h = ap Global (type_is u t h)
-has_type_is t (Function r ps) h = absurd (false≢true h)
-has_type_is t (Enumerator n) h = absurd (false≢true h)
-has_type_is t (Local x u) h = absurd (false≢true h)
-has_type_is t Hidden h = absurd (false≢true h)
+has_type_is _ _ h = absurd (false≢true h)
 
 global_same : (t u : CType) → ◌≡◌ {A = Entity} (Global t) (Global u) → t ≡ u
 global_same t u h = cc

@@ -2,7 +2,7 @@
 use Rattle.std.proofs.Common.{◌≡◌, Bool, true, false, not, cond, ◌&&◌, leb, List, [], ◌∷◌, ◌++◌, map, Option, Some, refl, sym, ap, ◌∙◌, subst}
 use Rattle.std.proofs.lemmas.Bool.{false≢true, and_parts, cond-true, cond-false}
 use Rattle.c_values.specs.Name.{Name, same_name, with_name, is_among}
-use Rattle.c_values.specs.Types.{Target, CType, Integer, Void, Ptr, Struct, Array}
+use Rattle.c_values.specs.Types.{Target, CType, Struct, Array}
 use Rattle.c_values.specs.Layout.{Layout, IsLayout, Shape, Incomplete, Row, size, StructDef, struct_shape, shape_from, shapes_after, shape_of, is_object, is_complete, has_member, all_members_complete, largest_size, size_of}
 use Rattle.c_values.specs.Growth.{with_struct, struct_names, can_follow, struct_named}
 use Rattle.c_values.proofs.Laid.{structs_of, other_name}
@@ -65,11 +65,9 @@ module _ (t : Target) (structs : Name → Shape) (x : Name) (s : Shape) (new : s
       by_cases false e = refl
 
   same_shape : (u : CType) → is_complete (shape_from t structs u) ≡ true → shape_from t more u ≡ shape_from t structs u
-  same_shape (Integer i) h = refl
-  same_shape Void h = refl
-  same_shape (Ptr u) h = refl
   same_shape (Struct y) h = same_struct y h
   same_shape (Array u n) h = ap (λ e. Row e n) (same_shape u (and_parts _ (is_complete (shape_from t structs u)) h).1)
+  same_shape _ _ = refl
 
 found_or : {A : Type 0} (b : Bool) (first o p : Option A) (a : A) → (o ≡ Some a → p ≡ Some a) → cond b first o ≡ Some a → cond b first p ≡ Some a
 found_or true first o p a h k = k

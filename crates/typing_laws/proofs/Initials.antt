@@ -3,7 +3,7 @@ use Rattle.std.proofs.Common.{◌≡◌, ℕ, ◌+◌, ◌^◌, ◌<◌, true, L
 use Rattle.std.proofs.lemmas.Bool.{false≢true}
 use Rattle.std.proofs.lemmas.Nat.{mod_below, pow_pos}
 use Rattle.std.specs.Int.{int_rem_euclid}
-use Rattle.c_values.specs.Types.{CType, Integer, Void, Ptr, Struct, Array}
+use Rattle.c_values.specs.Types.{CType, Integer, Ptr}
 use Rattle.c_values.specs.Number.{natural}
 use Rattle.c_values.specs.Word.{IsWord, word}
 use Rattle.c_values.specs.Value.{Bits}
@@ -40,9 +40,7 @@ mutual
 number_shaped : (l : Layout) (t : CType) (n : ℤ) → is_scalar t ≡ true → HasShape (shape_of l t) (Bits (word (scalar_width l.target t) n))
 number_shaped l (Integer i) n h = is_word (scalar_width l.target (Integer i)) n
 number_shaped l (Ptr t) n h = is_word (scalar_width l.target (Ptr t)) n
-number_shaped l Void n h = absurd (false≢true h)
-number_shaped l (Struct x) n h = absurd (false≢true h)
-number_shaped l (Array t m) n h = absurd (false≢true h)
+number_shaped _ _ _ h = absurd (false≢true h)
 
 begins : (l : Layout) (t : CType) → IsLayout l → is_object l t ≡ true → (o : Option ℤ) → ((n : ℤ) → o ≡ Some n → is_scalar t ≡ true) → HasShape (shape_of l t) (initial_value l t o)
 begins l t i h None s = zeros_shaped (shape_of l t) (shape_good l i t (left (is_complete (shape_of l t)) _ h)).formed

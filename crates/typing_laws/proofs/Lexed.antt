@@ -73,9 +73,8 @@ character_small _ _ (hexadecimal_escape {digits} h few) = two_digits digits h fe
 kind_of_text : (k : Kind) (bytes : List ℕ) → Spells k bytes → IsKind k
 kind_of_text (name s) bytes h = name_is_name s h.1
 kind_of_text (character value) bytes h = character_small h.0 value h.2
-kind_of_text (keyword k) bytes h = tt
-kind_of_text (punct p) bytes h = tt
 kind_of_text (number value decimal unsigned longs) bytes h = tt
+kind_of_text _ _ _ = tt
 
 leads_kinds : {text : List ℕ} {p q : _} {ts : List Lexeme} → Leads text p ts q → AreKinds ts
 leads_kinds here = tt

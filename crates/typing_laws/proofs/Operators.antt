@@ -1,7 +1,7 @@
 -- Operators over typed operands give typed expressions.
 use Rattle.std.proofs.Common.{◌≡◌, Bool, true, false, not, cond, ◌&&◌, ◌||◌, Option, Some, None, refl, sym, ap, ◌∙◌, subst}
 use Rattle.std.proofs.lemmas.Bool.{false≢true}
-use Rattle.c_values.specs.Types.{Target, IntType, CType, Integer, Void, Ptr, Struct, Array, same_type}
+use Rattle.c_values.specs.Types.{Target, IntType, CType, Integer, Void, Ptr, same_type}
 use Rattle.c_values.specs.Layout.{Layout, is_scalar}
 use Rattle.c_values.specs.CodeSameType.{type_is, same_type-refl}
 use Rattle.typing_rules.specs.declared.operators.Meeting.TheVariants as M
@@ -31,35 +31,19 @@ scalar_of t u e h = subst (λ v. is_scalar v ≡ true) (sym e) h
 
 is_of_is : (i : IntType) (t : CType) → is_of i t ≡ true → t ≡ Integer i
 is_of_is i (Integer j) h = sym (type_is (Integer i) (Integer j) h)
-is_of_is i Void h = absurd (false≢true h)
-is_of_is i (Ptr t) h = absurd (false≢true h)
-is_of_is i (Struct x) h = absurd (false≢true h)
-is_of_is i (Array t n) h = absurd (false≢true h)
+is_of_is _ _ h = absurd (false≢true h)
 
 integer_in_is : (t : CType) (i : IntType) → integer_in t ≡ Some i → t ≡ Integer i
 integer_in_is (Integer j) i h = ap Integer cc
-integer_in_is Void i h = absurd cc
-integer_in_is (Ptr t) i h = absurd cc
-integer_in_is (Struct x) i h = absurd cc
-integer_in_is (Array t n) i h = absurd cc
+integer_in_is _ i h = absurd cc
 
 pub is_integer_is : (t : CType) → O.is_integer t ≡ true → (i : IntType) × (t ≡ Integer i)
 is_integer_is (Integer i) h = (i, refl)
-is_integer_is Void h = absurd (false≢true h)
-is_integer_is (Ptr t) h = absurd (false≢true h)
-is_integer_is (Struct x) h = absurd (false≢true h)
-is_integer_is (Array t n) h = absurd (false≢true h)
+is_integer_is _ h = absurd (false≢true h)
 
 is_void_pointer_is : (t : CType) → is_void_pointer t ≡ true → t ≡ Ptr Void
 is_void_pointer_is (Ptr Void) h = refl
-is_void_pointer_is (Ptr (Integer i)) h = absurd (false≢true h)
-is_void_pointer_is (Ptr (Ptr t)) h = absurd (false≢true h)
-is_void_pointer_is (Ptr (Struct x)) h = absurd (false≢true h)
-is_void_pointer_is (Ptr (Array t n)) h = absurd (false≢true h)
-is_void_pointer_is (Integer i) h = absurd (false≢true h)
-is_void_pointer_is Void h = absurd (false≢true h)
-is_void_pointer_is (Struct x) h = absurd (false≢true h)
-is_void_pointer_is (Array t n) h = absurd (false≢true h)
+is_void_pointer_is _ h = absurd (false≢true h)
 
 -- an integer, as the checker tests it and as typed trees do
 pub integer_typed : (g : Scope) (e : C.Expr) → O.is_integer (C.type_of e) ≡ true → IsTyped g e → (has_integer_type e && is_typed g e) ≡ true

@@ -3,7 +3,7 @@ use Rattle.std.proofs.Common.{◌≡◌, ℕ, ◌+◌, ◌*◌, ◌<◌, ◌≤�
 use Rattle.std.proofs.lemmas.Bool.{leb-true, le-leb}
 use Rattle.c_values.specs.Name.{Name}
 use Rattle.c_values.specs.Types.{CType}
-use Rattle.c_values.specs.Layout.{Layout, IsLayout, Shape, Incomplete, Scalar, Record, Row, Fields, type_of, size, size_of, shape_of, is_object, is_complete, largest_size}
+use Rattle.c_values.specs.Layout.{Layout, IsLayout, Shape, Record, Row, Fields, type_of, size, size_of, shape_of, is_object, is_complete, largest_size}
 use Rattle.c_values.proofs.Laid.{IsGood, structs_of, shape_good, shape_type}
 use Rattle.c_values.proofs.Geometry.{nth_within}
 use Rattle.c_values.proofs.Parts.{formed_complete, nth_laid, laid_shape}
@@ -84,9 +84,4 @@ along_own l (Record x n align fs) (C.Member k path) t h o e =
     along_some (member_shape fs k) path t e (λ s c r. along_own l s path t h (member_own l x n align fs k s h o c) r)
 along_own l (Row u m) (C.Element n i path) t h o e =
     if_some (n == m) (shape_along (Some u) path) t e (λ same r. along_own l u path t h (element_own l u m h o) r)
-along_own l Incomplete (C.Member k path) t h o e = absurd (none_some e)
-along_own l (Scalar u w) (C.Member k path) t h o e = absurd (none_some e)
-along_own l (Row u m) (C.Member k path) t h o e = absurd (none_some e)
-along_own l Incomplete (C.Element n i path) t h o e = absurd (none_some e)
-along_own l (Scalar u w) (C.Element n i path) t h o e = absurd (none_some e)
-along_own l (Record x b a fs) (C.Element n i path) t h o e = absurd (none_some e)
+along_own _ _ _ _ _ _ e = absurd (none_some e)

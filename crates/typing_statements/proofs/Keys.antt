@@ -16,9 +16,8 @@ finds_more old new ns more h notes = λ n.
 
 key_same : (m n : ℤ) → key_eq (key_of n) (key_of m) ≡ int_eq m n
 key_same (pos a) (pos b) = grind (arith, ints, nat_tests)
-key_same (pos a) (negsuc b) = grind (arith, ints, nat_tests)
 key_same (negsuc a) (pos b) = grind (arith, ints, nat_tests)
-key_same (negsuc a) (negsuc b) = grind (arith, ints, nat_tests)
+key_same _ _ = grind (arith, ints, nat_tests)
 
 -- with the key of a number
 pub noted : (old new : Keys) (n : ℤ) → ((q : Bool × ℕ) → contains key_eq new q ≡ cond (key_eq (key_of n) q) true (contains key_eq old q)) → Notes (n ∷ []) old new

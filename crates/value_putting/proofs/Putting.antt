@@ -28,16 +28,12 @@ at_binder y x xs free inner captured h =
     ap₂ (λ a b. not (is_among x xs) && ((a && free) || b)) (unnamed_variable y xs) h
 
 variable_captured : (y x : Name) (m : Mon) → captures (Var y) x m ≡ is_captured y x m
-variable_captured y x (M.Ret es) = refl
 variable_captured y x (M.Bind m xs n) =
     ap₂ (λ a b. a || b) (variable_captured y x m) (at_binder y x xs (is_free x n) _ _ (variable_captured y x n))
-variable_captured y x (M.Guard e) = refl
 variable_captured y x (M.If e m n) = ap₂ (λ a b. a || b) (variable_captured y x m) (variable_captured y x n)
-variable_captured y x (M.Write place e) = refl
 variable_captured y x (M.Loop starts guard test m) =
     at_binder y x (start_names starts) (X.names x guard || X.names x test || is_free x m) _ _ (variable_captured y x m)
-variable_captured y x (M.Call f es) = refl
-variable_captured y x (M.Pick k) = refl
+variable_captured _ _ _ = refl
 
 pub or_assoc : (a b c : Bool) → ((a || b) || c) ≡ (a || (b || c))
 or_assoc true b c = refl

@@ -7,10 +7,9 @@ use Rattle.ac_expr.proofs.SameExps.{exp_is}
 use Rattle.ac_expr.proofs.Itself.{exp_itself}
 
 by_value : (r b : Bool) → (IsTrue r → b ≡ true) → (b ≡ true → IsTrue r) → r ≡ b
-by_value true true f g = refl
-by_value false false f g = refl
 by_value true false f g = absurd (false≢true (f refl))
 by_value false true f g = absurd (false≢true (g refl))
+by_value _ _ _ _ = refl
 
 pub decided : (r : Bool) (a b : Exp) → (IsTrue r ↔ (a ≡ b)) → r ≡ same_exp a b
 decided r a b h = by_value r (same_exp a b) (λ t. subst (λ c. same_exp a c ≡ true) (h.0 t) (exp_itself a)) (λ t. h.1 (exp_is a b t))

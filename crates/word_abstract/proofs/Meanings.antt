@@ -1,11 +1,11 @@
 -- What an expression stands for means what it is abstracted to, however it is seen.
 use Rattle.std.proofs.Math.Path.{fun_ext}
 use Rattle.std.proofs.Common.{◌≡◌, ℕ, Bool, true, false, List, Option, Some, None, refl, ap, ap₂, ◌∙◌}
-use Rattle.c_values.specs.Word.{WordTest, Wult, Wule, Wslt, Wsle}
+use Rattle.c_values.specs.Word.{WordTest, Wult}
 use Rattle.c_values.specs.Name.{Name}
 use Rattle.expression_lang.specs.Expression as X
 use Rattle.expression_lang.specs.Expression.{Exp, Path}
-use Rattle.expression_lang.specs.Sort.{Kind, WordKind, NatKind, IntKind, BoolKind, Scope, sort_of}
+use Rattle.expression_lang.specs.Sort.{Kind, WordKind, NatKind, IntKind, Scope, sort_of}
 use Rattle.expression_lang.specs.Signature.{Binder}
 use Rattle.rule_trees.specs.RuleTree.{Trees, no_trees, tree}
 use Rattle.rule_word.specs.Rule as R
@@ -20,21 +20,15 @@ use Rattle.word_abstract.specs.CodeMeaning.{Seen, seen_in, seen_for, Standing, s
 
 seen_is : (b : Base) (n : ℕ) (v : View) (x : Abstracted) → seen_from b n v x ≡ seen_at b n (seen_in v) x
 seen_is Words n (AsIs o) x = refl
-seen_is Words n (Unsigned m) x = refl
-seen_is Words n (Signed m) x = refl
 seen_is Naturals n (AsIs o) x = refl
-seen_is Naturals n (Unsigned m) x = refl
-seen_is Naturals n (Signed m) x = refl
 seen_is Integers n (AsIs o) x = refl
-seen_is Integers n (Unsigned m) x = refl
-seen_is Integers n (Signed m) x = refl
+seen_is _ _ _ _ = refl
 
 var_is : (o : Option Kind) (x : Name) (v : View) → var_at o x v ≡ meaning (S.var_standing o x) (seen_in v)
-var_is None x v = refl
 var_is (Some (WordKind n)) x v = seen_is Words n v _
 var_is (Some (NatKind n)) x v = seen_is Naturals n v _
 var_is (Some (IntKind n)) x v = seen_is Integers n v _
-var_is (Some BoolKind) x v = refl
+var_is _ _ _ = refl
 
 -- what is made of operands, whichever way they are seen
 of_one : {A : Type 0} (F : (View → Abstracted) → A) (f : View → Abstracted) (a : Standing) → ((v : View) → f v ≡ meaning a (seen_in v)) → F f ≡ F (λ v. meaning a (seen_in v))
@@ -46,9 +40,7 @@ of_two F f h a b e i = ap₂ F (fun_ext e) (fun_ext i)
 
 pub kind_seen : (k : Kind) → seen_in (view_for k) ≡ seen_for k
 kind_seen (WordKind n) = refl
-kind_seen (NatKind n) = refl
-kind_seen (IntKind n) = refl
-kind_seen BoolKind = refl
+kind_seen _ = refl
 
 module _ (same : Exp → Exp → Bool) (numbers : Bool) (g : Scope) (names : List Binder) where
   abbrev A : Surroundings → Exp → View → Abstracted
@@ -83,10 +75,7 @@ module _ (same : Exp → Exp → Bool) (numbers : Bool) (g : Scope) (names : Lis
 
   compared_is : (b : Bool) (test : _) (x y : Standing) (g' : _) (e : Exp) (i : Exp) (n : ℕ) → compared b test (λ w. meaning x (seen_in w)) (λ w. meaning y (seen_in w)) (own g' e) (own g' i) n ≡ meaning (S.compared b test x y) S.AsWord
   compared_is true Wult x y g' e i n = refl
-  compared_is true Wule x y g' e i n = refl
-  compared_is true Wslt x y g' e i n = refl
-  compared_is true Wsle x y g' e i n = refl
-  compared_is false test x y g' e i n = refl
+  compared_is _ _ _ _ _ _ _ _ = refl
 
   fixed_compared : (b : Bool) (test : WordTest) (x y : Standing) (s : Seen) → meaning (S.compared b test x y) S.AsWord ≡ meaning (S.compared b test x y) s
   fixed_compared true test x y s = refl
@@ -94,28 +83,21 @@ module _ (same : Exp → Exp → Bool) (numbers : Bool) (g : Scope) (names : Lis
 
   equal_is : (o : Option Kind) (x y : Standing) (e i : Exp) (s : Seen) → equal (λ w. meaning x (seen_in w)) (λ w. meaning y (seen_in w)) (own g e) (own g i) o ≡ meaning (S.equal o x y) s
   equal_is (Some (WordKind n)) x y e i s = refl
-  equal_is (Some (NatKind n)) x y e i s = refl
-  equal_is (Some (IntKind n)) x y e i s = refl
-  equal_is (Some BoolKind) x y e i s = refl
-  equal_is None x y e i s = refl
+  equal_is _ _ _ _ _ _ = refl
 
   cast_is : (b : Bool) (op : X.CastOp) (m : ℕ) (v : View) (x : Standing) (e : Exp) (n : ℕ) → cast_at b op m v (λ w. meaning x (seen_in w)) (own g e) n ≡ meaning (S.cast_standing b op m x) (seen_in v)
   cast_is true X.Zext m (AsIs o) x e n = refl
-  cast_is true X.Zext m (Unsigned j) x e n = refl
-  cast_is true X.Zext m (Signed j) x e n = refl
   cast_is true X.Sext m v x e n = seen_is Integers m v _
   cast_is true X.Trunc m v x e n = op_seen v _ _
   cast_is false X.Zext m v x e n = op_seen v _ _
   cast_is false X.Sext m v x e n = op_seen v _ _
   cast_is false X.Trunc m v x e n = op_seen v _ _
+  cast_is _ _ _ _ _ _ _ = refl
 
   cast_base : (b : Bool) (op : X.CastOp) (m : ℕ) (x : Standing) (k : Surroundings) (e : Exp) → base_of same b g names k (X.Cast op m e) ≡ base_at (S.cast_standing b op m x)
   cast_base true X.Zext m x k e = refl
-  cast_base true X.Sext m x k e = refl
-  cast_base true X.Trunc m x k e = refl
   cast_base false X.Zext m x k e = refl
-  cast_base false X.Sext m x k e = refl
-  cast_base false X.Trunc m x k e = refl
+  cast_base _ _ _ _ _ _ = refl
 
   fixed_base : (b : Bool) (test : WordTest) (x y : Standing) → Words ≡ base_at (S.compared b test x y)
   fixed_base true test x y = refl
@@ -126,11 +108,8 @@ module _ (same : Exp → Exp → Bool) (numbers : Bool) (g : Scope) (names : Lis
   equal_base None x y = refl
 
   var_base_is : (o : Option Kind) (x : Name) → var_base o ≡ base_at (S.var_standing o x)
-  var_base_is None x = refl
   var_base_is (Some (WordKind n)) x = refl
-  var_base_is (Some (NatKind n)) x = refl
-  var_base_is (Some (IntKind n)) x = refl
-  var_base_is (Some BoolKind) x = refl
+  var_base_is _ _ = refl
 
   one_is : (f : Exp → Exp) (k : Surroundings) (a : Exp) (v : View) → Is k a → alone f a v (A k a (own g a)) ≡ meaning (let x = word_of (T k a) in S.operator (f x.right) (one x)) (seen_in v)
   one_is f k a v e = ap (λ x. alone f a v x) (e (own g a)) ∙ op_seen v _ _
@@ -147,14 +126,8 @@ module _ (same : Exp → Exp → Bool) (numbers : Bool) (g : Scope) (names : Lis
     pub meaning_is : (k : Surroundings) (e : Exp) (v : View) → abstracted same numbers g names k e v ≡ meaning (standing same numbers g names k e) (seen_in v)
     meaning_is k (X.Var x) v = var_is (names_in (λ j. j) names x) x v
     meaning_is k (X.WordLit w) (AsIs o) = refl
-    meaning_is k (X.WordLit w) (Unsigned n) = refl
-    meaning_is k (X.WordLit w) (Signed n) = refl
     meaning_is k (X.NumberLit n) (AsIs o) = refl
-    meaning_is k (X.NumberLit n) (Unsigned m) = refl
-    meaning_is k (X.NumberLit n) (Signed m) = refl
     meaning_is k (X.TruthLit b) (AsIs o) = refl
-    meaning_is k (X.TruthLit b) (Unsigned m) = refl
-    meaning_is k (X.TruthLit b) (Signed m) = refl
     meaning_is k (X.WordBinary op a b) v =
         let n = or_zero (width_in g a) in
         of_two (λ f h. let os = operands f h (own g a) (own g b) n in let base = binary_base same numbers k n op os in seen_from base n v (binary_at op base os))
@@ -206,6 +179,7 @@ module _ (same : Exp → Exp → Bool) (numbers : Bool) (g : Scope) (names : Lis
         ap₂ (λ (x y : Abstracted). let i = indices same numbers g names k path (one y) in by_head v (X.Upd x.right i.path y.right) (tree x.tree i.trees)) (meaning_is k e (own g e)) (meaning_is k w (own g w))
         ∙ ap (λ (i : Indices). by_head v (X.Upd (word_of (T k e)).right i.path (word_of (T k w)).right) (tree (word_of (T k e)).tree i.trees)) (indices_is k path (one (word_of (T k w))))
         ∙ op_seen v _ _
+    meaning_is _ _ _ = refl
 
     pub indices_is : (k : Surroundings) (path : Path) (ts : Trees Rule) → indices same numbers g names k path ts ≡ record { path = path_standing same numbers g names k path; trees = path_trees same numbers g names k path ts }
     indices_is k X.Here ts = refl
@@ -215,38 +189,14 @@ module _ (same : Exp → Exp → Bool) (numbers : Bool) (g : Scope) (names : Lis
 
     base_is : (k : Surroundings) (e : Exp) → base_of same numbers g names k e ≡ base_at (standing same numbers g names k e)
     base_is k (X.Var x) = var_base_is (names_in (λ j. j) names x) x
-    base_is k (X.WordLit w) = refl
-    base_is k (X.NumberLit n) = refl
-    base_is k (X.TruthLit b) = refl
     base_is k (X.WordBinary op a b) =
         let n = or_zero (width_in g a) in
         of_two (λ f h. binary_base same numbers k n op (operands f h (own g a) (own g b) n)) (A k a) (A k b) (T k a) (T k b) (meaning_is k a) (meaning_is k b)
-    base_is k (X.WordShift op a n) = refl
     base_is k (X.WordUnary op a) =
         let n = or_zero (width_in g a) in
         of_one (λ f. negation_base same numbers k n op (f (Unsigned n)) (f (Signed n))) (A k a) (T k a) (meaning_is k a)
     base_is k (X.WordCompare test a b) = fixed_base numbers test (T k a) (T k b)
     base_is k (X.Cast op m a) = cast_base numbers op m (T k a) k a
-    base_is k (X.ToNat a) = refl
-    base_is k (X.ToInt a) = refl
-    base_is k (X.ToWord m a) = refl
-    base_is k (X.Arith op a b) = refl
-    base_is k (X.Negate a) = refl
-    base_is k (X.Lt a b) = refl
-    base_is k (X.Le a b) = refl
     base_is k (X.Between low a high) = refl
     base_is k (X.Eq a b) = equal_base (equality_kind (sort_of g a) (first_base (base_at (T k a)) (base_at (T k b)))) (T k a) (T k b)
-    base_is k (X.And a b) = refl
-    base_is k (X.Or a b) = refl
-    base_is k (X.Imp a b) = refl
-    base_is k (X.Not a) = refl
-    base_is k (X.If c a b) = refl
-    base_is k (X.Padd t p n) = refl
-    base_is k (X.At t p path) = refl
-    base_is k (X.Load t p path) = refl
-    base_is k (X.Read t p path) = refl
-    base_is k (X.Tagged t p) = refl
-    base_is k (X.PtrOk t p) = refl
-    base_is k (X.Global x path) = refl
-    base_is k (X.Sel e path) = refl
-    base_is k (X.Upd e path w) = refl
+    base_is _ _ = refl

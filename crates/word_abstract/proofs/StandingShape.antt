@@ -4,7 +4,7 @@ use Rattle.expression_lang.specs.Expression as X
 use Rattle.expression_lang.specs.Expression.{Exp}
 use Rattle.expression_lang.specs.Sort.{Scope}
 use Rattle.expression_lang.specs.Signature.{Binder}
-use Rattle.expression_lang.specs.CodeShape.{Two, BinaryTwo, ShiftTwo, CompareTwo, ArithTwo, LtTwo, LeTwo, EqTwo, AndTwo, OrTwo, ImpTwo, Shape, LeafShape, OneShape, TwoShape, BetweenShape, IfShape, PaddShape, RootShape, PlaceShape, GlobalShape, SelShape, UpdShape, shape_of, whole_root, whole_place}
+use Rattle.expression_lang.specs.CodeShape.{Two, AndTwo, OrTwo, ImpTwo, Shape, LeafShape, OneShape, TwoShape, BetweenShape, IfShape, PaddShape, RootShape, PlaceShape, GlobalShape, SelShape, UpdShape, shape_of, whole_root, whole_place}
 use Rattle.ac_expr.specs.Fact.{Whole, NotTrue}
 use Rattle.rule_trees.specs.RuleTree.{no_trees, tree}
 use Rattle.rule_word.specs.Scopes.{names_in, width_in}
@@ -45,38 +45,8 @@ module _ (same : Exp → Exp → Bool) (numbers : Bool) (g : Scope) (names : Lis
       operator (X.Upd x.right (path_standing same numbers g names k path) y.right) (tree x.tree (path_trees same numbers g names k path (one y)))
 
   exp_shape : (k : Surroundings) (e : Exp) → standing same numbers g names k e ≡ shape_standing k (shape_of e)
-  exp_shape k (X.Var x) = refl
-  exp_shape k (X.WordLit x) = refl
-  exp_shape k (X.NumberLit x) = refl
-  exp_shape k (X.TruthLit x) = refl
-  exp_shape k (X.WordBinary op a b) = refl
-  exp_shape k (X.WordShift op a b) = refl
-  exp_shape k (X.WordUnary op a) = refl
-  exp_shape k (X.WordCompare op a b) = refl
-  exp_shape k (X.Cast op n a) = refl
-  exp_shape k (X.ToNat a) = refl
-  exp_shape k (X.ToInt a) = refl
-  exp_shape k (X.ToWord n a) = refl
-  exp_shape k (X.Arith op a b) = refl
-  exp_shape k (X.Negate a) = refl
-  exp_shape k (X.Lt a b) = refl
-  exp_shape k (X.Le a b) = refl
   exp_shape k (X.Between low a high) = refl
-  exp_shape k (X.Eq a b) = refl
-  exp_shape k (X.And a b) = refl
-  exp_shape k (X.Or a b) = refl
-  exp_shape k (X.Imp a b) = refl
-  exp_shape k (X.Not a) = refl
-  exp_shape k (X.If a b c) = refl
-  exp_shape k (X.Padd t a b) = refl
-  exp_shape k (X.At t a path) = refl
-  exp_shape k (X.Load t a path) = refl
-  exp_shape k (X.Read t a path) = refl
-  exp_shape k (X.Tagged t a) = refl
-  exp_shape k (X.PtrOk t a) = refl
-  exp_shape k (X.Global x path) = refl
-  exp_shape k (X.Sel a path) = refl
-  exp_shape k (X.Upd a path b) = refl
+  exp_shape _ _ = refl
 
   pub standing_shape : (k : Surroundings) (e : Exp) (s : Shape) → s ≡ shape_of e → standing same numbers g names k e ≡ shape_standing k s
   standing_shape k e s q = exp_shape k e ∙ ap (shape_standing k) (sym q)
@@ -88,16 +58,7 @@ module _ (same : Exp → Exp → Bool) (numbers : Bool) (g : Scope) (names : Lis
   connective_shape k AndTwo a b true q = refl
   connective_shape k ImpTwo a b true q = refl
   connective_shape k OrTwo a b false q = refl
-  connective_shape k AndTwo a b false q = absurd cc
-  connective_shape k ImpTwo a b false q = absurd cc
-  connective_shape k OrTwo a b true q = absurd cc
-  connective_shape k (BinaryTwo op) a b c q = absurd cc
-  connective_shape k (ShiftTwo op) a b c q = absurd cc
-  connective_shape k (CompareTwo op) a b c q = absurd cc
-  connective_shape k (ArithTwo op) a b c q = absurd cc
-  connective_shape k LtTwo a b c q = absurd cc
-  connective_shape k LeTwo a b c q = absurd cc
-  connective_shape k EqTwo a b c q = absurd cc
+  connective_shape k _ a b _ q = absurd cc
 
   pub connective_standing : (k : Surroundings) (e : Exp) (h : Two) (a b : Exp) (c : Bool) → TwoShape h a b ≡ shape_of e → connective h ≡ Some c →
       standing same numbers g names k e ≡
@@ -106,16 +67,10 @@ module _ (same : Exp → Exp → Bool) (numbers : Bool) (g : Scope) (names : Lis
 
   two_shape : (k : Surroundings) (h : Two) (a b : Exp) → connective h ≡ None →
       shape_standing k (TwoShape h a b) ≡ two_standing same numbers g names k h a (standing same numbers g names k a) (standing same numbers g names k b)
-  two_shape k (BinaryTwo op) a b q = refl
-  two_shape k (ShiftTwo op) a b q = refl
-  two_shape k (CompareTwo op) a b q = refl
-  two_shape k (ArithTwo op) a b q = refl
-  two_shape k LtTwo a b q = refl
-  two_shape k LeTwo a b q = refl
-  two_shape k EqTwo a b q = refl
   two_shape k AndTwo a b q = absurd cc
   two_shape k OrTwo a b q = absurd cc
   two_shape k ImpTwo a b q = absurd cc
+  two_shape _ _ _ _ _ = refl
 
   pub two_alone : (k : Surroundings) (e : Exp) (h : Two) (a b : Exp) → TwoShape h a b ≡ shape_of e → connective h ≡ None →
       standing same numbers g names k e ≡ two_standing same numbers g names k h a (standing same numbers g names k a) (standing same numbers g names k b)

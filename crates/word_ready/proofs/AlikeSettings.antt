@@ -4,7 +4,7 @@ use Rattle.std.proofs.Math.Path.{fun_ext}
 use Rattle.c_values.specs.Name.{Name}
 use Rattle.c_values.specs.Types.{CType}
 use Rattle.c_values.specs.Layout.{Layout}
-use Rattle.c_values.specs.Word.{WordOp, Wadd, Wsub, Wmul, Wand, Wor, Wxor, Wudiv, Wumod, Wsdiv, Wsmod, UnaryOp, Wneg, Wnot}
+use Rattle.c_values.specs.Word.{WordOp, Wadd, Wsub, Wmul, Wsdiv, UnaryOp, Wneg, Wnot}
 use Rattle.c_values.specs.Number as N
 use Rattle.expression_lang.specs.Expression as X
 use Rattle.expression_lang.specs.Expression.{Exp, Path}
@@ -56,12 +56,7 @@ module _ (same : Exp → Exp → Bool) (k k' : Surroundings) (h : AreAlike same 
   binary_alike n Wmul os =
       base_alike n (X.Arith N.Mul os.naturals.0.right os.naturals.1.right) (X.Arith N.Mul os.integers.0.right os.integers.1.right)
   binary_alike n Wsdiv os = signed_alike n (X.Arith N.Div os.integers.0.right os.integers.1.right)
-  binary_alike n Wudiv os = refl
-  binary_alike n Wumod os = refl
-  binary_alike n Wsmod os = refl
-  binary_alike n Wand os = refl
-  binary_alike n Wor os = refl
-  binary_alike n Wxor os = refl
+  binary_alike _ _ _ = refl
 
   negation_alike : (n : ℕ) (op : UnaryOp) (a b : Abstracted) →
       negation_base same true k n op a b ≡ negation_base same true k' n op a b
@@ -154,10 +149,6 @@ module _ (same : Exp → Exp → Bool) (l : Layout) (gs : Name → Option CType)
   mutual
     pub alike : (e : Exp) → AgreeOn (λ y. names_it y e) ms ns → (k k' : Surroundings) → AreAlike same k k' → (v : View) →
         abstracted same true (in_scope l gs ms) names k e v ≡ abstracted same true (in_scope l gs ns) names k' e v
-    alike (X.Var x) h k k' i v = refl
-    alike (X.WordLit w) h k k' i v = refl
-    alike (X.NumberLit n) h k k' i v = refl
-    alike (X.TruthLit b) h k k' i v = refl
     alike (X.WordBinary op a b) h k k' i v =
         let ia : SameAt k k' a = λ w. alike a (on_left a b h) k k' i w in
         let ib : SameAt k k' b = λ w. alike b (on_right a b h) k k' i w in
@@ -282,6 +273,7 @@ module _ (same : Exp → Exp → Bool) (l : Layout) (gs : Name → Option CType)
         ∙ ap (λ q. let x = A' k' e (own g' e) in
         by_head v (X.Upd x.right q.path (A' k' d (own g' d)).right) (tree x.tree q.trees))
         (path_alike path (on_path e path p) k k' i (one (A' k' d (own g' d))))
+    alike _ _ _ _ _ _ = refl
 
     pub path_alike : (path : Path) → AgreeOn (λ y. path_names y path) ms ns → (k k' : Surroundings) →
         AreAlike same k k' → (ts : Trees R.Rule) →
@@ -300,6 +292,4 @@ module _ (same : Exp → Exp → Bool) (l : Layout) (gs : Name → Option CType)
         binary_by op a b h k k' i (λ w. alike a (on_left a b h) k k' i w) (λ w. alike b (on_right a b h) k k' i w)
     same_base (X.WordUnary op a) h k k' i = unary_by op a h k k' i (λ w. alike a h k k' i w)
     same_base (X.Cast X.Zext m a) h k k' i = refl
-    same_base (X.Cast X.Sext m a) h k k' i = refl
-    same_base (X.Cast X.Trunc m a) h k k' i = refl
-    same_base e h k k' i = refl
+    same_base _ _ _ _ _ = refl

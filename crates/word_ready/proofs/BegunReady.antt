@@ -148,11 +148,9 @@ module _ (ctx : Context) (ns : Name → Option Scalar) (ls : List Binder) (ss : 
               all_ready same true ctx table fs bs (exps_lifted (zeros_there r)) ≡ true →
               all_ready same true ctx table fs bs (exps_lifted (zeros_there (zero_first o r))) ≡ true
           first (Some (WordKind n)) (Some es) h = h
-          first (Some (NatKind n)) (Some es) h = h
-          first (Some (IntKind n)) (Some es) h = h
-          first (Some BoolKind) (Some es) h = h
           first (Some k) None h = refl
           first None r h = refl
+          first _ _ h = h
 
       begun_ready : (bs : List Binder) (xs : List Name) →
           AreLocal xs → ((y : Name) → is_free y inner.right ≡ true → is_among y xs ≡ false → names_in word_sort_of bs y ≡ ns y) →

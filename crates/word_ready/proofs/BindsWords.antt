@@ -6,10 +6,10 @@ use Rattle.c_values.specs.Layout.{global_type}
 use Rattle.expression_lang.specs.Expression as X
 use Rattle.expression_lang.specs.Expression.{Exp}
 use Rattle.expression_lang.specs.Mentions.{names as names_it}
-use Rattle.expression_lang.specs.Sort.{Scalar, Kind, WordKind, NatKind, IntKind, BoolKind, Scope, is_truth, is_kind, word_sort_of, sort_of_kind}
+use Rattle.expression_lang.specs.Sort.{Scalar, Kind, WordKind, Scope, is_truth, is_kind, word_sort_of, sort_of_kind}
 use Rattle.expression_lang.specs.Signature.{Binder, Signature, signature, names_of, kinds_of}
 use Rattle.expression_lang.specs.Sorted.{names_with, program_sort, same_scalars, result_scalars, call_scalars}
-use Rattle.simpl_lang.specs.Command.{Simpl, Skip, Throw, Set, SetGlobal, Store, Pick, Seq, Cond, Guard, Catch, While, Call, kind_of}
+use Rattle.simpl_lang.specs.Command.{Simpl, Set, SetGlobal, Store, Pick, Seq, Cond, Guard, Catch, While, Call, kind_of}
 use Rattle.simpl_lang.specs.Sorted.{is_sorted, are_conditions}
 use Rattle.monad_lang.specs.Program as M
 use Rattle.monad_lang.specs.Program.{Mon}
@@ -42,29 +42,22 @@ nothing_words false = refl
 picked_words : (o : Option Kind) (b : Bool) →
     are_words_or_truths (scalars_there (where_fits b (Some (sort_of_kind (kind_there (picked_kind o)) ∷ [])))) ≡ true
 picked_words o false = refl
-picked_words None true = refl
 picked_words (Some (WordKind n)) true = refl
-picked_words (Some (NatKind n)) true = refl
-picked_words (Some (IntKind n)) true = refl
-picked_words (Some BoolKind) true = refl
+picked_words _ _ = refl
 
 kind_words : (k : Kind) → are_words_or_truths (word_sort_of k ∷ []) ≡ true
 kind_words (WordKind n) = refl
-kind_words (NatKind n) = refl
-kind_words (IntKind n) = refl
-kind_words BoolKind = refl
+kind_words _ = refl
 
 call_words : (o : Option Signature) (p : Option (List Scalar)) →
     are_words_or_truths (scalars_there (call_scalars word_sort_of o p)) ≡ true
-call_words None p = refl
-call_words (Some s) None = refl
 call_words (Some s) (Some cs) = by_test (same_scalars (map word_sort_of (kinds_of s.params)) cs) s.result
   where
     by_test : (b : Bool) (r : Option Kind) →
         are_words_or_truths (scalars_there (cond b (Some (result_scalars word_sort_of r)) None)) ≡ true
-    by_test false r = refl
-    by_test true None = refl
     by_test true (Some k) = kind_words k
+    by_test _ _ = refl
+call_words _ _ = refl
 
 -- on heaps as on bytes
 
@@ -115,8 +108,6 @@ module _ (ctx : Context) (ns : Name → Option Scalar) (ls : List Binder) (ss : 
   pub lifted_binds : (a : Simpl) → is_sorted (in_scope ctx.layout (global_type ctx.globals) ns) ss a ≡ true → (vs : List Name) →
       AllThere ns vs → (ms : Name → Option Scalar) → AgreeOn (λ y. is_free y (lifted ls a vs).right) ms ns →
       binds_words (setting_at ctx ns ls ss known ms) (lifted ls a vs).right ≡ true
-  lifted_binds Skip w vs t ms h = refl
-  lifted_binds Throw w vs t ms h = refl
   lifted_binds (Set x e) w vs t ms h = set_binds ms (is_among x vs) x e vs
   lifted_binds (SetGlobal x path e) w vs t ms h = then_vars ms (M.Write (M.Global x path) e) [] vs (nothing_words _) refl
   lifted_binds (Store u p path e) w vs t ms h = then_vars ms (M.Write (M.Stored u p path) e) [] vs (nothing_words _) refl
@@ -173,9 +164,9 @@ module _ (ctx : Context) (ns : Name → Option Scalar) (ls : List Binder) (ss : 
   lifted_binds (Call (Some x) f es) w vs t ms h =
       then_vars ms (M.Call f es) (x ∷ []) vs (call_words (signature ctx.functions f) _) refl
   lifted_binds (Call None f es) w vs t ms h = then_vars ms (M.Call f es) [] vs (call_words (signature ctx.functions f) _) refl
+  lifted_binds _ _ _ _ _ _ = refl
 
 pub binds_stay : (t : Setting) (m : Mon) → binds_words t m ≡ true → binds_words t (on_heaps m) ≡ true
-binds_stay t (M.Ret es) h = refl
 binds_stay t (M.Bind m xs n) h = by_pair (is_pair m xs n) refl (λ i. binds_stay t m i) (λ t i. binds_stay t n i)
   where
     by_pair : (b : Bool) → is_pair m xs n
@@ -190,14 +181,11 @@ binds_stay t (M.Bind m xs n) h = by_pair (is_pair m xs n) refl (λ i. binds_stay
         subst (λ o. (are_words_or_truths (scalars_there o) && binds_words t (on_heaps m)
         && binds_words (setting_with xs (scalars_there o) t) (on_heaps n)) ≡ true) (sym (scalars_stay t m))
         (and_from _ _ (and_from _ _ q.0 (first q.1)) (second (setting_with xs cs t) p.1))
-binds_stay t (M.Guard e) h = refl
 binds_stay t (M.If e m n) h =
     let p = and_parts (binds_words t m) (binds_words t n) h in and_from _ _ (binds_stay t m p.0) (binds_stay t n p.1)
-binds_stay t (M.Write place e) h = refl
 binds_stay t (M.Loop starts guard test m) h =
     subst (λ xs. binds_words (setting_with xs (scalars_there (start_scalars t.scope (starts_lifted starts))) t) (on_heaps m)
     ≡ true) (sym (still_named starts))
     (subst (λ o. binds_words (setting_with (start_names starts) (scalars_there o) t) (on_heaps m) ≡ true)
     (sym (starts_sorted t.scope starts)) (binds_stay _ m h))
-binds_stay t (M.Call f es) h = refl
-binds_stay t (M.Pick k) h = refl
+binds_stay _ _ _ = refl

@@ -100,12 +100,9 @@ module _ (same : Exp → Exp → Bool) (finds : (e : Exp) → same e e ≡ true)
       ((names : List Binder) (k : Surroundings) → AllThere same finds g names k now → AllThere same finds g names k before) →
       (a : Simpl) →
       IsCommandReady before a → IsCommandReady now a
-  command_from_more before now h Skip i = tt
-  command_from_more before now h Throw i = tt
   command_from_more before now h (Set x e) i = λ names k a. i names k (h names k a)
   command_from_more before now h (SetGlobal x path e) i = λ names k a. i names k (h names k a)
   command_from_more before now h (Store t p path e) i = λ names k a. i names k (h names k a)
-  command_from_more before now h (Pick x) i = tt
   command_from_more before now h (Seq a b) i = (command_from_more before now h a i.0, i.1)
   command_from_more before now h (Cond e a b) i = ((λ names k r. i.0 names k (h names k r)), i.1, i.2)
   command_from_more before now h (Guard c a) i = (
@@ -115,3 +112,4 @@ module _ (same : Exp → Exp → Bool) (finds : (e : Exp) → same e e ≡ true)
   command_from_more before now h (Catch a b) i = i
   command_from_more before now h (While cs e a) i = i
   command_from_more before now h (Call x f es) i = λ names k a. i names k (h names k a)
+  command_from_more _ _ _ _ _ = tt

@@ -21,8 +21,7 @@ or_else_thrice None b c = refl
 
 or_swapped : (a b c : Bool) → (a || (b || c)) ≡ (b || (a || c))
 or_swapped true true c = refl
-or_swapped true false c = refl
-or_swapped false b c = refl
+or_swapped _ _ _ = refl
 
 module _ (same : Exp → Exp → Bool) (natural integer : Exp) where
   -- a fact in front or behind others

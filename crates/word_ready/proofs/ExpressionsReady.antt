@@ -41,10 +41,8 @@ module _ (same : E.Exp → E.Exp → Bool) (sg : S.Scope) (names : List Binder) 
     where
       by_widths : (a b c : Bool) →
           Ready k (cond a e (cond b (E.Cast E.Trunc to e) (cond c (E.Cast E.Sext to e) (E.Cast E.Zext to e))))
-      by_widths true b c = h
-      by_widths false true c = h
       by_widths false false true = h
-      by_widths false false false = h
+      by_widths _ _ _ = h
 
   shift_ready : (k : Surroundings) (i : IntType) (d : C.Direction) (a n : E.Exp) → Ready k a → Ready k n → Ready k (shift i d a n)
   shift_ready k i C.Left a n h j = (h, j)
@@ -57,8 +55,7 @@ module _ (same : E.Exp → E.Exp → Bool) (sg : S.Scope) (names : List Binder) 
   combined_ready : (k : Surroundings) (op : C.Bitwise) (a b : E.Exp) → Ready k a → Ready k b →
       Ready k (E.WordBinary (combine_op op) a b)
   combined_ready k C.BitAnd a b h j = (refl, h, j)
-  combined_ready k C.BitOr a b h j = (refl, h, j)
-  combined_ready k C.BitXor a b h j = (refl, h, j)
+  combined_ready _ _ _ _ h j = (refl, h, j)
 
   comparison_ready : (k : Surroundings) (r : C.Relation) (s : Bool) (a b : E.Exp) → Ready k a → Ready k b →
       Ready k (comparison r s a b)

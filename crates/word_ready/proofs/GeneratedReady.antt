@@ -153,8 +153,6 @@ module _ (same : E.Exp → E.Exp → Bool) (finds : (e : E.Exp) → same e e ≡
   use_ready : (gs : List Condition) (n : ℕ) (f : Name) (es : List E.Exp) (o : Option CType) (u : C.Use) → is_use_of g o u ≡ true →
       After gs (λ names k. AreReady same finds sg names k es) →
       IsCommandReady same finds sg gs (call l Numbers n f es u)
-  use_ready gs n f es o C.NoResult w h = h
-  use_ready gs n f es o (C.Ignored from) w h = h
   use_ready gs n f es None (C.Assigned from d) w h = absurd (false≢true w)
   use_ready gs n f es (Some t) (C.Assigned from d) w h =
       let typed = (and_parts (same_type t from && is_scalar (C.target_type d)) (is_typed_target g d) w).1 in
@@ -166,6 +164,7 @@ module _ (same : E.Exp → E.Exp → Bool) (finds : (e : E.Exp) → same e e ≡
       )
   use_ready gs n f es o (C.Returned from to) w h =
       (h, ((λ names k a. conversion_ready names k to from (call_local n)), jump_ready returned))
+  use_ready _ _ _ _ _ _ _ h = h
 
   called_ready : (n : ℕ) (f : Name) (es : List C.Expr) (u : C.Use) (o : Option C.TypedFn) → is_call_of g o es u ≡ true →
       Ready (call_of l Numbers n f es u)
@@ -196,9 +195,7 @@ module _ (same : E.Exp → E.Exp → Bool) (finds : (e : E.Exp) → same e e ≡
   mutual
     pub command_ready : (r : Around) (s : C.Statement) → is_statement g r s ≡ true →
         IsCommandReady same finds (simpl_scope g ns) [] (command g.layout Numbers s)
-    command_ready r C.Empty w = tt
     command_ready r (C.Block ss) w = commands_ready r ss w
-    command_ready r (C.Declare x t) w = tt
     command_ready r (C.Assign d e) w =
         let p = and_parts (is_typed_target g d) (is_typed_at g (C.target_type d) e) w in
         let typed = at_type (C.target_type d) e p.1 in
@@ -256,6 +253,7 @@ module _ (same : E.Exp → E.Exp → Bool) (finds : (e : E.Exp) → same e e ≡
     command_ready r (C.Return e) w =
         let typed = (and_parts (is_type g.result (C.type_of e)) (is_typed g e) w).1 in
         around (guards l Numbers e) _ (in_order_of e typed) (value_of e typed, jump_ready returned)
+    command_ready _ _ _ = tt
 
     pub commands_ready : (r : Around) (ss : C.Statements) → are_statements g r ss ≡ true →
         IsCommandReady same finds (simpl_scope g ns) [] (commands g.layout Numbers ss)

@@ -143,8 +143,6 @@ module _ (same : E.Exp → E.Exp → Bool) (finds : (e : E.Exp) → same e e ≡
   mutual
     pub guards_ready : (e : C.Expr) → is_typed g e ≡ true →
         AreInOrder same finds (simpl_scope g ns) [] (guards g.layout Numbers e)
-    guards_ready (C.Constant i n) t = tt
-    guards_ready (C.Local x u) t = tt
     guards_ready (C.Value p) t = behind (place_guards l Numbers p) (accesses l Numbers p) (place_ready p t) (accesses_ready p t)
     guards_ready (C.Convert u a) t =
         guards_ready a (and_parts (has_scalar_type a) (is_typed g a)
@@ -212,6 +210,7 @@ module _ (same : E.Exp → E.Exp → Bool) (finds : (e : E.Exp) → same e e ≡
         place_ready p (and_parts (is_in_memory p) (is_typed_place g p) (and_parts (is_in_memory p && is_typed_place g p) _ t).0).1
     guards_ready (C.Decay p u) t =
         place_ready p (and_parts (is_in_memory p) (is_typed_place g p) (and_parts (is_in_memory p && is_typed_place g p) _ t).0).1
+    guards_ready _ _ = tt
 
     pub place_ready : (p : C.Place) → is_typed_place g p ≡ true →
         AreInOrder same finds (simpl_scope g ns) [] (place_guards g.layout Numbers p)

@@ -5,7 +5,7 @@ use Rattle.c_values.specs.Name.{Name, same_name, with_name, is_among, are_distin
 use Rattle.c_values.specs.Types.{Target, CType}
 use Rattle.c_values.specs.Layout.{scalar_width}
 use Rattle.c_values.proofs.Options.{some_is, none_is}
-use Rattle.expression_lang.specs.Sort.{Level, Scalar, WordSort, Kind, WordKind, NatKind, IntKind, BoolKind, are_kinds, word_sort_of, sort_of_kind}
+use Rattle.expression_lang.specs.Sort.{Level, Scalar, WordSort, Kind, WordKind, are_kinds, word_sort_of, sort_of_kind}
 use Rattle.expression_lang.specs.Signature.{Binder, Signature, kind_at, names_of, kinds_of, signature}
 use Rattle.expression_lang.specs.Sorted.{names_with, call_scalars}
 use Rattle.simpl_lang.specs.Command.{kind_of}
@@ -92,9 +92,7 @@ variables_known t level vs bs d x u h =
 
 kind_word_or_truth : (k : Kind) → is_word_or_truth (word_sort_of k) ≡ true
 kind_word_or_truth (WordKind n) = refl
-kind_word_or_truth (NatKind n) = refl
-kind_word_or_truth (IntKind n) = refl
-kind_word_or_truth BoolKind = refl
+kind_word_or_truth _ = refl
 
 pub only_words : (bs : List Binder) (ms : Name → Option Scalar) → ((y : Name) → is_word_or_truth (scalar_there (ms y)) ≡ true) →
     (y : Name) → is_word_or_truth (scalar_there (scalars_among bs ms y)) ≡ true

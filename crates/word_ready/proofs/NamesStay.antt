@@ -1,7 +1,7 @@
 -- A lifted expression names what it named.
 use Rattle.std.proofs.Common.{◌≡◌, ◌||◌, refl, ap, ap₂, ◌∙◌}
 use Rattle.c_values.specs.Name.{Name}
-use Rattle.expression_lang.specs.Expression.{Exp, Var, WordLit, NumberLit, TruthLit, WordBinary, WordShift, WordUnary, WordCompare, Cast, ToNat, ToInt, ToWord, Arith, Negate, Lt, Le, Between, Eq, And, Or, Imp, Not, If, Padd, At, Load, Read, Tagged, PtrOk, Global, Sel, Upd, Path, Here, IntoField, IntoElement}
+use Rattle.expression_lang.specs.Expression.{Exp, WordBinary, WordShift, WordUnary, WordCompare, Cast, ToNat, ToInt, ToWord, Arith, Negate, Lt, Le, Between, Eq, And, Or, Imp, Not, If, Padd, At, Load, Read, Tagged, PtrOk, Global, Sel, Upd, Path, Here, IntoField, IntoElement}
 use Rattle.expression_lang.specs.Form.{has, path_has}
 use Rattle.expression_lang.specs.Mentions.{is_name}
 use Rattle.rule_heap.specs.ExpLifted.{exp_lifted, path_lifted}
@@ -9,10 +9,6 @@ use Rattle.rule_heap.specs.ExpLifted.{exp_lifted, path_lifted}
 module _ (v : Name) where
   mutual
     pub name_stays : (e : Exp) → has (is_name v) (exp_lifted e) ≡ has (is_name v) e
-    name_stays (Var x) = refl
-    name_stays (WordLit x) = refl
-    name_stays (NumberLit x) = refl
-    name_stays (TruthLit x) = refl
     name_stays (WordBinary op a b) = ap₂ (λ y z. y || z) (name_stays a) (name_stays b)
     name_stays (WordShift op a b) = ap₂ (λ y z. y || z) (name_stays a) (name_stays b)
     name_stays (WordUnary op a) = name_stays a
@@ -43,6 +39,7 @@ module _ (v : Name) where
     name_stays (Upd a path b) =
         ap₂ (λ y z. (y || z) || has (is_name v) (exp_lifted b)) (name_stays a) (path_name_stays path) ∙
         ap (λ z. (has (is_name v) a || path_has (is_name v) path) || z) (name_stays b)
+    name_stays _ = refl
 
     pub path_name_stays : (path : Path) → path_has (is_name v) (path_lifted path) ≡ path_has (is_name v) path
     path_name_stays Here = refl

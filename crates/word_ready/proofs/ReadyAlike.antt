@@ -75,10 +75,6 @@ module _ (same : Exp → Exp → Bool) (l : Layout) (gs : Name → Option CType)
   mutual
     pub ready_alike : (e : Exp) → AgreeOn (λ y. names_it y e) ms ns → (k k' : Surroundings) → AreAlike same k k' →
         ready same true (in_scope l gs ms) names k e ≡ ready same true (in_scope l gs ns) names k' e
-    ready_alike (X.Var x) h k k' i = refl
-    ready_alike (X.WordLit w) h k k' i = refl
-    ready_alike (X.NumberLit n) h k k' i = refl
-    ready_alike (X.TruthLit b) h k k' i = refl
     ready_alike (X.WordBinary op a b) h k k' i =
         let ha = on_left a b h in
         let hb = on_right a b h in
@@ -139,6 +135,7 @@ module _ (same : Exp → Exp → Bool) (l : Layout) (gs : Name → Option CType)
         (ap₂ (λ x y. x && y) (ready_alike e (left (λ y. names_it y e) (λ y. path_names y path) p) k k' i)
         (paths_alike path (right (λ y. names_it y e) (λ y. path_names y path) p) k k' i))
         (ready_alike d hd k k' i)
+    ready_alike _ _ _ _ _ = refl
 
     pub paths_alike : (path : Path) → AgreeOn (λ y. path_names y path) ms ns → (k k' : Surroundings) → AreAlike same k k' →
         path_ready same true (in_scope l gs ms) names k path ≡ path_ready same true (in_scope l gs ns) names k' path

@@ -77,10 +77,6 @@ module _ (same : Exp → Exp → Bool) (g : Scope) (names : List Binder) where
 
   mutual
     pub done : (k : Surroundings) (e : Exp) → IsReady k e → ready same true g names k (exp_lifted e) ≡ true
-    done k (X.Var x) h = refl
-    done k (X.WordLit w) h = refl
-    done k (X.NumberLit n) h = refl
-    done k (X.TruthLit b) h = refl
     done k (X.WordBinary op a b) h = and_from _ _ (and_from _ _ h.0 (done k a h.1)) (done k b h.2)
     done k (X.WordShift op a n) h = and_from _ _ (done k a h.0) (done k n h.1)
     done k (X.WordUnary op a) h = and_from _ _ h.0 (done k a h.1)
@@ -111,6 +107,7 @@ module _ (same : Exp → Exp → Bool) (g : Scope) (names : List Binder) where
     done k (X.Global x path) h = path_done k path h
     done k (X.Sel e path) h = and_from _ _ (done k e h.0) (path_done k path h.1)
     done k (X.Upd e path v) h = and_from _ _ (and_from _ _ (done k e h.0) (path_done k path h.1)) (done k v h.2)
+    done _ _ _ = refl
 
     pub path_done : (k : Surroundings) (path : Path) → IsPathReady k path →
         path_ready same true g names k (path_lifted path) ≡ true

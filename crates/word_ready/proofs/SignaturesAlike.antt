@@ -49,11 +49,10 @@ alike (s ∷ ss) x = by_test (same_name s.name x) (alike ss x)
 
 both_call : (a b : Option Signature) → SignedAlike word_sort_of sort_of_kind a b → (o : Option (List Scalar)) →
     call_scalars sort_of_kind b o ≡ call_scalars word_sort_of a o
-both_call None None h o = refl
-both_call (Some a) (Some b) h None = refl
 both_call (Some a) (Some b) h (Some cs) = ap₂ (λ ds r. cond (same_scalars ds cs) (Some r) None) (sym h.takes) (sym h.gives)
 both_call None (Some b) h o = absurd h
 both_call (Some a) None h o = absurd h
+both_call _ _ _ _ = refl
 
 pub calls_alike : (ss : List Signature) (f : Name) (o : Option (List Scalar)) →
     call_scalars sort_of_kind (signature (in_words_all ss) f) o ≡ call_scalars word_sort_of (signature ss f) o

@@ -50,8 +50,6 @@ module _ (l : Layout) where
 
   mutual
     pub single_guards : (e : C.Expr) → AreSingle (guards l Numbers e)
-    single_guards (C.Constant i n) = tt
-    single_guards (C.Local x t) = tt
     single_guards (C.Value p) = both (place_guards l Numbers p) (accesses l Numbers p) (single_place p) (single_accesses p)
     single_guards (C.Convert t a) = single_guards a
     single_guards (C.ConvertNull t a) = single_guards a
@@ -80,6 +78,7 @@ module _ (l : Layout) where
     single_guards (C.MoveBy t a p) = both (guards l Numbers a) (guards l Numbers p) (single_guards a) (single_guards p)
     single_guards (C.Address p t) = single_place p
     single_guards (C.Decay p t) = single_place p
+    single_guards _ = tt
 
     single_place : (p : C.Place) → AreSingle (place_guards l Numbers p)
     single_place (C.Through t p path u) =

@@ -23,10 +23,6 @@ module _ (same : Exp → Exp → Bool) where
   module _ (g : Scope) (names : List Binder) where
     mutual
       pub exp_stays : (k : Surroundings) (e : Exp) → ready same false g names k e ≡ true
-      exp_stays k (X.Var x) = refl
-      exp_stays k (X.WordLit w) = refl
-      exp_stays k (X.NumberLit n) = refl
-      exp_stays k (X.TruthLit b) = refl
       exp_stays k (X.WordBinary op a b) = and_from _ _ (exp_stays k a) (exp_stays k b)
       exp_stays k (X.WordShift op a n) = and_from _ _ (exp_stays k a) (exp_stays k n)
       exp_stays k (X.WordUnary op a) = exp_stays k a
@@ -55,6 +51,7 @@ module _ (same : Exp → Exp → Bool) where
       exp_stays k (X.Global x path) = path_stays k path
       exp_stays k (X.Sel e path) = and_from _ _ (exp_stays k e) (path_stays k path)
       exp_stays k (X.Upd e path v) = and_from _ _ (and_from _ _ (exp_stays k e) (path_stays k path)) (exp_stays k v)
+      exp_stays _ _ = refl
 
       pub path_stays : (k : Surroundings) (path : Path) → path_ready same false g names k path ≡ true
       path_stays k X.Here = refl

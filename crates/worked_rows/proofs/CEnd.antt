@@ -36,9 +36,7 @@ and_next rest (Returning v m) = Done (Returning v m)
 
 and_next_ends : (r : Machine → Ended) (k : Machine → FlowEnd) → ((m : Machine) → r m (k m)) → (f : Flow) → R.and_next r f (and_next k f)
 and_next_ends r k h (Next m) = h m
-and_next_ends r k h (Broken m) = refl
-and_next_ends r k h (Continued m) = refl
-and_next_ends r k h (Returning v m) = refl
+and_next_ends _ _ _ _ = refl
 
 abbrev assigned : Setting → C.Destination → V.Value → Machine → FlowEnd
 assigned t (C.ToLocal x u) v m = Done (Next (with_local x v m))
@@ -55,10 +53,8 @@ used t (C.Assigned from target) v m = assigned t target (converted t.layout (C.t
 used t (C.Returned from to) v m = Done (Returning (Some (converted t.layout to from v)) m)
 
 used_ends : (t : Setting) (use' : C.Use) (v : V.Value) (m : Machine) → R.used t use' v m (used t use' v m)
-used_ends t C.NoResult v m = refl
-used_ends t (C.Ignored from) v m = refl
 used_ends t (C.Assigned from target) v m = assigned_ends t target _ m
-used_ends t (C.Returned from to) v m = refl
+used_ends _ _ _ _ = refl
 
 abbrev and_use : Setting → C.Use → Machine → Returned → FlowEnd
 and_use t use' m r = used t use' (result_value r.result) (machine_with m.locals r.state)
@@ -80,8 +76,7 @@ turned rest (Returning v m) = Done (inr (Returning v m))
 turned_ends : (r : Machine → Ends (Machine ⊎ Flow) K.GuardKind) (k : Machine → Outcome (Machine ⊎ Flow) K.GuardKind) → ((m : Machine) → r m (k m)) → (f : Flow) → R.turned r f (turned k f)
 turned_ends r k h (Next m) = h m
 turned_ends r k h (Continued m) = h m
-turned_ends r k h (Broken m) = refl
-turned_ends r k h (Returning v m) = refl
+turned_ends _ _ _ _ = refl
 
 abbrev stepped : (Machine → FlowEnd) → Machine → Outcome (Machine ⊎ Flow) K.GuardKind
 stepped step m = then_end (step m) (turned (λ n. Done (inl n)))
@@ -119,9 +114,7 @@ switched (Returning v m) = Done (Returning v m)
 
 switched_ends : (f : Flow) → R.switched f (switched f)
 switched_ends (Next m) = refl
-switched_ends (Broken m) = refl
-switched_ends (Continued m) = refl
-switched_ends (Returning v m) = refl
+switched_ends _ = refl
 
 abbrev mutual
   pub statement : Setting → ℕ → C.Statement → Option ℕ → List CallsEnd → Machine → FlowEnd
@@ -164,12 +157,7 @@ ended result (Continued m) = Failed K.Unreached
 ended_ends : (result : Option CType) (f : Flow) → R.ended result f (ended result f)
 ended_ends None (Next m) = refl
 ended_ends (Some u) (Next m) = refl
-ended_ends None (Returning v m) = refl
-ended_ends (Some u) (Returning v m) = refl
-ended_ends None (Broken m) = refl
-ended_ends (Some u) (Broken m) = refl
-ended_ends None (Continued m) = refl
-ended_ends (Some u) (Continued m) = refl
+ended_ends _ _ = refl
 
 -- the setting's fill number is this one
 abbrev Fills : Setting → ℕ → Type 0
@@ -182,7 +170,6 @@ declared_ends t k e x u m depth fs es =
 
 mutual
   statement_ends : (t : Setting) (k : ℕ) → Fills t k → (s : C.Statement) (depth : Option ℕ) (fs : List Runs) (es : List CallsEnd) → AllEnd fs es → (m : Machine) → R.statement t s depth fs m (statement t k s depth es m)
-  statement_ends t k q C.Empty depth fs es h m = refl
   statement_ends t k q (C.Block ss) depth fs es h m = statements_end t k q ss depth fs es h m
   statement_ends t k q (C.Declare x u) depth fs es h m = declared_ends t k q x u m depth fs es
   statement_ends t k q (C.Assign target e) depth fs es h m = then_ends _ _ _ _ (given_ends _) (λ v. assigned_ends t target v m)
@@ -199,10 +186,8 @@ mutual
       (λ fs' es' h' n. then_ends _ _ _ _ (statement_ends t k q a depth fs' es' h' n) (turned_ends _ _ (stepped_ends _ _ (statement_ends t k q step depth fs' es' h')))) fs es h))
   statement_ends t k q (C.Switch n i e gs) depth fs es h m =
       then_ends _ _ _ _ (given_ends _) (λ v. then_ends _ _ _ _ (groups_end t k q _ _ gs depth fs es h m) switched_ends)
-  statement_ends t k q C.Break depth fs es h m = refl
-  statement_ends t k q C.Continue depth fs es h m = refl
-  statement_ends t k q C.ReturnNothing depth fs es h m = refl
   statement_ends t k q (C.Return e) depth fs es h m = then_ends _ _ _ _ (given_ends _) (λ v. refl)
+  statement_ends _ _ _ _ _ _ _ _ _ = refl
 
   statements_end : (t : Setting) (k : ℕ) → Fills t k → (ss : C.Statements) (depth : Option ℕ) (fs : List Runs) (es : List CallsEnd) → AllEnd fs es → (m : Machine) → R.statements t ss depth fs m (statements t k ss depth es m)
   statements_end t k q C.no_statements depth fs es h m = refl

@@ -56,15 +56,14 @@ runs l k (Call f xs) env depth es s = called_end es depth (record { name = f; ar
 runs l k (Pick q) env depth es s = Done (record { values = filled k q ∷ []; state = s })
 
 runs_ends : (l : Layout) (k : ℕ) (m : Mon) (env : Env) (depth : Option ℕ) (fs : List Runs) (es : List CallsEnd) → AllEnd fs es → (s : State) → R.runs l (Fill k) m env depth fs s (runs l k m env depth es s)
-runs_ends l k (Ret xs) env depth fs es h s = refl
 runs_ends l k (Bind m xs n) env depth fs es h s = then_ends _ _ _ _ (runs_ends l k m env depth fs es h s) (λ a. runs_ends l k n _ depth fs es h a.state)
 runs_ends l k (Guard e) env depth fs es h s = choose_ends (holds l env s e) _ _ _ _ refl refl
 runs_ends l k (If e m n) env depth fs es h s = choose_ends (holds l env s e) _ _ _ _ (runs_ends l k m env depth fs es h s) (runs_ends l k n env depth fs es h s)
-runs_ends l k (Write place e) env depth fs es h s = refl
 runs_ends l k (Loop starts guard test m) env depth fs es h s =
     loop_ends _ _ _ _ (entered_ends l guard test _) (λ fs' es' h' a. then_ends _ _ _ _ (runs_ends l k m _ depth fs' es' h' a.state) (λ b. refl)) fs es h _
 runs_ends l k (Call f xs) env depth fs es h s = called_ends fs es h depth _
 runs_ends l k (Pick q) env depth fs es h s = goes_on (filled_ends k q) refl
+runs_ends _ _ _ _ _ _ _ _ _ = refl
 
 abbrev function_end : Layout → ℕ → Option FinalFn → Option ℕ → List CallsEnd → Invocation → AnswerEnd
 function_end l k None depth es c = Stopped Turns

@@ -104,11 +104,6 @@ execs l k locals (Call x f xs) depth es m =
     then_end (called_end es depth (record { name = f; arguments = values_of l m.locals m.state xs; state = m.state })) (λ r. Done (Normal (result_into x r m.locals)))
 
 execs_ends : (l : Layout) (k : ℕ) (locals : List Binder) (a : Simpl) (depth : Option ℕ) (fs : List Runs) (es : List CallsEnd) → AllEnd fs es → (m : Machine) → X.execs l (Fill k) locals a depth fs m (execs l k locals a depth es m)
-execs_ends l k locals Skip depth fs es h m = refl
-execs_ends l k locals Throw depth fs es h m = refl
-execs_ends l k locals (Set x e) depth fs es h m = refl
-execs_ends l k locals (SetGlobal x path e) depth fs es h m = refl
-execs_ends l k locals (Store t a path e) depth fs es h m = refl
 execs_ends l k locals (Pick x) depth fs es h m = goes_on (filled_local_ends k (kind_of locals x)) refl
 execs_ends l k locals (Seq a b) depth fs es h m = then_ends _ _ _ _ (execs_ends l k locals a depth fs es h m) (normally_ends _ _ (execs_ends l k locals b depth fs es h))
 execs_ends l k locals (Cond e a b) depth fs es h m = choose_ends (holds_on l m e) _ _ _ _ (execs_ends l k locals a depth fs es h m) (execs_ends l k locals b depth fs es h m)
@@ -117,6 +112,7 @@ execs_ends l k locals (Catch a b) depth fs es h m = then_ends _ _ _ _ (execs_end
 execs_ends l k locals (While cs e a) depth fs es h m =
     loop_ends _ _ _ _ (entered_ends l cs e) (λ fs' es' h' n. then_ends _ _ _ _ (execs_ends l k locals a depth fs' es' h' n) turned_ends) fs es h m
 execs_ends l k locals (Call x f xs) depth fs es h m = then_ends _ _ _ _ (called_ends fs es h depth _) (λ r. refl)
+execs_ends _ _ _ _ _ _ _ _ _ = refl
 
 abbrev ended : Option Kind → Flow → Outcome Returned GuardKind
 ended result (Normal m) = Done (record { result = result_of result m; state = m.state })
@@ -133,8 +129,7 @@ function_end l k _ _ depth es c = Stopped Turns
 
 function_ends : (l : Layout) (k : ℕ) (f : Option SimplFn) (s : Option Signature) (depth : Option ℕ) (fs : List Runs) (es : List CallsEnd) → AllEnd fs es → (c : Invocation) → X.function_runs l (Fill k) f s depth fs c (function_end l k f s depth es c)
 function_ends l k (Some f) (Some s) depth fs es h c = then_ends _ _ _ _ (execs_ends l k f.locals f.body depth fs es h _) (ended_ends s.result)
-function_ends l k (Some f) None depth fs es h c = refl
-function_ends l k None s depth fs es h c = refl
+function_ends _ _ _ _ _ _ _ _ _ = refl
 
 abbrev pub bodies : SimplUnit → ℕ → List CallsEnd → CallsEnd
 bodies u k es depth c = function_end u.layout k (simpl_fn u.functions c.name) (signature u.signatures c.name) depth es c

@@ -18,16 +18,11 @@ use denote.Hole.Carrier.{fold}
 in_turn : (s a b c d : Bool) → s ≡ false → a ≡ false → (b || c) ≡ true → (s || (not a && (b || c || d))) ≡ true
 in_turn false false true c d h k e = refl
 in_turn false false false true d h k e = refl
-in_turn false false false false d h k e = cc
-in_turn true a b c d h k e = cc
-in_turn false true b c d h k e = cc
+in_turn _ _ _ _ d h k e = cc
 
 in_body : (s a b c d : Bool) → s ≡ false → a ≡ false → (b || c) ≡ false → (s || (not a && (b || c || d))) ≡ d
 in_body false false false false d h k e = refl
-in_body false false true c d h k e = cc
-in_body false false false true d h k e = cc
-in_body true a b c d h k e = cc
-in_body false true b c d h k e = cc
+in_body _ _ _ _ d h k e = cc
 
 after_loop : (starts : _) (guard test : E.Exp) (p : _) (body : M.Mon) → size-Mon body < size-Mon (M.Loop' starts guard test p body)
 unfolding the_depth depth fold

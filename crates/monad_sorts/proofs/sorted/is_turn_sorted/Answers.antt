@@ -14,9 +14,7 @@ use Rattle.monad_sorts.proofs.sorted.is_turn_sorted.Goals as goal
 
 last_decides : (x z w v : Bool) → x ≡ true → z ≡ true → w ≡ true → v ≡ (x && z && w && v)
 last_decides true true true v hx hz hw = refl
-last_decides true true false v hx hz hw = absurd cc
-last_decides true false w v hx hz hw = absurd cc
-last_decides false z w v hx hz hw = absurd cc
+last_decides _ _ _ v hx hz hw = absurd cc
 
 first_fails : (x z w v : Bool) → x ≡ false → false ≡ (x && z && w && v)
 first_fails x z w v h = sym (ap (λ b. b && z && w && v) h)
@@ -27,8 +25,7 @@ second_fails false z w v h = refl
 
 third_fails : (x z w v : Bool) → w ≡ false → false ≡ (x && z && w && v)
 third_fails true true w v h = sym (ap (λ b. b && v) h)
-third_fails true false w v h = refl
-third_fails false z w v h = refl
+third_fails _ _ _ _ _ = refl
 
 pub returns-then-not-are_starts_sorted : goal.returns-then-not-are_starts_sorted
 returns-then-not-are_starts_sorted c =
