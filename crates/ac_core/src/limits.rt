@@ -1,7 +1,6 @@
 //! How large generated functions may be.
 
-ghost use Rattle.std.specs.Prelude.{◌≡◌, map};
-ghost use Rattle.std.specs.List.{list_any};
+ghost use Rattle.std.specs.Prelude.{◌≡◌};
 ghost use Rattle.simpl_lang.specs.CodeCommand.{simpl_fn_of, simpl_unit_of};
 ghost use Rattle.ac_core.specs.Written.{has_long_function, is_long};
 ghost use Rattle.ac_core.specs.CodeTasks.{are_few, has_few_locals};

@@ -1,6 +1,6 @@
 //! The programs of a typed text, at the levels that options ask for.
 
-ghost use Rattle.std.specs.Prelude.{◌≡◌, None, IfOk, map, string_bytes};
+ghost use Rattle.std.specs.Prelude.{◌≡◌, None, IfOk, map};
 ghost use Rattle.std.specs.HashSet.{contains_text};
 ghost use Rattle.c_values.specs.Name.{Name, is_among};
 ghost use Rattle.c_lang.specs.CodeTyped.{function_of, unit_of};

@@ -1,7 +1,6 @@
 //! A typed text is translated, and the certificate checked.
 
-ghost use Rattle.std.specs.Prelude.{◌≡◌, ◌++◌, OnOk, IfOk, codes, length, map};
-ghost use Rattle.std.specs.Fmt.{decimal};
+ghost use Rattle.std.specs.Prelude.{◌≡◌, ◌++◌, OnOk, IfOk, length, map};
 ghost use Rattle.c_values.specs.CodeTypes as types;
 ghost use Rattle.expression_lang.specs.CodeExpression.{level_of};
 ghost use Rattle.c_lang.specs.CodeTyped.{unit_of};

@@ -1,15 +1,15 @@
 //! The values of expressions of constants alone.
 
-ghost use Rattle.std.specs.Prelude.{◌≡◌, ◌<◌, ◌^◌, ◌&&◌, ◌||◌, Bool, true, not, neg_ℤ, pos, int_lt, int_le, Option, None, Some, ℕ, ℤ, IfSome, IfNone, if◌then◌else◌};
+ghost use Rattle.std.specs.Prelude.{◌≡◌, ◌<◌, ◌^◌, ◌&&◌, ◌||◌, true, not, neg_ℤ, int_lt, int_le, Option, None, Some, IfSome};
 ghost use Rattle.std.specs.Option.{option_map};
 ghost use Rattle.c_values.specs.Types.{address_width};
 ghost use Rattle.c_values.specs.CodeTypes.{target_of, type_of};
 ghost use Rattle.c_values.specs.CodeNumber.{number_op_of};
 ghost use Rattle.c_values.specs.CodeWord.{word_op_of, shift_op_of, unary_op_of, word_test_of};
-ghost use Rattle.c_values.specs.Layout.{Shape, shape_of, space, is_object};
+ghost use Rattle.c_values.specs.Layout.{shape_of, space, is_object};
 ghost use Rattle.c_values.specs.Number.{is_between, number_op};
 ghost use Rattle.c_values.specs.Path.{step_spot};
-ghost use Rattle.c_values.specs.Value.{Value, Truth, Bits, same_value};
+ghost use Rattle.c_values.specs.Value.{Truth, Bits, same_value};
 ghost use Rattle.c_values.specs.Word.{word, word_shift, word_unary, unsigned, signed};
 ghost use Rattle.c_memory.specs.CodePlace.{place_of, place_from};
 ghost use Rattle.c_memory.specs.CodeStep.{step_of};
@@ -17,7 +17,7 @@ ghost use Rattle.expression_lang.specs.Evaluation.{cast_op, if_truth};
 ghost use Rattle.expression_lang.specs.CodeExpression.{exp_of, path_of, cast_op_of};
 ghost use Rattle.expression_lang.specs.Sort.{is_width};
 ghost use Rattle.ac_expr.specs.CodeConstant.{constant_in};
-ghost use Rattle.ac_expr.specs.CodeConstants.{of_one, by_truth, by_word, by_number, by_words, by_numbers, by_truths, narrow, join_words, test_words, of_width, address_of, by_address, pointer, moved_by, object_ok, number_of, computed, computed_at, as_constant};
+ghost use Rattle.ac_expr.specs.CodeConstants.{by_truth, by_word, by_number, by_words, by_numbers, by_truths, narrow, join_words, test_words, of_width, address_of, by_address, pointer, moved_by, object_ok, number_of, computed, computed_at, as_constant};
 
 use c_memory::{Place, Step, element_address, place_at};
 use c_values::views::word;

@@ -4,7 +4,7 @@ ghost use Rattle.std.specs.Prelude.{◌≡◌, ◌↔◌, IsTrue, true, map, str
 ghost use Rattle.expression_lang.specs.Expression as plain;
 ghost use Rattle.expression_lang.specs.Expression.{TruthLit};
 ghost use Rattle.expression_lang.specs.CodeExpression.{exp_of};
-ghost use Rattle.ac_expr.specs.Fact.{Fact as Plain, stands_for};
+ghost use Rattle.ac_expr.specs.Fact.{stands_for};
 ghost use Rattle.ac_expr.specs.Known.{SomeFact, Gives, GivesAtOnce, IsKnown};
 ghost use Rattle.ac_expr.specs.CodeFacts.{fact_of};
 ghost use Rattle.ac_expr.specs.CodeChain.{facts_of};

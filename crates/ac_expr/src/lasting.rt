@@ -1,10 +1,9 @@
 //! Which facts last through what came after them.
 
-ghost use Rattle.std.specs.Prelude.{◌≡◌, ◌&&◌, List, Bool, map, string_bytes};
+ghost use Rattle.std.specs.Prelude.{◌≡◌, ◌&&◌, map, string_bytes};
 ghost use Rattle.expression_lang.specs.Mentions.{reads};
 ghost use Rattle.ac_expr.specs.Fact.{stands_for};
 ghost use Rattle.ac_expr.specs.Lasting.{is_unnamed, lasts_part, lasts_passed};
-ghost use Rattle.ac_expr.specs.Passed.{Part};
 ghost use Rattle.ac_expr.specs.CodeFacts.{fact_of};
 ghost use Rattle.ac_expr.specs.CodeLasting.{lasts};
 

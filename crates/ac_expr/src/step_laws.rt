@@ -1,8 +1,7 @@
 //! Laws of steps, as contracts of functions that do nothing.
 
-ghost use Rattle.std.specs.Prelude.{◌≡◌, List, Option, Some};
-ghost use Rattle.c_values.specs.Name.{Name};
-ghost use Rattle.c_values.specs.Layout.{Layout, IsLayout, GlobalVar, global_type};
+ghost use Rattle.std.specs.Prelude.{◌≡◌, List, Some};
+ghost use Rattle.c_values.specs.Layout.{IsLayout, GlobalVar, global_type};
 ghost use Rattle.expression_lang.specs.Expression.{Exp};
 ghost use Rattle.expression_lang.specs.Evaluation.{Env, State, value};
 ghost use Rattle.expression_lang.specs.Sort.{Scope, Sort, sort_of};

@@ -10,7 +10,6 @@ ghost use Rattle.expression_lang.specs.CodeSort.{scope_by, sort_value};
 ghost use Rattle.expression_lang.specs.Expression as plain;
 ghost use Rattle.expression_lang.specs.Sort.{Scope as Scoped, is_width, sort_of, word_width};
 ghost use Rattle.ac_expr.specs.Fact.{Fact as Plain};
-ghost use Rattle.ac_expr.specs.Known.{IsKnown};
 ghost use Rattle.ac_expr.specs.Step.{IsFlag, IsInWord, IsItsValue, IsStep, Shortens, constant};
 ghost use Rattle.ac_expr.specs.CodeApart.{IsSomeSorted};
 ghost use Rattle.ac_expr.specs.CodeChain.{facts_of};

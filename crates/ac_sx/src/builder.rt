@@ -1,5 +1,5 @@
 //! Trees, built part by part, and the tree of a text that is one.
-ghost use Rattle.std.specs.Prelude.{◌≡◌, [], IfOk, OnOk, option_map, IsTrue};
+ghost use Rattle.std.specs.Prelude.{◌≡◌, IfOk, OnOk, option_map, IsTrue};
 ghost use Rattle.std.specs.List.{list_all};
 ghost use Rattle.ac_sx.specs.Tree.{Tree, Atom, is_atom_byte};
 ghost use Rattle.ac_sx.specs.CodeSx.{tree_of};

@@ -1,5 +1,5 @@
 //! The recogniser: whether a text is a tree's, and where it isn't, its first fault. It takes no memory.
-ghost use Rattle.std.specs.Prelude.{◌≡◌, ◌<◌, ◌≤◌, ◌++◌, ◌∷◌, [], length, is_some, IsTrue};
+ghost use Rattle.std.specs.Prelude.{◌≡◌, ◌<◌, ◌≤◌, ◌++◌, ◌∷◌, [], is_some};
 ghost use Rattle.ac_sx.specs.Tree.{is_atom_byte, deepest, line_end};
 ghost use Rattle.ac_sx.specs.CodeRecogniser.{begun, closed, followed, step, ended, recognised};
 ghost use Rattle.ac_sx.specs.CodeLine.{reached};

@@ -1,5 +1,5 @@
 //! Trees, spelt as they are written.
-ghost use Rattle.std.specs.Prelude.{◌≡◌, IfOk, OnOk, ◌++◌, ◌∷◌, []};
+ghost use Rattle.std.specs.Prelude.{◌≡◌, IfOk, OnOk};
 ghost use Rattle.ac_sx.specs.Tree.{Tree, file};
 ghost use Rattle.ac_sx.specs.Writing.{written};
 ghost use Rattle.ac_sx.specs.CodeSpeller.{spelt_of, blank, parted, spelling_out};

@@ -1,5 +1,5 @@
 //! Trees of atoms and lists.
-ghost use Rattle.std.specs.Prelude.{◌≡◌, ◌+◌, ◌<◌, IfOk, IfSome, IfNone, option_map};
+ghost use Rattle.std.specs.Prelude.{◌≡◌, ◌+◌, ◌<◌, option_map};
 ghost use Rattle.ac_sx.specs.Tree.{Atom, Node, nodes, all_nodes};
 ghost use Rattle.ac_sx.specs.CodeSx.{tree_of, trees_in, word_in, parts_in};
 

@@ -1,5 +1,5 @@
 //! Tables of trees, each tree once: equal trees have one number.
-ghost use Rattle.std.specs.Prelude.{◌≡◌, ℕ, ◌+◌, ◌<◌, ◌≤◌, ◌^◌, Some, [], length, slice_get, IfOk, IsTrue};
+ghost use Rattle.std.specs.Prelude.{◌≡◌, ◌+◌, ◌<◌, ◌≤◌, ◌^◌, Some, [], length, slice_get, IfOk, IsTrue};
 ghost use Rattle.ac_sx.specs.Table.{trees_of, tree_among, is_below, IsTable, AreLow, Keeps};
 ghost use Rattle.ac_sx.specs.Tree.{depth, deepest};
 ghost use Rattle.ac_sx.specs.CodeSx.{tree_of};

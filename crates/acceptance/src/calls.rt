@@ -1,7 +1,6 @@
 //! Which functions a command calls.
 
-ghost use Rattle.std.specs.Prelude.{◌≡◌, map, string_bytes};
-ghost use Rattle.std.specs.Option.{option_map};
+ghost use Rattle.std.specs.Prelude.{◌≡◌, map};
 ghost use Rattle.expression_lang.specs.Signature as plain;
 ghost use Rattle.expression_lang.specs.CodeExpression.{level_of};
 ghost use Rattle.expression_lang.specs.CodeSignature.{signature_of};

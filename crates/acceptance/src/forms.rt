@@ -1,8 +1,6 @@
 //! The forms of programs after each step.
 
 ghost use Rattle.std.specs.Prelude.{◌≡◌, ◌&&◌, map};
-ghost use Rattle.c_values.specs.CodeValue.{global_of};
-ghost use Rattle.expression_lang.specs.Sort.{word_sort_of, sort_of_kind};
 ghost use Rattle.std.specs.Option.{option_map};
 ghost use Rattle.expression_lang.specs.CodeExpression.{level_of, kind_of};
 ghost use Rattle.expression_lang.specs.CodeSignature.{signature_of};

@@ -1,12 +1,10 @@
 //! A function's steps, one after the other.
 
-ghost use Rattle.std.specs.Prelude.{◌≡◌, ◌&&◌, true, map};
+ghost use Rattle.std.specs.Prelude.{◌≡◌, true};
 ghost use Rattle.expression_lang.specs.Sort.{are_kinds, is_lifted};
 ghost use Rattle.expression_lang.specs.Signature.{kinds_of};
-ghost use Rattle.expression_lang.specs.CodeExpression.{level_of};
 ghost use Rattle.expression_lang.specs.CodeSignature.{signature_of};
 ghost use Rattle.simpl_lang.specs.CodeCommand.{simpl_fn_of, simpl_unit_of};
-ghost use Rattle.monad_lang.specs.CodeProgram.{mon_of};
 ghost use Rattle.rule_heap.specs.CodeVerdict as heaps_verdict;
 ghost use Rattle.rule_word.specs.CodeNames.{are_results};
 ghost use Rattle.acceptance.specs.Certificate.{before_words};
@@ -16,7 +14,7 @@ ghost use Rattle.acceptance.specs.CodeCertificate.{steps_of};
 ghost use Rattle.acceptance.specs.CodePlace.{verdict_of};
 ghost use Rattle.acceptance.specs.Decided.{Decides};
 ghost use Rattle.acceptance.specs.Verdict as verdict;
-ghost use Rattle.acceptance.specs.Verdict.{Before, IsDone, IsTest, IsFunctionVerdict, IsExceptionVerdict, IsLocalVerdict, IsHeapVerdict, IsWordVerdict, IsEqualVerdict};
+ghost use Rattle.acceptance.specs.Verdict.{Before, IsDone, IsFunctionVerdict, IsExceptionVerdict, IsLocalVerdict, IsHeapVerdict, IsWordVerdict, IsEqualVerdict};
 
 use crate::calls::calls_lifted;
 use crate::certificate::{Step, Steps};

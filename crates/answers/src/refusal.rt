@@ -1,6 +1,6 @@
 //! The lines that refuse a C text.
 
-ghost use Rattle.std.specs.Prelude.{◌≡◌, ◌++◌, OnOk, IfOk, IsOk, codes};
+ghost use Rattle.std.specs.Prelude.{◌≡◌, ◌++◌, IfOk, codes};
 ghost use Rattle.std.specs.Fmt.{decimal};
 ghost use Rattle.c_lex.specs.Answer.{Tells};
 ghost use Rattle.c_lex.specs.Unsupported.{unsupported_text};

@@ -1,6 +1,6 @@
 //! Files of the file system as a shelf.
 
-ghost use Rattle.std.specs.Prelude.{ℕ, List, Option, None, IfOk, ◌≤◌, length};
+ghost use Rattle.std.specs.Prelude.{None, IfOk, ◌≤◌, length};
 
 use ac_base::{Failed, Shelf};
 use std::io::{Read, Seek, SeekFrom};

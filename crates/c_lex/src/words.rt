@@ -2,8 +2,8 @@
 ghost use Rattle.std.specs.Prelude.{◌≡◌, ◌≢◌, IfSome, IfNone};
 ghost use Rattle.std.specs.List.{prefix_len};
 ghost use Rattle.c_lex.specs.Bytes.{is_word};
-ghost use Rattle.c_lex.specs.Keyword.{keyword_text, keyword_of};
-ghost use Rattle.c_lex.specs.Unsupported.{unsupported_text, unsupported_of};
+ghost use Rattle.c_lex.specs.Keyword.{keyword_text};
+ghost use Rattle.c_lex.specs.Unsupported.{unsupported_text};
 ghost use Rattle.c_lex.specs.declared.token.Keyword.{Keyword};
 ghost use Rattle.c_lex.specs.declared.fault.Unsupported.{Unsupported};
 

@@ -1,6 +1,6 @@
 //! Addresses: numbers modulo the size of the space.
 
-ghost use Rattle.std.specs.Prelude.{◌≡◌, ◌+◌, ◌*◌, ◌%◌, ◌^◌, ◌<◌, pos, ◌*ℤ◌};
+ghost use Rattle.std.specs.Prelude.{◌≡◌, ◌+◌, ◌*◌, ◌%◌, ◌^◌, pos, ◌*ℤ◌};
 ghost use Rattle.c_values.specs.Types.{address_width};
 ghost use Rattle.c_values.specs.CodeTypes.{target_of};
 ghost use Rattle.c_memory.specs.Memory.{address_at};

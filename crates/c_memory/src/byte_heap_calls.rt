@@ -1,6 +1,6 @@
 //! What can be done with heaps of bytes, without an object's type.
 
-ghost use Rattle.std.specs.Prelude.{◌≡◌, ◌≢◌, ◌/◌, ◌⊎◌, ℕ, [], true, None, Some, map, length, slice_get, IfOk, IfErr, IsSome, nat_eq};
+ghost use Rattle.std.specs.Prelude.{◌≡◌, ◌≢◌, ◌/◌, ◌⊎◌, ℕ, [], None, Some, map, slice_get, IfOk, IfErr, IsSome, nat_eq};
 ghost use Rattle.std.specs.HashMap.{get, hash_map_len};
 ghost use Rattle.c_values.specs.Layout.{space};
 ghost use Rattle.c_memory.specs.Memory.{Tag};

@@ -2,7 +2,7 @@
 
 ghost use Rattle.std.specs.Prelude.{◌≡◌, ◌<◌, true, IfOk};
 ghost use Rattle.c_values.specs.Types.{Array, Struct};
-ghost use Rattle.c_values.specs.Layout.{IsLayout, shape_of, space, is_object};
+ghost use Rattle.c_values.specs.Layout.{shape_of, space, is_object};
 ghost use Rattle.c_values.specs.CodeTypes.{type_of};
 ghost use Rattle.c_values.specs.CodeValue.{value_of};
 ghost use Rattle.c_memory.specs.Memory.{AreBytes, load};

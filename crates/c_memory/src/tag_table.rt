@@ -1,10 +1,10 @@
 //! Tags, and where each lies.
 
 ghost use Rattle.std.specs.Prelude.{◌≡◌, ◌≢◌, ◌<◌, ◌≤◌, ◌+◌, ℕ, [], ◌∷◌, ◌++◌, true, false, map, slice_get, Some, IfNone, IfSome, IfOk, MatchBool};
-ghost use Rattle.c_values.specs.Layout.{is_object, size_of, space};
+ghost use Rattle.c_values.specs.Layout.{is_object, size_of};
 ghost use Rattle.c_values.specs.CodeTypes.{type_of};
 ghost use Rattle.c_memory.specs.Memory.{Tag};
-ghost use Rattle.c_memory.specs.Tags.{AreTags, path_from, is_covered};
+ghost use Rattle.c_memory.specs.Tags.{AreTags, is_covered};
 ghost use Rattle.c_memory.specs.CodeTag.{tag_of};
 ghost use Rattle.c_memory.specs.CodeTagIndex.{IsLastTag, IsNextTag, Covers, AllEndBy, OneEndsAfter, AllBeginAfter, OneBeginsWithin};
 ghost use Rattle.c_memory.specs.TagFault.{is_apart};

@@ -1,7 +1,7 @@
 //! How much memory types take, by the places of structs. Sizes grow no more past that of the largest object, so arrays of
 //! any lengths can be nested.
 
-ghost use Rattle.std.specs.Prelude.{◌≡◌, ◌*◌, ◌/◌, ◌≤◌, true, false, min, IfNone, IfSome};
+ghost use Rattle.std.specs.Prelude.{◌≡◌, ◌*◌, ◌/◌, ◌≤◌, true, false, min};
 ghost use Rattle.std.specs.Option.{option_copied};
 ghost use Rattle.c_values.specs.Name.{Name};
 ghost use Rattle.c_values.specs.Layout.{Shape, shape_from};

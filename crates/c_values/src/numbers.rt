@@ -14,7 +14,7 @@ pub struct Number {
 }
 
 impl Model for Number {
-    ghost use Rattle.std.specs.Prelude.{◌≡◌, ◌<◌, true, false, ℤ, pos, negsuc, neg_ℤ, if◌then◌else◌};
+    ghost use Rattle.std.specs.Prelude.{◌≡◌, ◌<◌, true, ℤ, pos, neg_ℤ, if◌then◌else◌};
 
     ghost Value = { ℤ };
 

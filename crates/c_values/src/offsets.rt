@@ -1,6 +1,6 @@
 //! Offsets of parts.
 
-ghost use Rattle.std.specs.Prelude.{◌≡◌, ◌+◌, ◌≤◌, true, List, ◌∷◌, None, pos, map, IfNone, IfSome};
+ghost use Rattle.std.specs.Prelude.{◌≡◌, ◌+◌, true, List, ◌∷◌, None, pos, map, IfNone, IfSome};
 ghost use Rattle.std.specs.Option.{option_map};
 ghost use Rattle.c_values.specs.Layout.{IsLayout, is_object, size_of, shape_of};
 ghost use Rattle.c_values.specs.StepInto.{step_into};

@@ -1,7 +1,7 @@
 //! The table of where the members of each struct lie.
 
 ghost use Rattle.std.specs.Prelude.{◌≡◌, ℕ, true, [], map, IfOk, Err};
-ghost use Rattle.c_values.specs.Layout.{Incomplete, are_built, are_small};
+ghost use Rattle.c_values.specs.Layout.{Incomplete, are_built};
 ghost use Rattle.c_values.specs.CodeTypes.{target_of};
 ghost use Rattle.c_values.specs.CodeLayout.{struct_def_of, IsFirstLarge};
 ghost use Rattle.c_values.specs.CodeStructTable.{IsTabled};

@@ -3,7 +3,7 @@
 
 ghost use Rattle.std.specs.Prelude.{◌≡◌, ℕ, ◌<◌, ◌≤◌, Bool, true, false, ℤ, neg_ℤ, ◌+ℤ◌, ◌-ℤ◌, ◌*ℤ◌, int_lt, int_le};
 ghost use Rattle.c_values.specs.Number.{quotient, remainder, is_between, least, greatest};
-ghost use Rattle.c_values.specs.Word.{Word, IsWord, unsigned, signed, word, WordOp, Wadd, Wsub, Wmul, Wudiv, Wumod, Wsdiv, Wsmod, ShiftOp, UnaryOp, Wneg, WordTest, Wult, Wule, Wslt, Wsle, word_op, word_shift, word_unary, word_test, cast};
+ghost use Rattle.c_values.specs.Word.{Word, IsWord, unsigned, signed, word, WordOp, Wadd, Wsub, Wmul, Wudiv, Wumod, Wsdiv, Wsmod, ShiftOp, UnaryOp, Wneg, Wult, Wule, Wslt, Wsle, word_op, word_shift, word_unary, word_test, cast};
 
 /// A word's values are numbers of its width.
 pub fn values_fit()

@@ -1,6 +1,6 @@
 //! Trees read as the steps of functions.
 
-ghost use Rattle.std.specs.Prelude.{◌≡◌, ◌≢◌, codes, option_map, IfSome, IfNone, string_bytes};
+ghost use Rattle.std.specs.Prelude.{◌≡◌, ◌≢◌, option_map, IfSome, IfNone, string_bytes};
 ghost use Rattle.ac_sx.specs.CodeSx.{tree_of, trees_in, headed_in, first_of};
 ghost use Rattle.expression_lang.specs.Sort as sorts;
 ghost use Rattle.expression_lang.specs.CodeExpression.{level_of};

@@ -1,7 +1,6 @@
 //! Texts of certificates, checked function by function, of which no more than an index is kept.
 ghost use Rattle.std.specs.Prelude.{◌≡◌, ◌<◌, ◌^◌, ℕ, Err, IfOk, IfErr, length, map};
-ghost use Rattle.c_values.specs.CodeTypes.{target_of};
-ghost use Rattle.ac_sx.specs.Tree.{Tree, Trees, Node};
+ghost use Rattle.ac_sx.specs.Tree.{Tree, Trees};
 ghost use Rattle.ac_sx.specs.CodeSx.{first_of};
 ghost use Rattle.ac_sx.specs.Front.{OpensTooDeep};
 ghost use Rattle.ac_sx.specs.Spans.{parts_of};

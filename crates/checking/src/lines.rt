@@ -1,6 +1,6 @@
 //! The lines that say what became of a certificate.
 
-ghost use Rattle.std.specs.Prelude.{◌≡◌, ◌<◌, ◌^◌, ◌++◌, ℕ, [], List, map, length, codes, slice_index_or, IfOk, OnOk};
+ghost use Rattle.std.specs.Prelude.{◌≡◌, ◌<◌, ◌^◌, ◌++◌, [], List, map, length, slice_index_or, IfOk, OnOk};
 ghost use Rattle.c_values.specs.Name.{Name};
 ghost use Rattle.expression_lang.specs.Sort as sorts;
 ghost use Rattle.expression_lang.specs.CodeExpression.{level_of};

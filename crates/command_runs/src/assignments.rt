@@ -1,10 +1,9 @@
 //! Commands that give a local, a global or memory a value.
 
-ghost use Rattle.std.specs.Prelude.{◌≡◌, map, OnOk};
+ghost use Rattle.std.specs.Prelude.{◌≡◌, OnOk};
 ghost use Rattle.c_values.specs.Value.{word_in};
 ghost use Rattle.c_values.specs.CodeTypes.{type_of};
-ghost use Rattle.c_values.specs.CodeValue.{value_of, global_of};
-ghost use Rattle.c_memory.specs.CodeStep.{step_of};
+ghost use Rattle.c_values.specs.CodeValue.{value_of};
 ghost use Rattle.expression_lang.specs.CodeExpression.{exp_of, path_of};
 ghost use Rattle.simpl_lang.specs.Command.{Set, SetGlobal, Store, Pick};
 ghost use Rattle.command_runs.specs.CodeRun.{machine_in, Fits, IsFrame, CanRunIn, Reaches};

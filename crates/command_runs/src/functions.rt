@@ -1,7 +1,6 @@
 //! Functions of a unit, by their names.
 
 ghost use Rattle.std.specs.Prelude.{◌≡◌, map, Some, IfSome, IfNone, None};
-ghost use Rattle.expression_lang.specs.CodeSignature.{signature_of};
 ghost use Rattle.simpl_lang.specs.Command.{simpl_fn};
 ghost use Rattle.simpl_lang.specs.CodeCommand.{simpl_fn_of};
 

@@ -1,6 +1,6 @@
 //! Values that are at hand at each kind.
 
-ghost use Rattle.std.specs.Prelude.{◌≡◌, true, pos};
+ghost use Rattle.std.specs.Prelude.{◌≡◌, true};
 ghost use Rattle.c_values.specs.CodeValue.{value_of};
 ghost use Rattle.expression_lang.specs.Sort.{is_kind};
 ghost use Rattle.expression_lang.specs.View.{zero_word_at};

@@ -1,6 +1,6 @@
 //! Runs of functions of a Simpl unit.
 
-ghost use Rattle.std.specs.Prelude.{◌≡◌, ◌<◌, length, map, Some, IsSomeAnd, slice_get};
+ghost use Rattle.std.specs.Prelude.{◌≡◌, ◌<◌, map, Some, IsSomeAnd, slice_get};
 ghost use Rattle.c_values.specs.Choice.{Fill};
 ghost use Rattle.c_values.specs.CodeValue.{value_of};
 ghost use Rattle.simpl_lang.specs.Exec.{simpl_runs};

@@ -4,7 +4,7 @@ ghost use Rattle.ac_sx.specs.Tree.{Atom, Node, no_trees, more};
 ghost use Rattle.ac_sx.specs.Writing.{written, all_written};
 ghost use Rattle.c_values.specs.CodeTypes.{type_of};
 ghost use Rattle.expression_lang.specs.CodeExpression.{exp_of, path_of};
-ghost use Rattle.expression_text.specs.ExpText.{exp_tree, step_trees};
+ghost use Rattle.expression_text.specs.ExpText.{exp_tree};
 ghost use Rattle.expression_text.specs.Lists.{trees_for};
 ghost use Rattle.simpl_lang.specs.declared.command.Simpl.{size-Simpl};
 ghost use Rattle.simpl_lang.specs.Command as plain;

@@ -1,6 +1,6 @@
 //! Words, numbers and truth values in values.
 
-ghost use Rattle.std.specs.Prelude.{◌≡◌, false, ℤ, pos, neg_ℤ, int_lt, int_le, IsOk, IfOk};
+ghost use Rattle.std.specs.Prelude.{◌≡◌, false, neg_ℤ, int_lt, int_le};
 ghost use Rattle.c_values.specs.Number.{is_between};
 ghost use Rattle.c_values.specs.Value.{word_in, number_in, truth_in};
 ghost use Rattle.c_values.specs.CodeValue.{value_of};

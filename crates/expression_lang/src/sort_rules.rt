@@ -4,7 +4,7 @@ ghost use Rattle.std.specs.Prelude.{◌≡◌, ◌^◌, true, ◌&&◌, nat_lt, 
 ghost use Rattle.std.specs.Option.{option_map};
 ghost use Rattle.c_values.specs.Types.{address_width};
 ghost use Rattle.c_values.specs.Layout.{IsLayout, is_object, is_complete, shape_of};
-ghost use Rattle.c_values.specs.CodeTypes.{target_of, type_of};
+ghost use Rattle.c_values.specs.CodeTypes.{type_of};
 ghost use Rattle.c_values.specs.CodeNumber.{number_op_of};
 ghost use Rattle.expression_lang.specs.Sort.{is_width, word_width, is_number, is_truth, is_word_of, is_unary, word_sort, number_sort, truth_sort, where_holds, of_words, of_word, are_same, cast_fits, of_shape, sort_at};
 ghost use Rattle.expression_lang.specs.declared.arity.Arity.TheVariants.{Unary, Binary};

@@ -9,7 +9,7 @@ ghost use Rattle.expression_lang.specs.CodeExpression.{exp_of, path_of};
 ghost use Rattle.expression_lang.specs.CodeShape.{whole_two, whole_place};
 ghost use Rattle.expression_lang.specs.CodeShapeView.{two_in, place_in};
 ghost use Rattle.ac_expr.specs.Fact.{Whole, NotTrue};
-ghost use Rattle.expression_steps.specs.Rewritten.{in_one, in_two, in_three, first_step, path_step};
+ghost use Rattle.expression_steps.specs.Rewritten.{in_two, in_three, first_step, path_step};
 ghost use Rattle.expression_steps.specs.Shortened.{shortened};
 ghost use Rattle.expression_steps.specs.CodePoint.{known_in, scope_in};
 ghost use Rattle.expression_steps.specs.CodeExpSteps.{right_facts};

@@ -1,6 +1,6 @@
 //! Points of programs: what may be named there, and what is known.
 
-ghost use Rattle.std.specs.Prelude.{◌≡◌, ◌∷◌, [], List, IfOk, IfSome, map, string_bytes};
+ghost use Rattle.std.specs.Prelude.{◌≡◌, ◌∷◌, List, IfOk, IfSome, map, string_bytes};
 ghost use Rattle.std.specs.Option.{option_map};
 ghost use Rattle.c_values.specs.Name.{Name};
 ghost use Rattle.expression_lang.specs.Sort as plain;

@@ -1,16 +1,15 @@
 //! The first step in the expressions that stand in a program directly.
 
-ghost use Rattle.std.specs.Prelude.{◌≡◌, ◌∷◌, ◌++◌, [], IfOk, Some, map};
+ghost use Rattle.std.specs.Prelude.{◌≡◌, ◌++◌, [], IfOk, Some, map};
 ghost use Rattle.std.specs.Option.{option_map};
 ghost use Rattle.c_values.specs.CodeTypes.{type_of};
 ghost use Rattle.expression_lang.specs.CodeExpression.{exp_of, path_of};
 ghost use Rattle.ac_expr.specs.Fact.{Whole};
 ghost use Rattle.monad_lang.specs.Program as plain;
 ghost use Rattle.monad_lang.specs.CodeProgram.{place_of, start_of, mon_of};
-ghost use Rattle.expression_steps.specs.Rewritten.{list_step, start_step, place_step, scope_started, direct_step_in, in_one, in_two, in_three, first_step, path_step};
+ghost use Rattle.expression_steps.specs.Rewritten.{list_step, start_step, place_step, scope_started, direct_step_in, in_two, first_step, path_step};
 ghost use Rattle.expression_steps.specs.Shortened.{shortened};
 ghost use Rattle.expression_steps.specs.CodePoint.{known_in, names_of, scalars_of, scope_in};
-ghost use Rattle.monad_lang.specs.CodeFront.{with_front};
 ghost use Rattle.expression_lang.specs.Sorted.{scope_with};
 ghost use Rattle.expression_steps.specs.CodeProgramSteps.{first_in, first_start, put_at, with_exp, with_start, object_at, turned_in};
 ghost use Rattle.expression_steps.specs.CodeProgramStepsView.{object_in, turned_at};

@@ -2,7 +2,7 @@
 ghost use Rattle.std.specs.Prelude.{◌≡◌, ◌+◌, ◌≤◌, Some, IfSome, option_map};
 ghost use Rattle.ac_sx.specs.Tree.{nodes, all_nodes};
 ghost use Rattle.ac_sx.specs.CodeSx.{tree_of, trees_in, one_of, two_of, three_of, first_of};
-ghost use Rattle.expression_lang.specs.CodeExpression.{exp_of, path_of};
+ghost use Rattle.expression_lang.specs.CodeExpression.{exp_of};
 ghost use Rattle.expression_lang.specs.CodeShapeView.{one_in, two_in, root_in, place_in};
 ghost use Rattle.expression_text.specs.ExpReading.{leaf_at, exp_at};
 ghost use Rattle.expression_text.specs.ExpRows as rows;

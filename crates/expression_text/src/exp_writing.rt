@@ -8,14 +8,14 @@ ghost use Rattle.expression_lang.specs.declared.expression.Exp.{size-Exp};
 ghost use Rattle.expression_lang.specs.declared.paths.Path.{size-Path};
 ghost use Rattle.expression_lang.specs.CodeExpression.{exp_of, path_of};
 ghost use Rattle.expression_lang.specs.CodeShape.{whole_leaf};
-ghost use Rattle.expression_lang.specs.CodeShapeView.{leaf_in, one_in, place_in};
+ghost use Rattle.expression_lang.specs.CodeShapeView.{leaf_in, one_in};
 ghost use Rattle.expression_lang.specs.Expression as plain;
 ghost use Rattle.expression_text.specs.declared.heads.Head.TheVariants as H;
 ghost use Rattle.expression_text.specs.Head.{head_word};
 ghost use Rattle.expression_text.specs.Numbers.{number_text};
 ghost use Rattle.expression_text.specs.Row as rows;
 ghost use Rattle.expression_text.specs.TypeText.{type_tree};
-ghost use Rattle.expression_text.specs.ExpText.{headed, field_word, element_word, exp_tree, step_trees};
+ghost use Rattle.expression_text.specs.ExpText.{field_word, exp_tree, step_trees};
 ghost use Rattle.expression_text.specs.CodeWriting.{widths, exp_end, exp_goes_on, LastIsSmaller, path_goes_on, RestIsSmaller};
 
 use crate::heads::Head;

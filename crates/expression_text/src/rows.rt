@@ -1,6 +1,6 @@
 //! How lists that are expressions go on behind their heads.
 ghost use Rattle.std.specs.Prelude.{◌≡◌};
-ghost use Rattle.expression_lang.specs.CodeShapeView.{one_in, two_in, root_in, place_in};
+ghost use Rattle.expression_lang.specs.CodeShapeView.{one_in};
 ghost use Rattle.expression_text.specs.Row as rows;
 ghost use Rattle.expression_text.specs.CodeRow.{row_in, sized_in};
 

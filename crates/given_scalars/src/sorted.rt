@@ -21,11 +21,10 @@ use crate::sequences::split;
 use crate::unit::Unit;
 use expression_lang::{Exp, Kind, Scalar, Scope, Sort, are_distinct};
 use expression_steps::Binding;
-use monad_lang::{Mon, Place, Start};
+use monad_lang::{Mon, Place, Start, is_started};
 use program_sorts::{
     Phase, fits_global, fits_object, is_kind, is_test, may_take, program_sort, signature,
 };
-use rule_parts::is_started;
 use std::alloc::{AllocError, Global};
 
 // The names with more, each with its scalar.

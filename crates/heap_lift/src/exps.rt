@@ -1,6 +1,6 @@
 //! Expressions lifted to typed heaps.
 
-ghost use Rattle.std.specs.Prelude.{◌≡◌, ℕ, string_bytes, IfOk};
+ghost use Rattle.std.specs.Prelude.{◌≡◌, ℕ, IfOk};
 ghost use Rattle.expression_lang.specs.declared.expression.Exp.{size-Exp};
 ghost use Rattle.expression_lang.specs.declared.paths.Path.{size-Path};
 ghost use Rattle.expression_lang.specs.Expression as plain;

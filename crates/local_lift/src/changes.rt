@@ -1,12 +1,12 @@
 //! Rows that change, and rows by way of which others are reached.
 
-ghost use Rattle.std.specs.Prelude.{◌≡◌, ℕ, Bool, false, ◌++◌, ◌∷◌, [], List, slice_index_or, IfOk};
+ghost use Rattle.std.specs.Prelude.{◌≡◌, Bool, false, List, slice_index_or, IfOk};
 ghost use Rattle.expression_lang.specs.declared.signatures.Binder as B;
 ghost use Rattle.c_values.specs.Name.{Name, same_name};
 ghost use Rattle.local_lift.specs.declared.rows.Row.{Row};
 ghost use Rattle.local_lift.specs.CodeNames.{names};
 ghost use Rattle.local_lift.specs.Live.{none, through};
-ghost use Rattle.local_lift.specs.CodeRows.{marks, RowMoves, Moves, Matrix, MatrixAnd, IsAt, flags_of, row_at, with_meant, each_either, assigning, adding, removing, either_change, by_way, spreading};
+ghost use Rattle.local_lift.specs.CodeRows.{marks, RowMoves, Moves, Matrix, MatrixAnd, IsAt, flags_of, row_at, with_meant, each_either, assigning, adding, removing, by_way, spreading};
 
 use crate::names::{IsNone, IsThis};
 use crate::rows::{Row, copy_of_row, either, has, row_of, without};

@@ -2,16 +2,14 @@
 
 ghost use Rattle.std.specs.Prelude.{◌≡◌, List, map, string_bytes, IfOk};
 ghost use Rattle.std.specs.Option.{option_map};
-ghost use Rattle.c_values.specs.Name.{same_name};
 ghost use Rattle.expression_lang.specs.CodeExpression.{exp_of};
 ghost use Rattle.expression_lang.specs.declared.signatures.Binder as B;
 ghost use Rattle.simpl_lang.specs.Command as plain;
 ghost use Rattle.simpl_lang.specs.CodeCommand.{condition_of, simpl_of};
 ghost use Rattle.simpl_lang.specs.Names.{is_target};
-ghost use Rattle.local_lift.specs.Live.{none, live};
 ghost use Rattle.local_lift.specs.CodeNames.{names};
 ghost use Rattle.local_lift.specs.CodePlan.{around, command_of, AreRight, IsRight, IsAlone, IsAssigned, IsLast, IsPlanned, IsTurns, AssignedBeside};
-ghost use Rattle.local_lift.specs.CodeRows.{marks, MatrixAnd};
+ghost use Rattle.local_lift.specs.CodeRows.{marks};
 
 use crate::changes::{reached, single_rows};
 use crate::liveness::lived;

@@ -1,7 +1,6 @@
 //! Rows: for each of a function's locals whether it is meant.
 
-ghost use Rattle.std.specs.Prelude.{◌≡◌, Bool, ◌||◌, IfOk};
-ghost use Rattle.c_values.specs.Name.{Name};
+ghost use Rattle.std.specs.Prelude.{◌≡◌, ◌||◌, IfOk};
 ghost use Rattle.local_lift.specs.CodeRows.{marks, either_row, past_row, row_without, row_has};
 
 use expression_lang::Binder;

@@ -2,12 +2,11 @@
 
 ghost use Rattle.std.specs.Prelude.{◌≡◌, true, List, Option, Some, map, string_bytes, IfOk};
 ghost use Rattle.std.specs.Option.{option_map};
-ghost use Rattle.c_values.specs.Name.{Name};
 ghost use Rattle.expression_lang.specs.Expression as plain;
 ghost use Rattle.expression_lang.specs.Expression.{WordLit};
 ghost use Rattle.expression_lang.specs.CodeExpression.{exp_of, kind_of};
 ghost use Rattle.expression_lang.specs.CodeSignature.{binder_of};
-ghost use Rattle.expression_lang.specs.Signature.{names_of, kinds_of};
+ghost use Rattle.expression_lang.specs.Signature.{kinds_of};
 ghost use Rattle.expression_lang.specs.Sort as sorts;
 ghost use Rattle.expression_lang.specs.Sort.{is_width, is_kind, are_kinds};
 ghost use Rattle.rule_local.specs.Table.{zero_exp, zeros};

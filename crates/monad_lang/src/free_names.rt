@@ -6,6 +6,7 @@ ghost use Rattle.expression_lang.specs.CodeExpression.{exp_of};
 ghost use Rattle.expression_lang.specs.Mentions.{names};
 ghost use Rattle.monad_lang.specs.CodeProgram.{place_of, start_of, mon_of};
 ghost use Rattle.monad_lang.specs.Run.{start_names};
+ghost use Rattle.monad_lang.specs.Form.{all_kept};
 ghost use Rattle.monad_lang.specs.Names.{is_in_some, is_in_start, is_in_place, is_free};
 
 use crate::program::{Mon, Place, Start};
@@ -35,8 +36,8 @@ pub fn is_among(name: &str, names: &[String]) -> bool
     false
 }
 
-// Whether one of the starts has the name.
-fn is_started(name: &str, starts: &[Start]) -> bool
+/// Whether one of the starts has the name.
+pub fn is_started(name: &str, starts: &[Start]) -> bool
     ensures { result ≡ is_among name.now (start_names (map start_of starts.now)) }
 {
     'starts: for start in starts {
@@ -75,7 +76,8 @@ pub fn is_in_some(name: &str, exps: &[Exp]) -> bool
     false
 }
 
-fn is_in_start(name: &str, starts: &[Start]) -> bool
+/// Whether an expression that a name starts with has the name.
+pub fn is_in_start(name: &str, starts: &[Start]) -> bool
     ensures { result ≡ is_in_start name.now (map start_of starts.now) }
 {
     let mut rest = starts;
@@ -141,4 +143,19 @@ pub fn is_free(name: &str, m: &Mon) -> bool
             }
         }
     }
+}
+
+/// Whether what is free of the names in the program is among the others.
+pub fn all_kept(names: &[String], others: &[String], m: &Mon) -> bool
+    ensures { result
+        ≡ all_kept (map string_bytes names.now) (map string_bytes others.now) (mon_of m.now) }
+{
+    let mut rest = names;
+    'along: while let Some((name, behind)) = rest.split_first() {
+        if is_free(name, m) && !is_among(name, others) {
+            return false;
+        }
+        rest = behind;
+    }
+    true
 }

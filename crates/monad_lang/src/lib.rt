@@ -11,7 +11,9 @@ mod run_laws;
 mod starts;
 
 pub use forms::{IsStored, IsWritten, NoPlace, PlaceTest};
-pub use free_names::{NameTest, is_among, is_free, is_in, is_in_some};
+pub use free_names::{
+    NameTest, all_kept, is_among, is_free, is_in, is_in_some, is_in_start, is_started,
+};
 pub use fronts::{Front, boxed, whole};
 pub use program::{FinalFn, FinalUnit, Mon, Place, Start};
 pub use run_laws::{programs_continue, programs_end_once, programs_under_any_choice};

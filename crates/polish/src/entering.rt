@@ -16,9 +16,8 @@ use crate::settling::is_bind_ret;
 use ac_expr::Facts;
 use expression_steps::{Passed, PassedPart, facts_behind, holds};
 use given_scalars::{Sequence, split};
-use monad_lang::Mon;
+use monad_lang::{Mon, all_kept};
 use std::alloc::AllocError;
-use value_putting::all_kept;
 
 /// The sequence in first place, where it is turned.
 pub(crate) fn to_turn<'a>(first: &'a Mon, names: &[String], rest: &Mon) -> Option<Sequence<'a>>

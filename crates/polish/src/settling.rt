@@ -9,8 +9,7 @@ ghost use Rattle.polish.specs.CodeNextView.{settling_in};
 
 use crate::putting::first_put;
 use expression_lang::Exp;
-use monad_lang::Mon;
-use value_putting::all_kept;
+use monad_lang::{Mon, all_kept};
 
 /// A step at a sequence.
 #[derive(Clone, Copy)]

@@ -1,6 +1,6 @@
 //! Down the tidy sequences in first place of a sequence of two tidy programs, as they are turned.
 
-ghost use Rattle.std.specs.Prelude.{◌≡◌, map, string_bytes, IfOk};
+ghost use Rattle.std.specs.Prelude.{map, string_bytes, IfOk};
 ghost use Rattle.monad_lang.specs.Program.{Bind};
 ghost use Rattle.monad_lang.specs.CodeProgram.{mon_of};
 ghost use Rattle.rule_eq.specs.Rule.{Assoc};

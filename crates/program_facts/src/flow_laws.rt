@@ -1,6 +1,6 @@
 //! Laws of facts along programs, as contracts of functions that do nothing.
 
-ghost use Rattle.std.specs.Prelude.{◌≡◌, ℕ, List, Option};
+ghost use Rattle.std.specs.Prelude.{ℕ, List, Option};
 ghost use Rattle.correspondence.specs.Outcome.{Done};
 ghost use Rattle.c_values.specs.Name.{Name};
 ghost use Rattle.c_values.specs.Choice.{Choice};

@@ -1,9 +1,9 @@
 //! Programs that come to what is next in one step and leave the bindings.
 
-ghost use Rattle.std.specs.Prelude.{◌≡◌, map, IfOk, IfErr};
-ghost use Rattle.expression_lang.specs.CodeExpression.{exp_of, kind_of};
+ghost use Rattle.std.specs.Prelude.{map, IfOk, IfErr};
+ghost use Rattle.expression_lang.specs.CodeExpression.{exp_of};
 ghost use Rattle.expression_lang.specs.CodeState.{env_of};
-ghost use Rattle.monad_lang.specs.Program.{Ret, Guard, If, Loop, Pick};
+ghost use Rattle.monad_lang.specs.Program.{Ret, Guard, If, Loop};
 ghost use Rattle.monad_lang.specs.Sorted.{IsWellFormed};
 ghost use Rattle.monad_lang.specs.CodeProgram.{mon_of, start_of, final_unit_of};
 ghost use Rattle.program_runs.specs.Machine.{Leads, CanRun, runs_at};

@@ -1,7 +1,6 @@
 //! What is said of a C file that is looked at again.
 
-ghost use Rattle.std.specs.Prelude.{◌≡◌, ◌≤◌, ◌++◌, ℕ, List, IfOk, OnOk};
-ghost use Rattle.std.specs.Fmt.{decimal};
+ghost use Rattle.std.specs.Prelude.{◌≡◌, ◌≤◌, ℕ, List, IfOk, OnOk};
 ghost use Rattle.c_values.specs.CodeTypes.{target_of};
 ghost use Rattle.remarks.specs.Remark as specs;
 ghost use Rattle.remarks.specs.Remark.{OfFile, OfText, fault_lines};

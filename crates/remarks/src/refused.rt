@@ -1,6 +1,6 @@
 //! What is said of a certificate that isn't accepted.
 
-ghost use Rattle.std.specs.Prelude.{◌≡◌, ◌≤◌, ◌++◌, ℕ, List, IfOk};
+ghost use Rattle.std.specs.Prelude.{◌≡◌, ◌≤◌, ℕ, List, IfOk};
 ghost use Rattle.std.specs.Option.{option_map};
 ghost use Rattle.c_values.specs.CodeTypes.{target_of};
 ghost use Rattle.remarks.specs.Remark as specs;

@@ -1,6 +1,6 @@
 //! Whether two programs are the same but for one place of one expression.
 
-ghost use Rattle.std.specs.Prelude.{◌≡◌, ◌↔◌, [], ◌∷◌, map, IsTrue};
+ghost use Rattle.std.specs.Prelude.{◌↔◌, [], ◌∷◌, map, IsTrue};
 ghost use Rattle.expression_lang.specs.CodeExpression.{exp_of};
 ghost use Rattle.ac_expr.specs.Fact.{Whole};
 ghost use Rattle.ac_expr.specs.CodeApart.{IsSomeSorted};

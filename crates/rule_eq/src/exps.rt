@@ -1,6 +1,6 @@
 //! The expressions that stand in a program directly, and whether one of them is one step away.
 
-ghost use Rattle.std.specs.Prelude.{◌≡◌, ◌≢◌, ◌↔◌, [], ◌∷◌, IsTrue};
+ghost use Rattle.std.specs.Prelude.{◌≡◌, ◌≢◌, ◌↔◌, IsTrue};
 ghost use Rattle.expression_lang.specs.CodeExpression.{exp_of};
 ghost use Rattle.ac_expr.specs.CodeApart.{IsSomeSorted};
 ghost use Rattle.ac_expr.specs.CodeHeads.{children_in};

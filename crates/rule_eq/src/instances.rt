@@ -1,10 +1,9 @@
 //! What a rule asks of two programs. One function for each rule.
 
-ghost use Rattle.std.specs.Prelude.{◌≡◌, ◌↔◌, [], map, string_bytes, IsTrue, true};
+ghost use Rattle.std.specs.Prelude.{◌≡◌, ◌↔◌, [], map, string_bytes, IsTrue};
 ghost use Rattle.expression_lang.specs.Expression as plain;
 ghost use Rattle.expression_lang.specs.CodeExpression.{exp_of};
 ghost use Rattle.ac_expr.specs.Known.{IsKnown};
-ghost use Rattle.monad_lang.specs.Form.{all_kept};
 ghost use Rattle.monad_lang.specs.Program as programs;
 ghost use Rattle.monad_lang.specs.CodeProgram.{mon_of, start_of};
 ghost use Rattle.rule_eq.specs.Rule as names;
@@ -18,7 +17,7 @@ use crate::rule::Rule;
 use crate::taken::is_taken;
 use ac_expr::{Fact, Facts, known};
 use expression_lang::{Exp, same_names};
-use monad_lang::{Mon, Start, is_among, is_free};
+use monad_lang::{Mon, Start, all_kept};
 use monad_sorts::{Inside, Setting, gives_as};
 use program_facts::Parts;
 
@@ -219,27 +218,12 @@ fn is_assoc(left: &Mon, right: &Mon) -> bool
     match left {
         Mon::Bind(first, names, last) => match &**first {
             Mon::Bind(a, inner, b) => {
-                are_kept(inner, names, last) && is_turned(a, inner, b, names, last, right)
+                all_kept(inner, names, last) && is_turned(a, inner, b, names, last, right)
             }
             _ => false,
         },
         _ => false,
     }
-}
-
-// Whether what is free of the names in the program is among the others.
-fn are_kept(names: &[String], others: &[String], m: &Mon) -> bool
-    ensures { result
-        ≡ all_kept (map string_bytes names.now) (map string_bytes others.now) (mon_of m.now) }
-{
-    let mut rest = names;
-    'along: while let Some((name, behind)) = rest.split_first() {
-        if is_free(name, m) && !is_among(name, others) {
-            return false;
-        }
-        rest = behind;
-    }
-    true
 }
 
 // Whether a program is these, one after the other.

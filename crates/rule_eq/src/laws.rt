@@ -20,7 +20,7 @@ ghost use Rattle.monad_lang.specs.Run.{runs, functions_below};
 ghost use Rattle.monad_lang.specs.Sorted.{scalars_given, IsWellFormed};
 ghost use Rattle.program_facts.specs.Substituted.{program_substituted};
 ghost use Rattle.program_facts.specs.Lasting.{setting_in};
-ghost use Rattle.rule_trees.specs.RuleTree.{Tree, Row};
+ghost use Rattle.rule_trees.specs.RuleTree.{Tree};
 ghost use Rattle.rule_eq.specs.Rule.{Rule, Point};
 ghost use Rattle.rule_eq.specs.Table.{point, row, Takes};
 ghost use Rattle.rule_eq.specs.Kept.{EqualKept};

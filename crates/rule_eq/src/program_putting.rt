@@ -15,8 +15,7 @@ use crate::exps::{same_place_head, write_exps};
 use crate::putting::{are_put, is_put};
 use ac_expr::Children;
 use expression_lang::{Exp, Kind, same_names};
-use monad_lang::{Mon, Place, Start, is_among};
-use rule_parts::is_started;
+use monad_lang::{Mon, Place, Start, is_among, is_started};
 
 /// What is known of two programs once all but their last parts are compared.
 #[derive(Clone, Copy)]

@@ -1,6 +1,6 @@
 //! What a rule asks of two expressions. One function for each rule.
 
-ghost use Rattle.std.specs.Prelude.{◌≡◌, ◌≢◌, ◌↔◌, [], IsTrue};
+ghost use Rattle.std.specs.Prelude.{◌≡◌, ◌↔◌, [], IsTrue};
 ghost use Rattle.expression_lang.specs.CodeExpression.{exp_of};
 ghost use Rattle.ac_expr.specs.Heads.{children};
 ghost use Rattle.rule_heap.specs.Rule as names;

@@ -1,6 +1,6 @@
 //! The kernel of the rules that take programs on bytes to programs on typed heaps.
 
-ghost use Rattle.std.specs.Prelude.{◌≡◌, ◌↔◌, ◌++◌, [], ◌∷◌, List, IsTrue, true, false, length};
+ghost use Rattle.std.specs.Prelude.{◌≡◌, ◌↔◌, ◌++◌, List, IsTrue, true, false, length};
 ghost use Rattle.std.specs.Option.{option_map};
 ghost use Rattle.expression_lang.specs.CodeExpression.{exp_of};
 ghost use Rattle.ac_expr.specs.Fact.{Fact as Known};

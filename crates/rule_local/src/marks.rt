@@ -1,6 +1,6 @@
 //! Sets of names, as the bits of a word.
 
-ghost use Rattle.std.specs.Prelude.{◌≡◌, ◌≢◌, ◌<◌, ℕ, true, false, not, ◌&&◌, ◌||◌, IsTrue};
+ghost use Rattle.std.specs.Prelude.{◌≡◌, ◌≢◌, ◌<◌, ℕ, false, not, ◌&&◌, ◌||◌, IsTrue};
 ghost use Rattle.rule_local.specs.CodeMarks.{is_marked};
 
 /// Some of the first 64 names of a list, by their places in it.

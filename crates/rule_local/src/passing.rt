@@ -16,7 +16,7 @@ ghost use Rattle.rule_local.specs.CodeMarks.{is_marked, IsMarkable};
 use crate::carried::assigns;
 use crate::marks::Marks;
 use expression_lang::{Binder, Exp};
-use monad_lang::{Mon, NameTest, Start, is_among, is_free, is_in};
+use monad_lang::{Mon, NameTest, Start, is_among, is_free, is_in, is_in_start, is_started};
 use simpl_lang::{Simpl, is_bound};
 
 // Those of the first 64 names that pass a test.
@@ -176,18 +176,6 @@ impl NameTest for IsStarted<'_> {
     }
 }
 
-// Whether one of the starts has the name.
-fn is_started(name: &str, starts: &[Start]) -> bool
-    ensures { result ≡ is_among name.now (start_names (map start_of starts.now)) }
-{
-    'starts: for start in starts {
-        if name == start.name.as_str() {
-            return true;
-        }
-    }
-    false
-}
-
 /// Those that a loop starts with.
 pub(crate) fn started(window: &[Binder], starts: &[Start]) -> Marks
     ensures { (i : ℕ) (y : Name) → IsMarkable (names_of (map binder_of window.now)) i y →
@@ -211,20 +199,6 @@ impl NameTest for IsInStart<'_> {
     fn holds(&self, name: &str) -> bool {
         is_in_start(name, self.starts)
     }
-}
-
-// Whether an expression that a name starts with has the name.
-fn is_in_start(name: &str, starts: &[Start]) -> bool
-    ensures { result ≡ is_in_start name.now (map start_of starts.now) }
-{
-    let mut rest = starts;
-    'along: while let Some((first, others)) = rest.split_first() {
-        if is_in(name, &first.exp) {
-            return true;
-        }
-        rest = others;
-    }
-    false
 }
 
 /// Those that an expression has with which a loop starts.

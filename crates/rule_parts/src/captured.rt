@@ -11,21 +11,7 @@ ghost use Rattle.monad_lang.specs.CodeProgram.{start_of, mon_of};
 ghost use Rattle.rule_parts.specs.Captures.{captures};
 
 use expression_lang::Exp;
-use monad_lang::{Mon, Start, is_among, is_free, is_in};
-
-/// Whether one of the starts has the name.
-pub fn is_started(name: &str, starts: &[Start]) -> bool
-    ensures { result ≡ is_among name.now (start_names (map start_of starts.now)) }
-{
-    let mut rest = starts;
-    'along: while let Some((first, others)) = rest.split_first() {
-        if name == first.name.as_str() {
-            return true;
-        }
-        rest = others;
-    }
-    false
-}
+use monad_lang::{Mon, Start, is_among, is_free, is_in, is_started};
 
 /// Whether an expression has none of the names.
 pub fn is_unnamed(names: &[String], e: &Exp) -> bool

@@ -6,7 +6,7 @@ mod exps;
 mod facts;
 mod starts;
 
-pub use captured::{captures, is_started, is_unnamed};
+pub use captured::{captures, is_unnamed};
 pub use exps::Exps;
 pub use facts::no_facts;
 pub use starts::same_start_names;

@@ -6,7 +6,7 @@ ghost use Rattle.rule_trees.specs.RuleTree as trees;
 ghost use Rattle.rule_trees.specs.RuleTree.{node, no_trees};
 ghost use Rattle.rule_eq.specs.Rule as plain;
 ghost use Rattle.rule_eq.specs.CodeRule.{rule_of, tree_of};
-ghost use Rattle.rule_walks.specs.Balanced.{Chain as Links, single, before, chained, paired, paired_from, round, built};
+ghost use Rattle.rule_walks.specs.Balanced.{single, before, chained, paired, paired_from, round, built};
 ghost use Rattle.rule_walks.specs.Walk.{Goes, seconds, second_trees, steps_in, joined_walks};
 ghost use Rattle.rule_walks.specs.Walk.{over_bind, over_two, over_one, stays, one_walk, walked};
 ghost use Rattle.rule_walks.specs.Walk.{after_before, and_led};

@@ -1,6 +1,6 @@
 //! The kernel of the rules that make numbers of words.
 
-ghost use Rattle.std.specs.Prelude.{◌≡◌, ◌≤◌, ◌↔◌, ◌++◌, [], List, map, length, true, false, Some, IsTrue, IfSome, IfNone};
+ghost use Rattle.std.specs.Prelude.{◌≡◌, ◌≤◌, ◌↔◌, ◌++◌, List, map, length, true, false, Some, IsTrue, IfSome, IfNone};
 ghost use Rattle.expression_lang.specs.Expression as plain;
 ghost use Rattle.expression_lang.specs.Sort.{Scalar, Scope};
 ghost use Rattle.expression_lang.specs.CodeExpression.{exp_of, kind_of};

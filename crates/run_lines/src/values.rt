@@ -1,13 +1,13 @@
 //! Values of types, written. A value may be as deep as a type, so this takes no stack for its depth.
 
-ghost use Rattle.std.specs.Prelude.{◌≡◌, ◌+◌, ◌<◌, ◌++◌, [], OnOk, IfNone, IfSome, map, unwrap_or};
+ghost use Rattle.std.specs.Prelude.{◌≡◌, ◌+◌, ◌<◌, ◌++◌, [], OnOk, IfNone, IfSome, unwrap_or};
 ghost use Rattle.c_values.specs.CodeParts.{values_in};
 ghost use Rattle.c_values.specs.CodeTypes.{type_of};
 ghost use Rattle.c_values.specs.CodeValue.{value_of};
 ghost use Rattle.c_values.specs.Layout.{Layout as Content, shape_of, type_of as shape_type};
 ghost use Rattle.c_values.specs.Value.{Bits};
 ghost use Rattle.ac_sx.specs.CodeWriter.{lists_behind, nodes_behind};
-ghost use Rattle.ac_sx.specs.Tree.{spelling, nodes, no_trees, more};
+ghost use Rattle.ac_sx.specs.Tree.{nodes, no_trees, more};
 ghost use Rattle.c_meaning.specs.CValue.{number_of_type};
 ghost use Rattle.expression_text.specs.ExpText.{truth_word};
 ghost use Rattle.memory_text.specs.ValueText.{value_tree, value_trees, parts_of};

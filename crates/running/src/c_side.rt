@@ -4,7 +4,6 @@ ghost use Rattle.std.specs.Prelude.{◌≡◌, ◌++◌, IfOk};
 ghost use Rattle.simpl_lang.specs.CodeCommand.{simpl_unit_of};
 ghost use Rattle.c_lang.specs.CodeTyped.{unit_of};
 ghost use Rattle.c_lang.specs.Typed as typed;
-ghost use Rattle.c_lang.specs.WellTyped.{IsWellTyped};
 ghost use Rattle.c_levels.specs.CodeModes.{AreLevels};
 ghost use Rattle.c_meaning.specs.CRun.{plain};
 ghost use Rattle.generation.specs.Generate as rules;

@@ -2,8 +2,7 @@
 #![tactic(auto)]
 
 ghost use Rattle.std.specs.Prelude.{◌≡◌, ◌++◌, ◌<◌, OnOk, IfOk, codes};
-ghost use Rattle.std.specs.Fmt.{decimal};
-ghost use Rattle.sample_text.specs.Sample.{around, constant, with_constant, of_shape, result_of, line, sample_text};
+ghost use Rattle.sample_text.specs.Sample.{around, with_constant, of_shape, result_of, line, sample_text};
 
 use itoa::Buffer;
 use std::alloc::{AllocError, Global};

@@ -1,6 +1,6 @@
 //! Switches: their operands and labels.
 
-ghost use Rattle.std.specs.Prelude.{◌≡◌, map, IfOk};
+ghost use Rattle.std.specs.Prelude.{◌≡◌, IfOk};
 ghost use Rattle.c_values.specs.CodeTypes.{target_of, int_type_of};
 ghost use Rattle.c_lang.specs.CodeTyped as typed;
 ghost use Rattle.expression_lang.specs.CodeExpression.{exp_of, level_of};

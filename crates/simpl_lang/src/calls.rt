@@ -3,10 +3,9 @@
 ghost use Rattle.std.specs.Prelude.{◌≡◌, map, string_bytes};
 ghost use Rattle.std.specs.Option.{option_map};
 ghost use Rattle.expression_lang.specs.Sort.{Of, word_sort_of};
-ghost use Rattle.expression_lang.specs.Signature.{signature, kinds_of};
+ghost use Rattle.expression_lang.specs.Signature.{signature};
 ghost use Rattle.expression_lang.specs.Sorted.{scalars_of, call_scalars};
 ghost use Rattle.expression_lang.specs.CodeExpression.{exp_of, kind_of};
-ghost use Rattle.expression_lang.specs.CodeSignature.{binder_of, signature_of};
 ghost use Rattle.expression_lang.specs.CodeSort.{names_of};
 ghost use Rattle.program_sorts.specs.Sorts.{is_scalar_of};
 ghost use Rattle.simpl_lang.specs.Sorted.{fits_target};

@@ -2,7 +2,7 @@
 
 ghost use Rattle.std.specs.Prelude.{◌≡◌, ◌++◌, OnOk, map, take};
 ghost use Rattle.text_places.specs.Place.{last};
-ghost use Rattle.text_places.specs.Shown.{shown, blank, marked, marked_line};
+ghost use Rattle.text_places.specs.Shown.{shown, blank, marked_line};
 
 use crate::place::place_of;
 use std::alloc::AllocError;

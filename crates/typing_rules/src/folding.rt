@@ -1,7 +1,6 @@
 //! The steps of constant expressions: numbers at their types, and none where a step is undefined.
 
 ghost use Rattle.std.specs.Prelude.{◌≡◌, ◌^◌, ◌<◌, false, pos, int_lt, Some, IfNone, IfSome};
-ghost use Rattle.std.specs.Option.{option_map};
 ghost use Rattle.c_values.specs.CodeTypes.{int_type_of, type_of};
 ghost use Rattle.c_values.specs.CodeWord.{word_op_of};
 ghost use Rattle.c_values.specs.CodeNumber.{number_op_of};

@@ -1,12 +1,12 @@
-//! Whether a value may be put into a program, and a sequence turned.
+//! Whether a value may be put into a program.
 
 ghost use Rattle.std.specs.Prelude.{◌≡◌, ◌++◌, map, string_bytes};
 ghost use Rattle.expression_lang.specs.CodeExpression.{exp_of};
 ghost use Rattle.monad_lang.specs.CodeProgram.{mon_of};
-ghost use Rattle.monad_lang.specs.Form.{all_kept, can_be_put};
+ghost use Rattle.monad_lang.specs.Form.{can_be_put};
 
 use expression_lang::Exp;
-use monad_lang::{Mon, is_among, is_free};
+use monad_lang::{Mon, is_among};
 use rule_parts::captures;
 
 /// Whether a value can stand in a program in place of its name, which is bound with the names before
@@ -23,19 +23,4 @@ pub fn can_be_put(value: &Exp, name: &str, before: &[String], after: &[String], 
             && !captures(value, name, m),
         _ => false,
     }
-}
-
-/// Whether what is free of the names in the program is among the others.
-pub fn all_kept(names: &[String], others: &[String], m: &Mon) -> bool
-    ensures { result
-        ≡ all_kept (map string_bytes names.now) (map string_bytes others.now) (mon_of m.now) }
-{
-    let mut rest = names;
-    'along: while let Some((name, behind)) = rest.split_first() {
-        if is_free(name, m) && !is_among(name, others) {
-            return false;
-        }
-        rest = behind;
-    }
-    true
 }

@@ -2,7 +2,6 @@
 //! begin with.
 
 ghost use Rattle.std.specs.Prelude.{◌≡◌, map, IfOk};
-ghost use Rattle.c_values.specs.CodeTypes.{type_of};
 ghost use Rattle.expression_lang.specs.CodeExpression.{exp_of, path_of};
 ghost use Rattle.ac_expr.specs.Substituted.{substituted, path_substituted};
 ghost use Rattle.monad_lang.specs.CodeProgram.{place_of, start_of};

@@ -5,5 +5,5 @@ mod conditions;
 mod expressions;
 mod programs;
 
-pub use conditions::{all_kept, can_be_put};
+pub use conditions::can_be_put;
 pub use programs::put;

@@ -14,8 +14,7 @@ ghost use Rattle.value_putting.specs.CodeOpening.{becomes, LastIsSmaller};
 
 use crate::expressions::{in_each, in_exp, in_place, in_starts};
 use expression_lang::{Exp, copy_names};
-use monad_lang::{Front, Mon, Start, boxed, is_among, whole};
-use rule_parts::is_started;
+use monad_lang::{Front, Mon, Start, boxed, is_among, is_started, whole};
 use std::alloc::{AllocError, Global};
 
 /// A program with the value in place of the name, where the name is free. It goes along the last

@@ -1,10 +1,9 @@
 //! Expressions on words made expressions on what stands for them.
 
 ghost use Rattle.std.specs.Prelude.{◌≡◌, IfOk};
-ghost use Rattle.expression_lang.specs.declared.expression.Exp.{size-Exp};
 ghost use Rattle.expression_lang.specs.declared.paths.Path.{size-Path};
 ghost use Rattle.expression_lang.specs.CodeExpression.{exp_of, path_of};
-ghost use Rattle.expression_lang.specs.CodeShapeView.{two_in, with_steps};
+ghost use Rattle.expression_lang.specs.CodeShapeView.{two_in};
 ghost use Rattle.rule_trees.specs.RuleTree.{Trees};
 ghost use Rattle.rule_word.specs.Rule.{Rule as Named};
 ghost use Rattle.word_abstract.specs.CodeMeaning.{meaning};

@@ -1,6 +1,6 @@
 //! What is known where an expression stands.
 
-ghost use Rattle.std.specs.Prelude.{◌≡◌, ◌&&◌, ◌∷◌, [], map, string_bytes, IfOk, List};
+ghost use Rattle.std.specs.Prelude.{◌≡◌, ◌&&◌, [], map, string_bytes, IfOk, List};
 ghost use Rattle.expression_lang.specs.CodeExpression.{exp_of};
 ghost use Rattle.ac_expr.specs.Fact.{Fact as Plain, stands_for};
 ghost use Rattle.ac_expr.specs.Passed.{without_names, where_unchanged};

@@ -1,13 +1,13 @@
 //! What is known, and which names are in scope, behind the parts of a sequence that were passed.
 
-ghost use Rattle.std.specs.Prelude.{◌≡◌, [], map, string_bytes, IfOk, List};
-ghost use Rattle.expression_lang.specs.CodeExpression.{exp_of, kind_of};
+ghost use Rattle.std.specs.Prelude.{◌≡◌, map, string_bytes, IfOk, List};
+ghost use Rattle.expression_lang.specs.CodeExpression.{kind_of};
 ghost use Rattle.expression_lang.specs.CodeSignature.{binder_of};
 ghost use Rattle.expression_lang.specs.Signature.{Binder as Plain, names_of, kinds_of};
 ghost use Rattle.monad_lang.specs.CodeProgram.{mon_of};
 ghost use Rattle.program_facts.specs.Flow.{facts_after, guard_in};
 ghost use Rattle.ac_expr.specs.Fact.{Fact as PlainFact};
-ghost use Rattle.ac_expr.specs.Passed.{with_guard, without_names};
+ghost use Rattle.ac_expr.specs.Passed.{without_names};
 ghost use Rattle.rule_word.specs.Scopes.{with_kinds};
 ghost use Rattle.word_abstract.specs.CodeKnown.{newest_first, with_lasting_guard};
 ghost use Rattle.word_abstract.specs.CodeFacts.{whole, known_in};

@@ -1,6 +1,6 @@
 //! Which range of a sum is known, so which numbers it stands for.
 
-ghost use Rattle.std.specs.Prelude.{◌≡◌, ◌↔◌, ◌||◌, ◌∷◌, [], ◌^◌, ◌-◌, ◌<◌, ◌≤◌, map, IsTrue, IfSome, IfNone, List, Option, Some, None, pos, neg_ℤ, if◌then◌else◌};
+ghost use Rattle.std.specs.Prelude.{◌≡◌, ◌↔◌, ◌||◌, [], ◌^◌, ◌-◌, ◌<◌, map, IsTrue, List, Option, Some, None};
 ghost use Rattle.std.specs.Option.{option_map};
 ghost use Rattle.c_values.specs.Number.{least, greatest};
 ghost use Rattle.expression_lang.specs.Expression as plain;

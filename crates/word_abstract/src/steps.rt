@@ -13,7 +13,7 @@ ghost use Rattle.rule_trees.specs.RuleTree.{Trees, node, no_trees};
 ghost use Rattle.rule_word.specs.Rule.{Rule as Named};
 ghost use Rattle.rule_word.specs.ProgramsAbstracted.{pick_at, place_rule};
 ghost use Rattle.rule_word.specs.Kept.{kinds_taken, kinds_given};
-ghost use Rattle.rule_word.specs.CodeRule.{rule_of, tree_of};
+ghost use Rattle.rule_word.specs.CodeRule.{rule_of};
 ghost use Rattle.word_abstract.specs.CodeTrees.{with_trees};
 ghost use Rattle.word_abstract.specs.CodeTranslated.{translated_in};
 ghost use Rattle.word_abstract.specs.CodeScenes.{indices_there, place_there, program_there};

@@ -1,6 +1,6 @@
 //! Programs on the right with their trees, and what is recast.
 
-ghost use Rattle.std.specs.Prelude.{◌≡◌, ◌∷◌, [], map, string_bytes, IfOk};
+ghost use Rattle.std.specs.Prelude.{◌≡◌, map, string_bytes, IfOk};
 ghost use Rattle.std.specs.Option.{option_map};
 ghost use Rattle.expression_lang.specs.Expression as plain;
 ghost use Rattle.expression_lang.specs.CodeExpression.{exp_of, kind_of};
@@ -9,8 +9,7 @@ ghost use Rattle.rule_trees.specs.RuleTree as trees;
 ghost use Rattle.rule_trees.specs.RuleTree.{no_trees};
 ghost use Rattle.rule_word.specs.Table.{recast, recasts};
 ghost use Rattle.rule_word.specs.ProgramsAbstracted.{recast_by, result_names, through_words, recast_to};
-ghost use Rattle.rule_word.specs.CodeRule.{rule_of, tree_of};
-ghost use Rattle.word_abstract.specs.CodeRecasting.{before};
+ghost use Rattle.rule_word.specs.CodeRule.{rule_of};
 ghost use Rattle.word_abstract.specs.CodeTrees.{with_trees};
 ghost use Rattle.word_abstract.specs.CodeTranslated.{translated_in, exps_in};
 

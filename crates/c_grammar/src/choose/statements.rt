@@ -1,6 +1,6 @@
 //! What statements make of a token.
 
-ghost use Rattle.std.specs.Prelude.{◌≡◌, ◌∷◌, ◌++◌, [], IfOk, true, false, reverse};
+ghost use Rattle.std.specs.Prelude.{◌∷◌, [], IfOk, false, reverse};
 ghost use Rattle.c_lex.specs.Lexeme.{kind_of};
 ghost use Rattle.c_grammar.specs.CodeFollows.{Follows};
 ghost use Rattle.c_grammar.specs.CodeChoice as choice;

@@ -2,7 +2,7 @@
 use Rattle.std.proofs.Common.{◌≡◌, map, length, string_bytes}
 use Rattle.monad_lang.specs.Form.{all_kept}
 use Rattle.monad_lang.specs.CodeProgram.{mon_of}
-use Rattle.rule_eq.proofs.instances.are_kept.Given as goal
+use Rattle.monad_lang.proofs.free_names.all_kept.Given as goal
 
 abbrev pub invariant-along : goal.invariant-along
 invariant-along l =
