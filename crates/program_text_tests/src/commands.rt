@@ -1,11 +1,11 @@
 // Texts of commands are read and written, and trees that are none are refused at their place.
-use crate::trees::{around, tree_of};
 use ac_sx::write;
 use command_text::{read_simpl, write_simpl};
 use expression_text::TextFault;
 use std::alloc::Global;
 use std::process::Abort;
 use std::test::Fail;
+use test_texts::{around, tree_of};
 
 // What is read is written again as it was.
 fn is_read(rt: &impl Abort, alloc: Global, text: &str) -> Result<(), Fail> {

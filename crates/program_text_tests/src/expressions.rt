@@ -1,10 +1,10 @@
 // Expressions that nest deeply are read and written.
-use crate::trees::{around, tree_of};
 use ac_sx::write;
 use expression_text::{read_exp, write_exp};
 use std::alloc::Global;
 use std::process::Abort;
 use std::test::Fail;
+use test_texts::{around, tree_of};
 
 // What is read is written again as it was.
 fn is_read(rt: &impl Abort, alloc: Global, text: &str) -> Result<(), Fail> {

@@ -7,5 +7,3 @@ mod commands;
 mod expressions;
 #[cfg(test)]
 mod programs;
-#[cfg(test)]
-mod trees;
