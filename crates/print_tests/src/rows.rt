@@ -3,6 +3,7 @@
 use crate::units::{function, parameter, unit, unit_of};
 use abs_print::print;
 use expression_lang::Kind;
+use monad_lang::FinalFn;
 use std::alloc::Global;
 use std::process::Abort;
 use std::test::Fail;
@@ -123,25 +124,51 @@ h : unit
   return
 ";
 
+// A function whose body these words are.
+fn function_of(
+    alloc: Global,
+    name: &str,
+    params: &[(&str, Kind)],
+    results: &[Kind],
+    words: &str,
+) -> Result<FinalFn, Fail> {
+    let mut f = function(alloc, name, program_of(alloc, words)?)?;
+    for (name, kind) in params {
+        f.params.push(parameter(alloc, name, *kind)?)?;
+    }
+    for kind in results {
+        f.results.push(*kind)?;
+    }
+    Ok(f)
+}
+
+// A sum, what gives the last of three parameters, and what gives nothing.
+fn functions(alloc: Global) -> Result<Vec<FinalFn>, Fail> {
+    let nat = Kind::Nat(32);
+    let kinds = [
+        ("p", Kind::Word(64)),
+        ("q", Kind::Int(8)),
+        ("t", Kind::Bool),
+    ];
+    let sum = "bind guard natural add a b 1ret add a b";
+    let mut all = Vec::new(alloc);
+    all.push(function_of(alloc, "f", &[("a", nat), ("b", nat)], &[nat], sum)?)?;
+    all.push(function_of(alloc, "g", &kinds, &[Kind::Bool], "1ret t")?)?;
+    all.push(function_of(alloc, "h", &[], &[], "0ret")?)?;
+    Ok(all)
+}
+
 #[test]
 fn units_are_printed(rt: HostRuntime) -> Result<(), Fail> {
     let alloc = rt.alloc();
-    assert!(rt; print(alloc, &unit(alloc, Vec::new(alloc))?)?.is_empty());
-    let mut functions = Vec::new(alloc);
-    let sum = program_of(alloc, "bind guard natural add a b 1ret add a b")?;
-    let mut f = function(alloc, "f", sum)?;
-    f.params.push(parameter(alloc, "a", Kind::Nat(32))?)?;
-    f.params.push(parameter(alloc, "b", Kind::Nat(32))?)?;
-    f.results.push(Kind::Nat(32))?;
-    functions.push(f)?;
-    let mut g = function(alloc, "g", program_of(alloc, "1ret t")?)?;
-    g.params.push(parameter(alloc, "p", Kind::Word(64))?)?;
-    g.params.push(parameter(alloc, "q", Kind::Int(8))?)?;
-    g.params.push(parameter(alloc, "t", Kind::Bool)?)?;
-    g.results.push(Kind::Bool)?;
-    functions.push(g)?;
-    functions.push(function(alloc, "h", program_of(alloc, "0ret")?)?)?;
-    let text = print(alloc, &unit(alloc, functions)?)?;
+    let text = print(alloc, &unit(alloc, functions(alloc)?)?)?;
     assert!(rt; text.as_slice() == UNIT.as_bytes());
+    Ok(())
+}
+
+#[test]
+fn a_unit_without_functions_has_no_text(rt: HostRuntime) -> Result<(), Fail> {
+    let alloc = rt.alloc();
+    assert!(rt; print(alloc, &unit(alloc, Vec::new(alloc))?)?.is_empty());
     Ok(())
 }
