@@ -7,6 +7,4 @@ mod exceptions;
 #[cfg(test)]
 mod locals;
 #[cfg(test)]
-mod notation;
-#[cfg(test)]
 mod sizes;

@@ -1,15 +1,17 @@
 //! Tests of the rules that lift locals. In front of a row stands the output that the program
-//! gives; `test_tables` says what else is in it, and `notation` what the words are.
+//! gives; `test_tables` says what else is in it.
 
-use crate::notation::{command, program};
-use crate::sizes::{nested, within};
-use expression_lang::{Binder, Exp, Kind};
+use crate::sizes::{nested, repeated};
+use expression_lang::{Binder, Kind};
 use local_lift::translate;
+use monad_lang::Mon;
 use rule_local::{Context, Rule, check};
+use rule_trees::{At, Tree};
 use simpl_lang::Simpl;
 use std::alloc::{AllocError, Global};
 use std::test::Fail;
 use test_tables::{Row, Rules, is_remark, tree};
+use test_texts::{command, program};
 
 // The rules by name.
 struct LocalRules;
@@ -37,48 +39,66 @@ impl Rules for LocalRules {
     }
 }
 
-fn binder(alloc: Global, name: &str, kind: Kind) -> Result<Binder, AllocError> {
-    Ok(Binder {
-        name: String::from_str(alloc, name)?,
-        kind,
-    })
+// The names of words, of this kind.
+fn push_names(
+    alloc: Global,
+    words: &str,
+    kind: Kind,
+    binders: &mut Vec<Binder>,
+) -> Result<(), AllocError> {
+    for word in words.split(' ') {
+        let name = String::from_str(alloc, word)?;
+        binders.push(Binder { name, kind })?;
+    }
+    Ok(())
 }
 
 // The parameters: a word, a pointer, and truth values for tests and guards.
 fn parameters(alloc: Global) -> Result<Vec<Binder>, AllocError> {
     let mut parameters = Vec::new(alloc);
-    parameters.push(binder(alloc, "a", Kind::Word(32))?)?;
-    parameters.push(binder(alloc, "p", Kind::Word(32))?)?;
-    for name in ["e", "g", "h"] {
-        parameters.push(binder(alloc, name, Kind::Bool)?)?;
-    }
+    push_names(alloc, "a p", Kind::Word(32), &mut parameters)?;
+    push_names(alloc, "e g h", Kind::Bool, &mut parameters)?;
     Ok(parameters)
 }
 
 // All locals.
 fn locals(alloc: Global) -> Result<Vec<Binder>, AllocError> {
     let mut locals = parameters(alloc)?;
-    for name in ["x", "y", "$ret", "$exn"] {
-        locals.push(binder(alloc, name, Kind::Word(32))?)?;
-    }
-    locals.push(binder(alloc, "$thrown", Kind::Bool)?)?;
+    push_names(alloc, "x y $ret $exn", Kind::Word(32), &mut locals)?;
+    push_names(alloc, "$thrown", Kind::Bool, &mut locals)?;
     Ok(locals)
 }
 
-// Whether the kernel says what a row does, where this is the output.
-fn agrees(alloc: Global, output: &str, row: &Row<'_>) -> Result<bool, Fail> {
+fn outputs(alloc: Global, name: &str) -> Result<Vec<String>, AllocError> {
+    let mut outputs = Vec::new(alloc);
+    outputs.push(String::from_str(alloc, name)?)?;
+    Ok(outputs)
+}
+
+// What the kernel says, where this is the output.
+fn verdict(
+    alloc: Global,
+    output: &str,
+    t: &Tree<Rule>,
+    left: &Simpl,
+    right: &Mon,
+) -> Result<Result<(), At>, AllocError> {
     let locals = locals(alloc)?;
     let parameters = parameters(alloc)?;
+    let outputs = outputs(alloc, output)?;
     let context = Context {
         locals: &locals,
         parameters: &parameters,
     };
-    let mut outputs = Vec::new(alloc);
-    outputs.push(String::from_str(alloc, output)?)?;
+    Ok(check(t, left, right, &outputs, context))
+}
+
+// Whether it says what a row does.
+fn agrees(alloc: Global, output: &str, row: &Row<'_>) -> Result<bool, Fail> {
     let t = tree::<LocalRules>(alloc, row.rules)?;
     let left = command(alloc, row.left)?;
     let right = program(alloc, row.right)?;
-    Ok(row.says(check(&t, &left, &right, &outputs, context)))
+    Ok(row.says(verdict(alloc, output, &t, &left, &right)?))
 }
 
 // The same of a line.
@@ -90,25 +110,29 @@ fn is_so(alloc: Global, line: &str) -> Result<bool, Fail> {
 }
 
 const INSTANCES: &str = "\
-a | skip | skip | 1ret a | ok
-x | set | set | 1ret one | ok
-a | dead | set | 1ret a | ok
-a | global | gset | 0bind gset 1ret a | ok
-a | memory | store | 0bind store 1ret a | ok
-x | pick | pick | 1bind pick x 1ret x | ok
-x | 2seq set skip | seq set skip | 1bind 1ret one x 1ret x | ok
-a | 2seq dead skip | seq set skip | 0bind 0ret 1ret a | ok
-x | 2cond set pick | cond set pick | if e 1ret one 1bind pick x 1ret x | ok
-x | 1guard set | guard set | 0bind guard g 1ret one | ok
-x | 1start 1while set | while set | 1bind 1ret zero x 1bind 1loop 1ret one x x 1ret x | ok
-a | 1while dead | while set | 0bind 0loop 0ret 1ret a | ok
-x | 1start call | call | 1bind 1ret zero x 1bind call x 1ret x | ok
-x | 1start skip | skip | 1bind 1ret zero x 1ret x | ok
+a | skip | skip | (ret a) | ok
+x | set | (set x (w 32 1)) | (ret (w 32 1)) | ok
+a | dead | (set x (w 32 1)) | (ret a) | ok
+a | global | (gset x () (w 32 1)) | (do () (gset x () (w 32 1)) (ret a)) | ok
+a | memory | (store uint p () (w 32 1)) | (do () (store uint p () (w 32 1)) (ret a)) | ok
+x | pick | (pick x) | (do (x) (pick (w 32)) (ret x)) | ok
+x | 2seq set skip | (seq (set x (w 32 1)) skip) | (do (x) (ret (w 32 1)) (ret x)) | ok
+a | 2seq dead skip | (seq (set x (w 32 1)) skip) | (do () (ret) (ret a)) | ok
+x | 2cond set pick | (cond e (set x (w 32 1)) (pick x)) | \
+    (if e (ret (w 32 1)) (do (x) (pick (w 32)) (ret x))) | ok
+x | 1guard set | (guard div g (set x (w 32 1))) | (do () (guard g) (ret (w 32 1))) | ok
+x | 1start 1while set | (while ((pointer g) (bounds g)) e (set x (w 32 1))) | \
+    (do (x) (ret (w 32 0)) (x) (loop ((x x)) (and g g) e (ret (w 32 1))) (ret x)) | ok
+a | 1while dead | (while ((pointer g) (bounds g)) e (set x (w 32 1))) | \
+    (do () (loop () (and g g) e (ret)) (ret a)) | ok
+x | 1start call | (call x f x) | (do (x) (ret (w 32 0)) (x) (call f x) (ret x)) | ok
+x | 1start skip | skip | (do (x) (ret (w 32 0)) (ret x)) | ok
 # the body of a function that returns a constant, once exceptions are taken out of it
 $ret | 2seq 2seq 2seq set 2seq dead set 2cond skip 1guard skip dead | \
-    seq seq seq set_ret seq set_exn raise cond_thrown skip guard_unreached skip clear | \
-    1bind 2bind 1bind 1ret one $ret 0bind 0ret 2ret $ret true $ret $thrown if $thrown 1ret $ret 0bind guard false 1ret $ret $ret 1ret $ret | \
-    ok";
+    (seq (seq (seq (set $ret (w 32 1)) (set $exn (w 32 1)) (set $thrown #t)) (cond $thrown skip \
+    (guard unreached #f skip))) (set $thrown #f)) | \
+    (do ($ret) (do ($ret $thrown) (do ($ret) (ret (w 32 1)) () (ret) (ret $ret #t)) (if $thrown \
+    (ret $ret) (do () (guard #f) (ret $ret)))) (ret $ret)) | ok";
 
 #[test]
 fn instances_of_each_rule(rt: HostRuntime) -> Result<(), Fail> {
@@ -119,30 +143,34 @@ fn instances_of_each_rule(rt: HostRuntime) -> Result<(), Fail> {
 }
 
 const OTHERS: &str = "\
-a | set | skip | 1ret a | 0
-a | skip | skip | 1ret p | 0
-a | skip | skip | 2ret a a | 0
-a | 1skip skip | skip | 1ret a | 0
-x | dead | set | 1ret one | 0
-a | set | set | 1ret a | 0
-x | set | set | 1ret zero | 0
-a | memory | gset | 0bind gset 1ret a | 0
-a | global | gset | 0bind store 1ret a | 0
-x | pick | pick | 1bind pick y 1ret x | 0
-x | 2seq dead skip | seq set skip | 0bind 0ret 1ret x | 0
-x | 2seq skip set | seq set set | 1bind 1ret one x 1ret one | 1
-x | 2seq set skip | seq set set | 1bind 1ret one x 1ret one | 2
-x | 1seq set | seq set skip | 1bind 1ret one x 1ret x | 0
-x | 2cond set pick | cond set pick | if g 1ret one 1bind pick x 1ret x | 0
-x | 1guard set | guard set | 0bind guard h 1ret one | 0
+a | set | skip | (ret a) | 0
+a | skip | skip | (ret p) | 0
+a | skip | skip | (ret a a) | 0
+a | 1skip skip | skip | (ret a) | 0
+x | dead | (set x (w 32 1)) | (ret (w 32 1)) | 0
+a | set | (set x (w 32 1)) | (ret a) | 0
+x | set | (set x (w 32 1)) | (ret (w 32 0)) | 0
+a | memory | (gset x () (w 32 1)) | (do () (gset x () (w 32 1)) (ret a)) | 0
+a | global | (gset x () (w 32 1)) | (do () (store uint p () (w 32 1)) (ret a)) | 0
+x | pick | (pick x) | (do (y) (pick (w 32)) (ret x)) | 0
+x | 2seq dead skip | (seq (set x (w 32 1)) skip) | (do () (ret) (ret x)) | 0
+x | 2seq skip set | (seq (set x (w 32 1)) (set x (w 32 1))) | \
+    (do (x) (ret (w 32 1)) (ret (w 32 1))) | 1
+x | 2seq set skip | (seq (set x (w 32 1)) (set x (w 32 1))) | \
+    (do (x) (ret (w 32 1)) (ret (w 32 1))) | 2
+x | 1seq set | (seq (set x (w 32 1)) skip) | (do (x) (ret (w 32 1)) (ret x)) | 0
+x | 2cond set pick | (cond e (set x (w 32 1)) (pick x)) | \
+    (if g (ret (w 32 1)) (do (x) (pick (w 32)) (ret x))) | 0
+x | 1guard set | (guard div g (set x (w 32 1))) | (do () (guard h) (ret (w 32 1))) | 0
 # a loop that leaves out a live local
-x | 1start 1while dead | while set | 1bind 1ret zero x 0bind 0loop 0ret 1ret x | 1
+x | 1start 1while dead | (while ((pointer g) (bounds g)) e (set x (w 32 1))) | \
+    (do (x) (ret (w 32 0)) () (loop () (and g g) e (ret)) (ret x)) | 1
 # a start that sets a parameter to zero, and one with another value
-a | 1start skip | skip | 1bind 1ret zero a 1ret a | 0
-x | 1start skip | skip | 1bind 1ret one x 1ret x | 0
+a | 1start skip | skip | (do (a) (ret (w 32 0)) (ret a)) | 0
+x | 1start skip | skip | (do (x) (ret (w 32 1)) (ret x)) | 0
 # no start, and one that isn't at the root
-x | skip | skip | 1ret x | 0
-x | 1guard 1start skip | guard skip | 0bind guard g 1bind 1ret zero x 1ret x | 1";
+x | skip | skip | (ret x) | 0
+x | 1guard 1start skip | (guard div g skip) | (do () (guard g) (x) (ret (w 32 0)) (ret x)) | 1";
 
 #[test]
 fn nodes_that_are_no_instances(rt: HostRuntime) -> Result<(), Fail> {
@@ -167,19 +195,18 @@ fn is_lifted(
 fn is_lifted_here(alloc: Global, left: &Simpl) -> Result<bool, Fail> {
     let locals = locals(alloc)?;
     let parameters = parameters(alloc)?;
+    let outputs = outputs(alloc, "x")?;
     let context = Context {
         locals: &locals,
         parameters: &parameters,
     };
-    let mut outputs = Vec::new(alloc);
-    outputs.push(String::from_str(alloc, "x")?)?;
     is_lifted(left, context, &outputs, alloc)
 }
 
 #[test]
 fn long_spines_are_lifted_and_checked(rt: HostRuntime) -> Result<(), Fail> {
     let alloc = rt.alloc();
-    let c = nested(alloc, "seq", 1_000_000, command(alloc, "call")?)?;
+    let c = nested(alloc, "seq", 1_000_000, "(call x f x)")?;
     assert!(rt; is_lifted_here(alloc, &c)?);
     Ok(())
 }
@@ -188,57 +215,74 @@ fn long_spines_are_lifted_and_checked(rt: HostRuntime) -> Result<(), Fail> {
 fn deep_nesting_is_lifted_and_checked(rt: HostRuntime) -> Result<(), Fail> {
     let alloc = rt.alloc();
     for head in ["seq_left", "cond_left", "while"] {
-        let c = nested(alloc, head, 4_096, command(alloc, "set")?)?;
+        let c = nested(alloc, head, 4_096, "(set x (w 32 1))")?;
         assert!(rt; is_lifted_here(alloc, &c)?, "{head}");
     }
     Ok(())
 }
 
 // A straight line, nested loops, and nested choices, of 100, 200, 400 and 800 commands.
+const SIZES: &str = "\
+50 100 200 400 | *(seq *(set x (w 32 1)) *(set x (w 32 1)))
+25 50 100 200 | (while ((pointer g) (bounds g)) e (seq (set x (w 32 1)) *(set x (w 32 1))*))
+25 50 100 200 | (cond e (seq (set x (w 32 1)) *(set x (w 32 1))*) skip)";
+
+// Whether the commands of a line are lifted at each size.
+fn are_lifted(alloc: Global, line: &str) -> Result<bool, Fail> {
+    let (sizes, text) = line.split_once(" | ").ok_or("no sizes")?;
+    for size in sizes.split(' ') {
+        let c = repeated(alloc, text, size.parse::<u32>()?)?;
+        if !is_lifted_here(alloc, &c)? {
+            return Ok(false);
+        }
+    }
+    Ok(true)
+}
+
 #[test]
 fn commands_of_many_sizes(rt: HostRuntime) -> Result<(), Fail> {
-    let alloc = rt.alloc();
-    let shapes = [
-        ("seq set ", "", [50u32, 100, 200, 400]),
-        ("while seq set ", " skip", [25, 50, 100, 200]),
-        ("cond seq set ", " skip", [25, 50, 100, 200]),
-    ];
-    for (before, after, sizes) in shapes {
-        for times in sizes {
-            let c = within(alloc, before, after, times)?;
-            assert!(rt; is_lifted_here(alloc, &c)?, "{before}");
-        }
+    for line in SIZES.lines() {
+        assert!(rt; are_lifted(rt.alloc(), line)?, "{line}");
     }
     Ok(())
 }
 
-// A straight line of sets, as many as are asked, each of one of 32 locals to another.
-fn many_locals(alloc: Global, count: u32) -> Result<bool, Fail> {
-    let mut locals = Vec::new(alloc);
+// The names of 32 words.
+fn many_names(alloc: Global) -> Result<Vec<Binder>, AllocError> {
+    let mut names = Vec::new(alloc);
     for k in 0..32u32 {
         let name = format!(in alloc; "v{k}")?;
-        locals.push(binder(alloc, name.as_str(), Kind::Word(32))?)?;
+        push_names(alloc, name.as_str(), Kind::Word(32), &mut names)?;
     }
-    let mut c = Simpl::Skip;
-    for k in 0..count {
-        let name = format!(in alloc; "v{}", k % 32)?;
-        let other = format!(in alloc; "v{}", k % 32 * 5 % 32)?;
-        let set = Box::new(alloc, Simpl::Set(name, Exp::Var(other)))?;
-        c = Simpl::Seq(set, Box::new(alloc, c)?);
+    Ok(names)
+}
+
+// A straight line of sets, as many as are asked, each of one of these names to another.
+fn sets(alloc: Global, count: u32) -> Result<Simpl, Fail> {
+    let mut text = String::from_str(alloc, "(seq ")?;
+    for k in (0..count).rev() {
+        let set = format!(in alloc; "(set v{} v{}) ", k % 32, k % 32 * 5 % 32)?;
+        text.push_str(set.as_str())?;
     }
+    text.push_str("skip)")?;
+    command(alloc, text.as_str())
+}
+
+// Whether it is lifted.
+fn is_line_lifted(alloc: Global, count: u32) -> Result<bool, Fail> {
+    let locals = many_names(alloc)?;
+    let outputs = outputs(alloc, "v0")?;
     let context = Context {
         locals: &locals,
         parameters: &[],
     };
-    let mut outputs = Vec::new(alloc);
-    outputs.push(String::from_str(alloc, "v0")?)?;
-    is_lifted(&c, context, &outputs, alloc)
+    is_lifted(&sets(alloc, count)?, context, &outputs, alloc)
 }
 
 #[test]
 fn sequences_over_many_locals(rt: HostRuntime) -> Result<(), Fail> {
     for count in [50, 100, 200, 400] {
-        assert!(rt; many_locals(rt.alloc(), count)?, "{count}");
+        assert!(rt; is_line_lifted(rt.alloc(), count)?, "{count}");
     }
     Ok(())
 }
