@@ -55,6 +55,7 @@ impl Rules for HeapRules {
     }
 }
 
+// What the kernel says, where nothing is known.
 fn verdict(l: &Layout, t: &Tree<Rule>, left: &Mon, right: &Mon) -> Result<(), At> {
     let names = Names::new();
     let facts: Facts<'_, Parts<'_>> = Facts::new(l, &[], &names);
@@ -65,17 +66,21 @@ fn verdict(l: &Layout, t: &Tree<Rule>, left: &Mon, right: &Mon) -> Result<(), At
     check(t, left, right, context)
 }
 
-/// Whether the kernel says what the row of a line does.
+// Whether the kernel says what a row does.
+fn agrees(alloc: Global, row: &Row<'_>) -> Result<bool, Fail> {
+    let t = tree::<HeapRules>(alloc, row.rules)?;
+    let left = program_of(alloc, row.left)?;
+    let right = program_of(alloc, row.right)?;
+    let l = Layout::build(Target::Ilp32, Vec::new(alloc))?;
+    Ok(row.says(verdict(&l, &t, &left, &right)))
+}
+
+/// The same of a line.
 pub(crate) fn is_so(alloc: Global, line: &str) -> Result<bool, Fail> {
     if is_remark(line) {
         return Ok(true);
     }
-    let row = Row::read(line)?;
-    let l = Layout::build(Target::Ilp32, Vec::new(alloc))?;
-    let t = tree::<HeapRules>(alloc, row.rules)?;
-    let left = program_of(alloc, row.left)?;
-    let right = program_of(alloc, row.right)?;
-    Ok(row.says(verdict(&l, &t, &left, &right)))
+    agrees(alloc, &Row::read(line)?)
 }
 
 const INSTANCES: &str = "\

@@ -1,57 +1,13 @@
 //! Tests of what lifts programs to typed heaps: a program of each kind, and long and deep ones.
+//! `test_programs` says what the words are, and in `sizes` stands what `*` is.
 
-use c_values::{CType, IntType};
-use expression_lang::{Exp, Path};
+use crate::sizes::repeated;
 use heap_lift::translate;
-use monad_lang::{Mon, Place};
 use rule_heap::Rule;
 use rule_trees::Tree;
-use std::alloc::{AllocError, Global};
+use std::alloc::Global;
 use std::test::Fail;
-
-fn pointer(alloc: Global) -> Result<Box<Exp>, AllocError> {
-    Ok(Box::new(alloc, Exp::Var(String::from_str(alloc, "p")?))?)
-}
-
-fn int() -> CType {
-    CType::Int(IntType::Int)
-}
-
-fn load(alloc: Global) -> Result<Exp, AllocError> {
-    Ok(Exp::Load(int(), pointer(alloc)?, Path::Here))
-}
-
-fn read(alloc: Global) -> Result<Exp, AllocError> {
-    Ok(Exp::Read(int(), pointer(alloc)?, Path::Here))
-}
-
-fn may_point(alloc: Global) -> Result<Mon, AllocError> {
-    Ok(Mon::Guard(Exp::PtrOk(int(), pointer(alloc)?)))
-}
-
-fn is_tagged(alloc: Global) -> Result<Mon, AllocError> {
-    Ok(Mon::Guard(Exp::Tagged(int(), pointer(alloc)?)))
-}
-
-fn then(alloc: Global, first: Mon, last: Mon) -> Result<Mon, AllocError> {
-    let first = Box::new(alloc, first)?;
-    let last = Box::new(alloc, last)?;
-    Ok(Mon::Bind(first, Vec::new(alloc), last))
-}
-
-fn store(alloc: Global) -> Result<Mon, AllocError> {
-    let place = Place::Stored(int(), Box::into_inner(pointer(alloc)?), Path::Here);
-    Ok(Mon::Write(place, load(alloc)?))
-}
-
-fn write(alloc: Global) -> Result<Mon, AllocError> {
-    let place = Place::Written(int(), Box::into_inner(pointer(alloc)?), Path::Here);
-    Ok(Mon::Write(place, read(alloc)?))
-}
-
-fn nothing(alloc: Global) -> Mon {
-    Mon::Ret(Vec::new(alloc))
-}
+use test_programs::program_of;
 
 // The nodes along the last parts.
 fn depth(tree: &Tree<Rule>) -> u32 {
@@ -64,102 +20,102 @@ fn depth(tree: &Tree<Rule>) -> u32 {
     count
 }
 
-#[test]
-fn a_store_behind_a_pair_of_tests(rt: HostRuntime) -> Result<(), Fail> {
-    let alloc = rt.alloc();
-    let rest = then(alloc, is_tagged(alloc)?, store(alloc)?)?;
-    let left = then(alloc, may_point(alloc)?, rest)?;
-    let (right, tree) = translate(alloc, &left)?;
-    let wanted = then(alloc, is_tagged(alloc)?, write(alloc)?)?;
-    assert!(rt; right.same(&wanted));
-    assert!(rt; matches!(tree.rule, Rule::Pointer));
-    assert!(rt; depth(&tree) == 4);
-    Ok(())
+fn root(tree: &Tree<Rule>) -> &'static str {
+    match tree.rule {
+        Rule::Pointer => "pointer",
+        Rule::Bind => "bind",
+        Rule::Same => "same",
+        _ => "another",
+    }
 }
 
-#[test]
-fn a_test_alone_stays(rt: HostRuntime) -> Result<(), Fail> {
-    let alloc = rt.alloc();
-    let left = then(alloc, may_point(alloc)?, store(alloc)?)?;
-    let (right, tree) = translate(alloc, &left)?;
-    let wanted = then(alloc, may_point(alloc)?, write(alloc)?)?;
-    assert!(rt; right.same(&wanted));
-    assert!(rt; matches!(tree.rule, Rule::Bind));
-    Ok(())
+// Whether a program becomes another one by a tree with this root and depth.
+fn becomes(alloc: Global, told: &str, left: &str, right: &str) -> Result<bool, Fail> {
+    let (found, tree) = translate(alloc, &program_of(alloc, left)?)?;
+    let wanted = program_of(alloc, right)?;
+    let rules = format!(in alloc; "{} {}", root(&tree), depth(&tree))?;
+    Ok(found.same(&wanted) && rules.as_str() == told)
 }
 
-#[test]
-fn where_there_is_nothing_to_do(rt: HostRuntime) -> Result<(), Fail> {
-    let alloc = rt.alloc();
-    let left = then(alloc, is_tagged(alloc)?, nothing(alloc))?;
-    let (right, tree) = translate(alloc, &left)?;
-    assert!(rt; right.same(&left));
-    assert!(rt; matches!(tree.rule, Rule::Same));
-    assert!(rt; depth(&tree) == 1);
-    Ok(())
+// The same of a line.
+fn is_so(alloc: Global, line: &str) -> Result<bool, Fail> {
+    let mut cells = line.split(" | ");
+    match (cells.next(), cells.next(), cells.next()) {
+        (Some(told), Some(left), Some(right)) => becomes(alloc, told, left, right),
+        _ => Err(Fail::from("a row has too few cells")),
+    }
 }
 
-// So many of a program, one after the other.
+// A store behind a pair of tests, one behind a test alone, and nothing to do.
+const LIFTED: &str = "\
+pointer 4 | bind guard ptrok p bind guard tagged p store p load p | \
+    bind guard tagged p write p read p
+bind 4 | bind guard ptrok p store p load p | bind guard ptrok p write p read p
+same 1 | bind guard tagged p ret | bind guard tagged p ret";
+
 #[test]
-fn long_programs_are_lifted(rt: HostRuntime) -> Result<(), Fail> {
-    let alloc = rt.alloc();
-    for kind in ["store", "pair", "plain"] {
-        let mut left = nothing(alloc);
-        for _ in 0..1_000_000 {
-            left = match kind {
-                "store" => then(alloc, store(alloc)?, left)?,
-                "pair" => {
-                    let rest = then(alloc, is_tagged(alloc)?, left)?;
-                    then(alloc, may_point(alloc)?, rest)?
-                }
-                _ => then(alloc, is_tagged(alloc)?, left)?,
-            };
-        }
-        let (right, tree) = translate(alloc, &left)?;
-        assert!(rt; right.is_heaps(), "{kind}");
-        let wanted = if kind == "plain" { 1 } else { 1_000_001 };
-        assert!(rt; depth(&tree) == wanted, "{kind}");
+fn programs_are_lifted(rt: HostRuntime) -> Result<(), Fail> {
+    for line in LIFTED.lines() {
+        assert!(rt; is_so(rt.alloc(), line)?, "{line}");
     }
     Ok(())
 }
 
+// The depth of the rules for a program of so many parts, where it is lifted.
+fn depth_for(alloc: Global, cell: &str, count: u32) -> Result<Option<u32>, Fail> {
+    let words = repeated(alloc, cell, count)?;
+    let (right, tree) = translate(alloc, &program_of(alloc, words.as_str())?)?;
+    Ok(if right.is_heaps() {
+        Some(depth(&tree))
+    } else {
+        None
+    })
+}
+
+// Stores, pairs of tests, and what stays.
+#[test]
+fn long_programs_are_lifted(rt: HostRuntime) -> Result<(), Fail> {
+    let alloc = rt.alloc();
+    for (cell, wanted) in [
+        ("bind store p load p *ret", 1_000_001u32),
+        ("bind guard ptrok p bind guard tagged p *ret", 1_000_001),
+        ("bind guard tagged p *ret", 1),
+    ] {
+        assert!(rt;
+            depth_for(alloc, cell, 1_000_000)? == Some(wanted),
+            "{cell}"
+        );
+    }
+    Ok(())
+}
+
+// Whether a program of so many parts is lifted by rules over parts.
+fn is_lifted(alloc: Global, cell: &str, count: u32) -> Result<bool, Fail> {
+    let words = repeated(alloc, cell, count)?;
+    let (right, tree) = translate(alloc, &program_of(alloc, words.as_str())?)?;
+    Ok(right.is_heaps() && !tree.parts.is_empty())
+}
+
 #[test]
 fn deep_programs_are_lifted(rt: HostRuntime) -> Result<(), Fail> {
-    let alloc = rt.alloc();
-    for kind in ["bind", "if", "loop"] {
-        let mut left = store(alloc)?;
-        for _ in 0..4_095 {
-            let part = Box::new(alloc, left)?;
-            let last = Box::new(alloc, nothing(alloc))?;
-            left = match kind {
-                "bind" => Mon::Bind(part, Vec::new(alloc), last),
-                "if" => Mon::If(load(alloc)?, part, last),
-                _ => Mon::Loop(Vec::new(alloc), Exp::Truth(true), load(alloc)?, part),
-            };
-        }
-        let (right, tree) = translate(alloc, &left)?;
-        assert!(rt; right.is_heaps(), "{kind}");
-        assert!(rt; !tree.parts.is_empty(), "{kind}");
+    for cell in [
+        "bind *store p load p* ret",
+        "if load p *store p load p* ret",
+        "loop true load p *store p load p*",
+    ] {
+        assert!(rt; is_lifted(rt.alloc(), cell, 4_095)?, "{cell}");
     }
     Ok(())
 }
 
 #[test]
 fn deep_expressions_are_lifted(rt: HostRuntime) -> Result<(), Fail> {
-    let alloc = rt.alloc();
-    for (kind, count) in [("left", 4_096), ("right", 1_000_000), ("pointer", 4_096)] {
-        let mut e = load(alloc)?;
-        for _ in 0..count {
-            let part = Box::new(alloc, e)?;
-            e = match kind {
-                "left" => Exp::And(part, Box::new(alloc, Exp::Truth(true))?),
-                "right" => Exp::And(Box::new(alloc, Exp::Truth(true))?, part),
-                _ => Exp::Load(int(), part, Path::Here),
-            };
-        }
-        let (right, tree) = translate(alloc, &Mon::Guard(e))?;
-        assert!(rt; right.is_heaps(), "{kind}");
-        assert!(rt; !tree.parts.is_empty(), "{kind}");
+    for (cell, count) in [
+        ("*guard *and *load p* true", 4_096u32),
+        ("*guard *and true *load p", 1_000_000),
+        ("*guard *load *load p", 4_096),
+    ] {
+        assert!(rt; is_lifted(rt.alloc(), cell, count)?, "{cell}");
     }
     Ok(())
 }

@@ -25,8 +25,8 @@ fn push_cell(text: &mut String, cell: &str, count: u32) -> Result<(), AllocError
     Ok(())
 }
 
-// A row with so many parts.
-fn repeated(alloc: Global, line: &str, count: u32) -> Result<String, AllocError> {
+/// A row with so many parts.
+pub(crate) fn repeated(alloc: Global, line: &str, count: u32) -> Result<String, AllocError> {
     let mut text = String::new(alloc);
     for (k, cell) in line.split(" | ").enumerate() {
         if k > 0 {
@@ -37,10 +37,28 @@ fn repeated(alloc: Global, line: &str, count: u32) -> Result<String, AllocError>
     Ok(text)
 }
 
+// Whether the kernel of heaps says what the row does, with so many parts.
+fn is_on_heaps(alloc: Global, line: &str, count: u32) -> Result<bool, Fail> {
+    heaps::is_so(alloc, repeated(alloc, line, count)?.as_str())
+}
+
+// Whether that of numbers does.
+fn is_on_numbers(alloc: Global, line: &str, count: u32) -> Result<bool, Fail> {
+    words::is_so(alloc, repeated(alloc, line, count)?.as_str())
+}
+
 const DEEP_ON_HEAPS: &str = "\
 2bind *1guard 1tagged leaf* ret | bind *guard tagged p* ret | bind *guard tagged p* ret | ok
 3if leaf *1guard leaf* ret | if t *guard t* ret | if t *guard t* ret | ok
 3loop leaf leaf *1guard leaf* | loop true t *guard t* | loop true t *guard t* | ok";
+
+#[test]
+fn deep_programs_on_heaps(rt: HostRuntime) -> Result<(), Fail> {
+    for line in DEEP_ON_HEAPS.lines() {
+        assert!(rt; is_on_heaps(rt.alloc(), line, 4_095)?, "{line}");
+    }
+    Ok(())
+}
 
 const DEEP_ON_NUMBERS: &str = "\
 nat | 2bind_nat *1ret var* 1ret var | 1bind *1ret a* x 1ret x | 1bind *1ret a* x 1ret x | ok
@@ -48,17 +66,18 @@ nat | 3if var *1ret var* 1ret var | if t *1ret a* 1ret b | if t *1ret a* 1ret b 
 none | 3loop const var *1guard var* | loop true t *guard t* | loop true t *guard t* | ok";
 
 #[test]
-fn deep_programs(rt: HostRuntime) -> Result<(), Fail> {
-    let alloc = rt.alloc();
-    for line in DEEP_ON_HEAPS.lines() {
-        let row = repeated(alloc, line, 4_095)?;
-        assert!(rt; heaps::is_so(alloc, row.as_str())?, "{line}");
-    }
+fn deep_programs_on_numbers(rt: HostRuntime) -> Result<(), Fail> {
     for line in DEEP_ON_NUMBERS.lines() {
-        let row = repeated(alloc, line, 4_095)?;
-        assert!(rt; words::is_so(alloc, row.as_str())?, "{line}");
-        let row = repeated(alloc, line, 1_023)?;
-        assert!(rt; words::is_made(alloc, row.as_str())?, "{line}");
+        assert!(rt; is_on_numbers(rt.alloc(), line, 4_095)?, "{line}");
+    }
+    Ok(())
+}
+
+#[test]
+fn deep_programs_become_numbers(rt: HostRuntime) -> Result<(), Fail> {
+    for line in DEEP_ON_NUMBERS.lines() {
+        let row = repeated(rt.alloc(), line, 1_023)?;
+        assert!(rt; words::is_made(rt.alloc(), row.as_str())?, "{line}");
     }
     Ok(())
 }
@@ -78,14 +97,14 @@ nat | *2bind 1guard 1op 2op 1nat var 1nat var *2bind 1guard var *1ret 2add var v
 fn facts_from_far_before(rt: HostRuntime) -> Result<(), Fail> {
     let alloc = rt.alloc();
     for count in [100u32, 200, 400, 800] {
-        for line in FAR_ON_HEAPS.lines() {
-            let row = repeated(alloc, line, count)?;
-            assert!(rt; heaps::is_so(alloc, row.as_str())?, "{count}: {line}");
-        }
-        for line in FAR_ON_NUMBERS.lines() {
-            let row = repeated(alloc, line, count)?;
-            assert!(rt; words::is_so(alloc, row.as_str())?, "{count}: {line}");
-        }
+        assert!(rt;
+            is_on_heaps(alloc, FAR_ON_HEAPS, count)?,
+            "{count} on heaps"
+        );
+        assert!(rt;
+            is_on_numbers(alloc, FAR_ON_NUMBERS, count)?,
+            "{count} on numbers"
+        );
     }
     Ok(())
 }

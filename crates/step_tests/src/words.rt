@@ -17,47 +17,54 @@ use test_programs::{int, program_of};
 use test_tables::{Row, Rules, is_remark, tree};
 use word_abstract::{FunctionKinds, translate};
 
-// The kinds of a name, of 32 bits.
-fn kinds(alloc: Global, kind: Kind) -> Result<Vec<Kind>, AllocError> {
+// The kind of a word, or nothing; of 32 bits where the word doesn't say.
+fn given(word: &str) -> Result<Option<Kind>, Fail> {
+    Ok(match word {
+        "none" => None,
+        "nat" => Some(Kind::Nat(32)),
+        "int" => Some(Kind::Int(32)),
+        "word" => Some(Kind::Word(32)),
+        "bool" => Some(Kind::Bool),
+        "nat64" => Some(Kind::Nat(64)),
+        "int64" => Some(Kind::Int(64)),
+        _ => return Err(Fail::from("no such kind")),
+    })
+}
+
+// The kinds of words with `_` between them.
+fn kinds(alloc: Global, words: &str) -> Result<Vec<Kind>, Fail> {
     let mut kinds = Vec::new(alloc);
-    kinds.push(kind)?;
+    for word in words.split('_') {
+        if let Some(kind) = given(word)? {
+            kinds.push(kind)?;
+        }
+    }
     Ok(kinds)
 }
 
-// The rule of a name, where it is one of programs.
-fn program_rule(alloc: Global, name: &str) -> Result<Option<Rule>, Fail> {
-    Ok(Some(match name {
+// The rule of a name, where it has kinds: `bind_nat_bool` has two, and `bind` none.
+fn rule_with_kinds(alloc: Global, name: &str) -> Result<Option<Rule>, Fail> {
+    let (head, words) = name.split_once('_').unwrap_or((name, "none"));
+    Ok(match head {
+        "bind" => Some(Rule::Bind(kinds(alloc, words)?)),
+        "loop" => Some(Rule::Loop(kinds(alloc, words)?)),
+        "recast" => Some(Rule::Recast(kinds(alloc, words)?)),
+        _ => None,
+    })
+}
+
+// The rule of a name, where it has no list of kinds.
+fn plain_rule(name: &str) -> Option<Rule> {
+    Some(match name {
         "ret" => Rule::Ret,
         "guard" => Rule::Guard,
         "if" => Rule::If,
         "global" => Rule::Global,
         "pick" => Rule::Pick,
         "write" => Rule::Write,
-        "bind" => Rule::Bind(Vec::new(alloc)),
-        "bind_nat" => Rule::Bind(kinds(alloc, Kind::Nat(32))?),
-        "bind_nat_bool" => {
-            let mut kinds = kinds(alloc, Kind::Nat(32))?;
-            kinds.push(Kind::Bool)?;
-            Rule::Bind(kinds)
-        }
-        "bind_int" => Rule::Bind(kinds(alloc, Kind::Int(32))?),
-        "bind_word" => Rule::Bind(kinds(alloc, Kind::Word(32))?),
-        "loop" => Rule::Loop(Vec::new(alloc)),
-        "loop_nat" => Rule::Loop(kinds(alloc, Kind::Nat(32))?),
-        "loop_int" => Rule::Loop(kinds(alloc, Kind::Int(32))?),
         "call" => Rule::Call,
         "pick_nat" => Rule::PickNat,
         "pick_int" => Rule::PickInt,
-        "recast_nat" => Rule::Recast(kinds(alloc, Kind::Nat(32))?),
-        "recast_int" => Rule::Recast(kinds(alloc, Kind::Int(32))?),
-        "recast_word" => Rule::Recast(kinds(alloc, Kind::Word(32))?),
-        _ => return Ok(None),
-    }))
-}
-
-// The rule of a name, of expressions.
-fn expression_rule(name: &str) -> Result<Rule, Fail> {
-    Ok(match name {
         "var" => Rule::Var,
         "const" => Rule::Const,
         "nat" => Rule::Nat,
@@ -84,7 +91,7 @@ fn expression_rule(name: &str) -> Result<Rule, Fail> {
         "logic" => Rule::Logic,
         "cond" => Rule::Cond,
         "op" => Rule::Op,
-        _ => return Err(Fail::from("no such rule")),
+        _ => return None,
     })
 }
 
@@ -95,79 +102,61 @@ impl Rules for WordRules {
     type Rule = Rule;
 
     fn named(alloc: Global, name: &str) -> Result<Rule, Fail> {
-        match program_rule(alloc, name)? {
+        match rule_with_kinds(alloc, name)? {
             Some(rule) => Ok(rule),
-            None => expression_rule(name),
+            None => Ok(plain_rule(name).ok_or("no such rule")?),
         }
     }
 }
 
-// What a function gives.
-fn given(name: &str) -> Result<Option<Kind>, Fail> {
-    Ok(match name {
-        "none" => None,
-        "nat" => Some(Kind::Nat(32)),
-        "int" => Some(Kind::Int(32)),
-        "word" => Some(Kind::Word(32)),
-        "bool" => Some(Kind::Bool),
-        "nat64" => Some(Kind::Nat(64)),
-        "int64" => Some(Kind::Int(64)),
-        _ => return Err(Fail::from("no such kind")),
-    })
-}
-
-fn binder(alloc: Global, name: &str, kind: Kind) -> Result<Binder, AllocError> {
-    Ok(Binder {
-        name: String::from_str(alloc, name)?,
-        kind,
-    })
-}
-
-fn signature(alloc: Global, given: Option<Kind>) -> Result<Signature, AllocError> {
-    let mut params = Vec::new(alloc);
-    for (name, kind) in [
-        ("a", Kind::Nat(32)),
-        ("b", Kind::Nat(32)),
-        ("i", Kind::Int(32)),
-        ("j", Kind::Int(32)),
-        ("p", Kind::Word(32)),
-        ("q", Kind::Word(32)),
-        ("t", Kind::Bool),
-    ] {
-        params.push(binder(alloc, name, kind)?)?;
+// Names with their kinds, as `a:nat`.
+fn binders(alloc: Global, words: &str) -> Result<Vec<Binder>, Fail> {
+    let mut binders = Vec::new(alloc);
+    for word in words.split(' ') {
+        let (name, kind) = word.split_once(':').ok_or("a name has no kind")?;
+        let kind = given(kind)?.ok_or("a name has no kind")?;
+        let name = String::from_str(alloc, name)?;
+        binders.push(Binder { name, kind })?;
     }
+    Ok(binders)
+}
+
+fn signature(alloc: Global, name: &str, params: &str, gives: &str) -> Result<Signature, Fail> {
+    let result = given(gives)?;
+    let params = binders(alloc, params)?;
+    let name = String::from_str(alloc, name)?;
     Ok(Signature {
-        name: String::from_str(alloc, "h")?,
+        name,
         level: Level::Numbers,
         params,
-        result: given,
+        result,
     })
 }
 
-// The function that may be called.
-fn called(alloc: Global) -> Result<Signature, AllocError> {
-    let mut params = Vec::new(alloc);
-    params.push(binder(alloc, "x", Kind::Nat(32))?)?;
-    Ok(Signature {
-        name: String::from_str(alloc, "f")?,
-        level: Level::Numbers,
-        params,
-        result: Some(Kind::Nat(32)),
-    })
+// The function, which gives this.
+fn function(alloc: Global, gives: &str) -> Result<Signature, Fail> {
+    signature(
+        alloc,
+        "h",
+        "a:nat b:nat i:int j:int p:word q:word t:bool",
+        gives,
+    )
 }
 
 // The unit: a global `g`, and what may be called.
 fn unit(alloc: Global) -> Result<SimplUnit, Fail> {
     let mut globals = Vec::new(alloc);
+    let name = String::from_str(alloc, "g")?;
     globals.push(GlobalVar {
-        name: String::from_str(alloc, "g")?,
+        name,
         ty: int(),
         initial: Value::Word(Word::new(32, 0)),
     })?;
     let mut signatures = Vec::new(alloc);
-    signatures.push(called(alloc)?)?;
+    signatures.push(signature(alloc, "f", "x:nat", "nat")?)?;
+    let layout = Layout::build(Target::Ilp32, Vec::new(alloc))?;
     Ok(SimplUnit {
-        layout: Layout::build(Target::Ilp32, Vec::new(alloc))?,
+        layout,
         globals,
         functions: Vec::new(alloc),
         signatures,
@@ -182,48 +171,60 @@ fn verdict(
     t: &Tree<Rule>,
     left: &Mon,
     right: &Mon,
-) -> Result<Result<(), At>, Fail> {
+) -> Option<Result<(), At>> {
     if !gives_on_words(u, s, left) || !are_kinds(&s.params) || !are_results(&u.signatures) {
-        return Err(Fail::from("the left side is not well-sorted"));
+        return None;
     }
-    Ok(check_words(u, s, level, left, right, t))
+    Some(check_words(u, s, level, left, right, t))
 }
 
-// Whether the kernel says of a function of the kind what a row does, at the level of words, or at
-// that of bytes where nothing else will do.
-fn agrees(alloc: Global, kind: &str, row: &Row<'_>) -> Result<bool, Fail> {
-    let u = unit(alloc)?;
-    let s = signature(alloc, given(kind)?)?;
-    let t = tree::<WordRules>(alloc, row.rules)?;
-    let left = program_of(alloc, row.left)?;
-    let right = program_of(alloc, row.right)?;
-    let level = if right.is_heaps() {
+// The level of a program: of words, or of bytes where nothing else will do.
+fn level_of(m: &Mon) -> Level {
+    if m.is_heaps() {
         Level::Words
     } else {
         Level::Bytes
-    };
-    Ok(row.says(verdict(&u, &s, level, &t, &left, &right)?))
+    }
 }
 
-/// The same of a line.
-pub(crate) fn is_so(alloc: Global, line: &str) -> Result<bool, Fail> {
+// Whether the kernel says what a row does, at a level or at that of the right side.
+fn agrees(alloc: Global, s: &Signature, row: &Row<'_>, level: Option<Level>) -> Result<bool, Fail> {
+    let t = tree::<WordRules>(alloc, row.rules)?;
+    let left = program_of(alloc, row.left)?;
+    let right = program_of(alloc, row.right)?;
+    let level = level.unwrap_or(level_of(&right));
+    let u = unit(alloc)?;
+    match verdict(&u, s, level, &t, &left, &right) {
+        Some(found) => Ok(row.says(found)),
+        None => Ok(false),
+    }
+}
+
+// The same of a line, in front of which stands what the function gives.
+fn is_so_at(alloc: Global, line: &str, level: Option<Level>) -> Result<bool, Fail> {
     match line.split_once(" | ") {
-        Some((kind, cells)) => agrees(alloc, kind, &Row::read(cells)?),
+        Some((gives, cells)) => {
+            let row = Row::read(cells)?;
+            agrees(alloc, &function(alloc, gives)?, &row, level)
+        }
         None => Ok(is_remark(line)),
     }
 }
 
-/// Whether the left side of a row becomes its right side at the level of words, by rules that the
-/// kernel accepts. The names `x` and `y` are natural numbers.
-pub(crate) fn is_made(alloc: Global, line: &str) -> Result<bool, Fail> {
-    let (kind, cells) = line.split_once(" | ").ok_or("no kind")?;
-    let row = Row::read(cells)?;
-    let u = unit(alloc)?;
-    let s = signature(alloc, given(kind)?)?;
-    let mut locals = Vec::new(alloc);
-    for name in ["x", "y"] {
-        locals.push(binder(alloc, name, Kind::Nat(32))?)?;
-    }
+/// Whether the kernel says of a function what the row of a line does.
+pub(crate) fn is_so(alloc: Global, line: &str) -> Result<bool, Fail> {
+    is_so_at(alloc, line, None)
+}
+
+// What a program becomes at the level of words, and by which rules. The names `x` and `y` are
+// natural numbers.
+fn made(
+    alloc: Global,
+    u: &SimplUnit,
+    s: &Signature,
+    left: &Mon,
+) -> Result<(Box<Mon>, Tree<Rule>), Fail> {
+    let locals = binders(alloc, "x:nat y:nat")?;
     let context = Context {
         layout: &u.layout,
         globals: &u.globals,
@@ -234,11 +235,27 @@ pub(crate) fn is_made(alloc: Global, line: &str) -> Result<bool, Fail> {
         result: s.result,
         locals: &locals,
     };
+    Ok(translate(alloc, left, Level::Words, context, kinds)?)
+}
+
+// Whether it becomes the right side, by rules that the kernel accepts.
+fn is_made_as(alloc: Global, s: &Signature, left: &Mon, right: &Mon) -> Result<bool, Fail> {
+    let u = unit(alloc)?;
+    let (found, tree) = made(alloc, &u, s, left)?;
+    let accepted = matches!(
+        verdict(&u, s, Level::Words, &tree, left, &found),
+        Some(Ok(()))
+    );
+    Ok(accepted && found.same(right))
+}
+
+/// The same of a line.
+pub(crate) fn is_made(alloc: Global, line: &str) -> Result<bool, Fail> {
+    let (gives, cells) = line.split_once(" | ").ok_or("no kind")?;
+    let row = Row::read(cells)?;
     let left = program_of(alloc, row.left)?;
-    let wanted = program_of(alloc, row.right)?;
-    let (right, tree) = translate(alloc, &left, Level::Words, context, kinds)?;
-    let found = verdict(&u, &s, Level::Words, &tree, &left, &right)?;
-    Ok(right.same(&wanted) && found.is_ok())
+    let right = program_of(alloc, row.right)?;
+    is_made_as(alloc, &function(alloc, gives)?, &left, &right)
 }
 
 const EXPRESSIONS: &str = "\
@@ -459,13 +476,14 @@ fn programs_that_are_no_instances(rt: HostRuntime) -> Result<(), Fail> {
 // Where words are to be numbers, no operation on words may stay, even as a number.
 #[test]
 fn no_sum_of_words_stays_among_numbers(rt: HostRuntime) -> Result<(), Fail> {
-    let alloc = rt.alloc();
-    let u = unit(alloc)?;
-    let s = signature(alloc, Some(Kind::Nat(32)))?;
-    let t = tree::<WordRules>(alloc, "1ret 1unat 2op 1word_nat var 1word_nat var")?;
-    let left = program_of(alloc, "1ret wadd a b")?;
-    let right = program_of(alloc, "1ret nat wadd word a word b")?;
-    assert!(rt; verdict(&u, &s, Level::Words, &t, &left, &right)?.is_ok());
-    assert!(rt; verdict(&u, &s, Level::Numbers, &t, &left, &right)? == Err(At(0)));
+    let row = "nat | 1ret 1unat 2op 1word_nat var 1word_nat var | 1ret wadd a b | \
+        1ret nat wadd word a word b | ";
+    for (level, answer) in [(Level::Words, "ok"), (Level::Numbers, "0")] {
+        let line = format!(in rt.alloc(); "{row}{answer}")?;
+        assert!(rt;
+            is_so_at(rt.alloc(), line.as_str(), Some(level))?,
+            "{answer}"
+        );
+    }
     Ok(())
 }
