@@ -6,5 +6,3 @@
 mod certificates;
 #[cfg(test)]
 mod rules;
-#[cfg(test)]
-mod trees;
