@@ -8,52 +8,51 @@ use crate::arguments::takes;
 use crate::units::{chain, nested, unit_of};
 use ac_interp::{AOutcome, Ran, run_abstract};
 use c_memory::ByteHeap;
-use c_values::{Layout, Number, NumberOp, Value, Word};
-use expression_lang::{Kind, Level};
+use c_values::{Layout, Number, Value, Word};
+use expression_lang::Level;
 use monad_lang::FinalUnit;
 use monad_sorts::is_well_formed;
-use std::alloc::Global;
+use std::alloc::{AllocError, Global};
 use std::test::Fail;
-use test_programs::program_of;
+use test_texts::program;
 
-const WORD: Kind = Kind::Word(32);
-
-const NAT: Kind = Kind::Nat(32);
-
-/// How a run ends.
-#[derive(Clone, Copy, Debug, PartialEq, Eq)]
-enum End {
-    Nothing,
-    Word(u64),
-    Number(Number),
-    Truth(bool),
-    Parts,
-    Fails,
-    Wide(NumberOp, Number, Number),
-    OutOfTurns,
-    Deep,
-    Memory,
+// A value as rows have it.
+fn shown_value(alloc: Global, value: &Value) -> Result<String, AllocError> {
+    match value {
+        Value::Word(word) => format!(in alloc; "word {}", word.bits()),
+        Value::Number(number) => format!(in alloc; "number {}", shown_number(alloc, *number)?),
+        Value::Truth(truth) => format!(in alloc; "{truth}"),
+        Value::Parts(_) => String::from_str(alloc, "parts"),
+    }
 }
 
-/// The same, with the heap that it runs on.
-#[derive(Clone, Copy, Debug, PartialEq, Eq)]
-enum On {
-    Typed(End),
-    Bytes(End),
+// A number as rows have it.
+fn shown_number(alloc: Global, number: Number) -> Result<String, AllocError> {
+    let sign = if number.negative() { "-" } else { "" };
+    format!(in alloc; "{sign}{}", number.magnitude())
 }
 
-fn end_of<H>(outcome: &AOutcome<H>) -> End {
+// How a run ends.
+fn shown_end<H>(alloc: Global, outcome: &AOutcome<H>) -> Result<String, AllocError> {
     match outcome {
-        AOutcome::Value(None, _, _) => End::Nothing,
-        AOutcome::Value(Some(Value::Word(word)), _, _) => End::Word(word.bits()),
-        AOutcome::Value(Some(Value::Number(number)), _, _) => End::Number(*number),
-        AOutcome::Value(Some(Value::Truth(truth)), _, _) => End::Truth(*truth),
-        AOutcome::Value(Some(Value::Parts(_)), _, _) => End::Parts,
-        AOutcome::Fails => End::Fails,
-        AOutcome::Wide(op, a, b) => End::Wide(*op, *a, *b),
-        AOutcome::OutOfTurns => End::OutOfTurns,
-        AOutcome::Deep => End::Deep,
-        AOutcome::Memory => End::Memory,
+        AOutcome::Value(None, _, _) => String::from_str(alloc, "nothing"),
+        AOutcome::Value(Some(value), _, _) => shown_value(alloc, value),
+        AOutcome::Fails => String::from_str(alloc, "fails"),
+        AOutcome::Wide(op, a, b) => {
+            let a = shown_number(alloc, *a)?;
+            format!(in alloc; "{op:?} {a} {}", shown_number(alloc, *b)?)
+        }
+        AOutcome::OutOfTurns => String::from_str(alloc, "out of turns"),
+        AOutcome::Deep => String::from_str(alloc, "deep"),
+        AOutcome::Memory => String::from_str(alloc, "no memory"),
+    }
+}
+
+// The same, with the heap that it runs on.
+fn shown(alloc: Global, ran: &Ran) -> Result<String, AllocError> {
+    match ran {
+        Ran::Typed(outcome) => format!(in alloc; "typed, {}", shown_end(alloc, outcome)?),
+        Ran::Bytes(outcome) => format!(in alloc; "bytes, {}", shown_end(alloc, outcome)?),
     }
 }
 
@@ -67,131 +66,113 @@ fn memory(alloc: Global, l: &Layout) -> Result<ByteHeap, Fail>
     Ok(ByteHeap::new(alloc, l, &bytes, &[])?)
 }
 
-// How the first function of a unit without globals ends.
-fn run(alloc: Global, u: &FinalUnit, argument: Value, turns: u32) -> Result<On, Fail> {
+// A run of the first function of a unit without globals.
+fn run(alloc: Global, u: &FinalUnit, argument: Value, turns: u32) -> Result<Ran, Fail> {
     let memory = memory(alloc, &u.layout)?;
     let arguments = vec![in alloc; argument]?;
     if !is_well_formed(u) || !takes(u, 0, &arguments) || !u.globals.is_empty() {
         return Err(Fail::from("it can't be run"));
     }
     let globals = Vec::new(alloc);
-    match run_abstract(alloc, u, 0, &arguments, &memory, globals, turns, 7) {
-        Ran::Typed(outcome) => Ok(On::Typed(end_of(&outcome))),
-        Ran::Bytes(outcome) => Ok(On::Bytes(end_of(&outcome))),
+    Ok(run_abstract(alloc, u, 0, &arguments, &memory, globals, turns, 7))
+}
+
+// How it ends.
+fn end(alloc: Global, u: &FinalUnit, argument: Value, turns: u32) -> Result<String, Fail> {
+    let ran = run(alloc, u, argument, turns)?;
+    Ok(shown(alloc, &ran)?)
+}
+
+// Functions at their levels, the argument `p`, how many turns they have, and how they end. The last
+// two are eighth powers; the number that can't be squared is 2^32 - 1 to the fourth power.
+const ROWS: &str = "\
+words | (ret (read int p)) | 4096 | 0 | typed, word 0
+bytes | (ret (load int p)) | 4096 | 0 | bytes, word 5
+bytes | (do () (store int p () (w 32 1)) (ret (load int p))) | 4096 | 0 | bytes, word 1
+words | (do () (write int p () (w 32 1)) (ret (read int p))) | 4096 | 0 | typed, word 0
+words | (do () (guard (wult p (w 32 1))) (ret p)) | 1 | 0 | typed, fails
+words | (if (wult p (w 32 1)) (pick (w 32)) (ret p)) | 0 | 0 | typed, word 7
+words | (loop ((i p)) #t (wult i (w 32 7)) (ret (wadd i (w 32 1)))) | 4 | 3 | typed, word 7
+words | (loop ((i p)) #t (wult i (w 32 7)) (ret (wadd i (w 32 1)))) | 4 | 2 | typed, out of turns
+words | (call f p) | 0 | 256 | typed, out of turns
+words | (call f p) | 0 | 257 | typed, deep
+numbers | (do (x) (ret (mul p p)) (y) (ret (mul x x)) (ret (mul y y))) | 10 | 0 | typed, number 100000000
+numbers | (do (x) (ret (mul p p)) (y) (ret (mul x x)) (ret (mul y y))) | 4294967295 | 0 | typed, Mul 340282366604025813516997721482669850625 340282366604025813516997721482669850625";
+
+// The level of a word.
+fn level_of(word: &str) -> Result<Level, Fail> {
+    match word {
+        "bytes" => Ok(Level::Bytes),
+        "words" => Ok(Level::Words),
+        "numbers" => Ok(Level::Numbers),
+        _ => Err(Fail::from("no level")),
     }
 }
 
+// The value of 32 bits.
 fn word(bits: u32) -> Value {
     Value::Word(Word::new(32, u64::from(bits)))
 }
 
-fn number(number: u128) -> Number {
-    Number::new(false, number)
+// The value of a number at a level.
+fn value_at(level: Level, number: u32) -> Value {
+    match level {
+        Level::Bytes | Level::Words => word(number),
+        Level::Numbers => Value::Number(Number::new(false, u128::from(number))),
+    }
+}
+
+// The number of a cell.
+fn number(word: &str) -> Result<u32, Fail> {
+    Ok(word.parse::<u32>().ok().ok_or("no number")?)
+}
+
+// How the function of a row ends.
+fn end_of_row(alloc: Global, row: &str) -> Result<String, Fail> {
+    let mut cells = row.split(" | ");
+    let (Some(level), Some(text), Some(argument), Some(turns)) = (
+        cells.next(),
+        cells.next(),
+        cells.next(),
+        cells.next(),
+    ) else {
+        return Err(Fail::from("too few cells"));
+    };
+    let level = level_of(level)?;
+    let (argument, turns) = (number(argument)?, number(turns)?);
+    let u = unit_of(alloc, level, program(alloc, text)?)?;
+    end(alloc, &u, value_at(level, argument), turns)
 }
 
 #[test]
 fn one_function(rt: HostRuntime) -> Result<(), Fail> {
-    let alloc = rt.alloc();
-    let to_seven = "1loop i p true wult i seven 1ret wadd i one";
-    for (level, words, argument, turns, expected) in [
-        (
-            Level::Words,
-            "1ret read p",
-            4096,
-            0,
-            On::Typed(End::Word(0)),
-        ),
-        (
-            Level::Bytes,
-            "1ret load p",
-            4096,
-            0,
-            On::Bytes(End::Word(5)),
-        ),
-        (
-            Level::Bytes,
-            "0bind store p one 1ret load p",
-            4096,
-            0,
-            On::Bytes(End::Word(1)),
-        ),
-        (
-            Level::Words,
-            "0bind write p one 1ret read p",
-            4096,
-            0,
-            On::Typed(End::Word(0)),
-        ),
-        (
-            Level::Words,
-            "0bind guard wult p one 1ret p",
-            1,
-            0,
-            On::Typed(End::Fails),
-        ),
-        (
-            Level::Words,
-            "if wult p one pick 1ret p",
-            0,
-            0,
-            On::Typed(End::Word(7)),
-        ),
-        (Level::Words, to_seven, 4, 3, On::Typed(End::Word(7))),
-        (Level::Words, to_seven, 4, 2, On::Typed(End::OutOfTurns)),
-        (
-            Level::Words,
-            "1call f p",
-            0,
-            256,
-            On::Typed(End::OutOfTurns),
-        ),
-        (Level::Words, "1call f p", 0, 257, On::Typed(End::Deep)),
-    ] {
-        let u = unit_of(alloc, level, WORD, program_of(alloc, words)?)?;
+    for row in ROWS.lines() {
+        let found = end_of_row(rt.alloc(), row)?;
         assert!(rt;
-            run(alloc, &u, word(argument), turns)? == expected,
-            "{words}"
+            row.rsplit(" | ").next() == Some(found.as_str()),
+            "{found}: {row}"
         );
     }
     Ok(())
 }
 
 #[test]
-fn a_wide_product(rt: HostRuntime) -> Result<(), Fail> {
-    let alloc = rt.alloc();
-    let squares = "1bind 1ret mul p p x 1bind 1ret mul x x y 1ret mul y y";
-    let u = unit_of(alloc, Level::Numbers, NAT, program_of(alloc, squares)?)?;
-    let small = Value::Number(number(10));
-    assert!(rt; run(alloc, &u, small, 0)? == On::Typed(End::Number(number(100_000_000))));
-    // It is 2^32 - 1, to the fourth power.
-    let fourth = number(340_282_366_604_025_813_516_997_721_482_669_850_625);
-    let large = Value::Number(number(4_294_967_295));
-    let expected = On::Typed(End::Wide(NumberOp::Mul, fourth, fourth));
-    assert!(rt; run(alloc, &u, large, 0)? == expected);
-    Ok(())
-}
-
-#[test]
 fn chains_of_calls(rt: HostRuntime) -> Result<(), Fail> {
-    let alloc = rt.alloc();
-    for (count, expected) in [(257, End::Word(3)), (258, End::Deep)] {
-        let u = chain(alloc, count)?;
-        assert!(rt; run(alloc, &u, word(3), 300)? == On::Typed(expected));
+    for (count, expected) in [(257, "typed, word 3"), (258, "typed, deep")] {
+        let u = chain(rt.alloc(), count)?;
+        let found = end(rt.alloc(), &u, word(3), 300)?;
+        assert!(rt; found.as_str() == expected, "{found}: {count}");
     }
     Ok(())
 }
 
 #[test]
 fn deep_programs(rt: HostRuntime) -> Result<(), Fail> {
-    let alloc = rt.alloc();
     for to_the_left in [true, false] {
-        let u = unit_of(
-            alloc,
-            Level::Words,
-            WORD,
-            nested(alloc, 4_096, to_the_left)?,
-        )?;
-        assert!(rt; run(alloc, &u, word(0), 0)? == On::Typed(End::Word(7)));
+        let program = nested(rt.alloc(), 4_096, to_the_left)?;
+        let u = unit_of(rt.alloc(), Level::Words, program)?;
+        let found = end(rt.alloc(), &u, word(0), 0)?;
+        assert!(rt; found.as_str() == "typed, word 7", "{found}: {to_the_left}");
     }
     Ok(())
 }

@@ -1,35 +1,33 @@
 //! Units made by hand.
 
-use c_values::{Layout, Target, Word};
-use expression_lang::{Binder, Exp, Kind, Level};
+use c_values::{Layout, Target};
+use expression_lang::{Binder, Kind, Level};
 use monad_lang::{FinalFn, FinalUnit, Mon};
 use std::alloc::{AllocError, Global};
 use std::test::Fail;
+use test_texts::program;
 
-/// A unit of these functions.
-pub(crate) fn unit(alloc: Global, functions: Vec<FinalFn>) -> Result<FinalUnit, Fail> {
-    Ok(FinalUnit {
-        layout: Layout::build(Target::Ilp32, Vec::new(alloc))?,
-        globals: Vec::new(alloc),
-        functions,
-    })
+// What functions of a level take and give.
+fn kind_at(level: Level) -> Kind {
+    match level {
+        Level::Bytes | Level::Words => Kind::Word(32),
+        Level::Numbers => Kind::Nat(32),
+    }
 }
 
-/// A function that takes `p` and gives a value of its kind.
-pub(crate) fn function(
-    alloc: Global,
-    name: String,
-    level: Level,
-    kind: Kind,
-    body: Mon,
-) -> Result<FinalFn, AllocError> {
-    let mut params = Vec::new(alloc);
-    params.push(Binder {
-        name: String::from_str(alloc, "p")?,
-        kind,
-    })?;
-    let mut results = Vec::new(alloc);
-    results.push(kind)?;
+// The parameter `p`, of a kind.
+fn parameter(alloc: Global, kind: Kind) -> Result<Vec<Binder>, AllocError> {
+    let name = String::from_str(alloc, "p")?;
+    let mut parameters = Vec::new(alloc);
+    parameters.push(Binder { name, kind })?;
+    Ok(parameters)
+}
+
+// A function that takes `p` and gives a value of its kind.
+fn function(alloc: Global, name: String, level: Level, body: Mon) -> Result<FinalFn, AllocError> {
+    let kind = kind_at(level);
+    let results = vec![in alloc; kind]?;
+    let params = parameter(alloc, kind)?;
     Ok(FinalFn {
         name,
         level,
@@ -39,63 +37,67 @@ pub(crate) fn function(
     })
 }
 
-/// The unit of one function `f`.
-pub(crate) fn unit_of(
-    alloc: Global,
-    level: Level,
-    kind: Kind,
-    body: Mon,
-) -> Result<FinalUnit, Fail> {
-    let mut functions = Vec::new(alloc);
-    let name = String::from_str(alloc, "f")?;
-    functions.push(function(alloc, name, level, kind, body)?)?;
-    unit(alloc, functions)
+// A unit of these functions.
+fn unit(alloc: Global, functions: Vec<FinalFn>) -> Result<FinalUnit, Fail> {
+    let layout = Layout::build(Target::Ilp32, Vec::new(alloc))?;
+    Ok(FinalUnit {
+        layout,
+        globals: Vec::new(alloc),
+        functions,
+    })
 }
 
-// A variable.
-fn variable(alloc: Global, name: &str) -> Result<Exp, AllocError> {
-    Ok(Exp::Var(String::from_str(alloc, name)?))
+/// The unit of one function `f`.
+pub(crate) fn unit_of(alloc: Global, level: Level, body: Mon) -> Result<FinalUnit, Fail> {
+    let name = String::from_str(alloc, "f")?;
+    let f = function(alloc, name, level, body)?;
+    unit(alloc, vec![in alloc; f]?)
+}
+
+// The function at a place in a chain of so many.
+fn link(alloc: Global, k: u32, count: u32) -> Result<FinalFn, Fail> {
+    let text = if k < count {
+        format!(in alloc; "(call f{} p)", u64::from(k) + 1)?
+    } else {
+        String::from_str(alloc, "(ret p)")?
+    };
+    let body = program(alloc, text.as_str())?;
+    let name = format!(in alloc; "f{k}")?;
+    Ok(function(alloc, name, Level::Words, body)?)
 }
 
 /// A unit of so many functions, of which each calls the next and the last gives what it is given.
 pub(crate) fn chain(alloc: Global, count: u32) -> Result<FinalUnit, Fail> {
-    let kind = Kind::Word(32);
     let mut functions = Vec::new(alloc);
     for k in 1..=count {
-        let mut values = Vec::new(alloc);
-        values.push(variable(alloc, "p")?)?;
-        let body = if k < count {
-            Mon::Call(format!(in alloc; "f{}", u64::from(k) + 1)?, values)
-        } else {
-            Mon::Ret(values)
-        };
-        let name = format!(in alloc; "f{k}")?;
-        functions.push(function(alloc, name, Level::Words, kind, body)?)?;
+        functions.push(link(alloc, k, count)?)?;
     }
     unit(alloc, functions)
 }
 
 // A program that gives 7.
-fn seven(alloc: Global) -> Result<Box<Mon>, AllocError> {
-    let mut values = Vec::new(alloc);
-    values.push(Exp::Word(Word::new(32, 7)))?;
-    Ok(Box::new(alloc, Mon::Ret(values))?)
+fn seven(alloc: Global) -> Result<Box<Mon>, Fail> {
+    Ok(Box::new(alloc, program(alloc, "(ret (w 32 7))")?)?)
+}
+
+// A program, its value under the name `x`, and another one.
+fn bound(alloc: Global, first: Box<Mon>, last: Box<Mon>) -> Result<Box<Mon>, AllocError> {
+    let x = String::from_str(alloc, "x")?;
+    let names = vec![in alloc; x]?;
+    Ok(Box::new(alloc, Mon::Bind(first, names, last))?)
 }
 
 /// Programs that give 7, so many in turn under the name `x`, each in the one that is next to the
-/// left or to the right.
-pub(crate) fn nested(alloc: Global, count: u32, to_the_left: bool) -> Result<Mon, AllocError> {
+/// left or to the right. They are deeper than texts come.
+pub(crate) fn nested(alloc: Global, count: u32, to_the_left: bool) -> Result<Mon, Fail> {
     let mut program = seven(alloc)?;
     for _ in 0..count {
-        let mut names = Vec::new(alloc);
-        names.push(String::from_str(alloc, "x")?)?;
         let other = seven(alloc)?;
-        let both = if to_the_left {
-            Mon::Bind(program, names, other)
+        program = if to_the_left {
+            bound(alloc, program, other)?
         } else {
-            Mon::Bind(other, names, program)
+            bound(alloc, other, program)?
         };
-        program = Box::new(alloc, both)?;
     }
     Ok(Box::into_inner(program))
 }
