@@ -79,14 +79,18 @@ fn usual_conversions(rt: HostRuntime) {
     }
 }
 
+// Numbers without suffixes.
 #[test]
 fn numbers(rt: HostRuntime) {
-    let long = number_type(Target::Lp64, 2_147_483_648, true, false, 0);
-    assert!(rt; long == Some(IntType::Long));
-    let llong = number_type(Target::Ilp32, 2_147_483_648, true, false, 0);
-    assert!(rt; llong == Some(IntType::LLong));
-    let uint = number_type(Target::Ilp32, 2_147_483_648, false, false, 0);
-    assert!(rt; uint == Some(IntType::UInt));
-    let none = number_type(Target::Lp64, 9_223_372_036_854_775_808, true, false, 0);
-    assert!(rt; none == None);
+    for (target, value, is_decimal, expected) in [
+        (Target::Lp64, 2_147_483_648, true, Some(IntType::Long)),
+        (Target::Ilp32, 2_147_483_648, true, Some(IntType::LLong)),
+        (Target::Ilp32, 2_147_483_648, false, Some(IntType::UInt)),
+        (Target::Lp64, 9_223_372_036_854_775_808, true, None),
+    ] {
+        assert!(rt;
+            number_type(target, value, is_decimal, false, 0) == expected,
+            "{value}"
+        );
+    }
 }

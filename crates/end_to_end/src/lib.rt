@@ -4,6 +4,8 @@
 #[cfg(test)]
 mod answer_rows;
 #[cfg(test)]
+mod calls;
+#[cfg(test)]
 mod checks;
 #[cfg(test)]
 mod conversions;

@@ -2,9 +2,10 @@
 
 ghost use Rattle.std.specs.Prelude.{Some};
 
-use crate::checks::{SOUND, run};
-use ac_base::{Failed, MemoryShelf, MemorySink, Progress, Sink, Work};
-use ac_core::{Status, autocorres};
+use crate::calls::{Files, told};
+use crate::checks::written;
+use ac_base::{Failed, MemorySink, Progress, Sink, Work};
+use ac_core::Status;
 use std::alloc::{AllocError, Global};
 use std::cell::Cell;
 use std::test::Fail;
@@ -25,14 +26,22 @@ struct Told {
 
 impl Told {
     fn new(alloc: Global) -> Result<Told, AllocError> {
-        let failing = Vec::new(alloc);
+        let room = MemorySink::new(alloc, 16_384, Vec::new(alloc))?;
         Ok(Told {
-            room: MemorySink::new(alloc, 16_384, failing)?,
+            room,
             translated: Cell::new(0),
             checked: Cell::new(0),
             over: Cell::new(0),
             out_of_turn: Cell::new(false),
         })
+    }
+
+    // Whether all was told in its turn, of so many functions translated and checked.
+    fn is(&self, translated: usize, checked: usize) -> bool {
+        self.translated.get() == translated
+            && self.checked.get() == checked
+            && self.over.get() == 1
+            && !self.out_of_turn.get()
     }
 }
 
@@ -63,41 +72,23 @@ impl Sink for Told {
     }
 }
 
-// How many functions are told translated and checked where a command is done.
-fn counted(
+// Whether a command is done, and tells so many functions translated and checked.
+fn tells(
     alloc: Global,
     words: &str,
     certificate: &[u8],
-) -> Result<Option<(usize, usize)>, AllocError> {
-    let mut files = Vec::new(alloc);
-    files.push((
-        String::from_str(alloc, "a.c")?,
-        Vec::from_slice(alloc, TEXT.as_bytes())?,
-    ))?;
-    files.push((
-        String::from_str(alloc, "c.cert")?,
-        Vec::from_slice(alloc, certificate)?,
-    ))?;
-    let mut shelf = MemoryShelf::new(files, Vec::new(alloc));
+    counts: (usize, usize),
+) -> Result<bool, AllocError> {
+    let files = Files::of(TEXT.as_bytes()).with(certificate);
     let mut sink = Told::new(alloc)?;
-    let mut list = Vec::new(alloc);
-    for word in words.split_ascii_whitespace() {
-        list.push(String::from_str(alloc, word)?)?;
-    }
-    let status = autocorres(alloc, &list, &mut shelf, &mut sink);
-    let is_in_turn = !sink.out_of_turn.get() && sink.over.get() == 1;
-    Ok(if status == Status::Done && is_in_turn {
-        Some((sink.translated.get(), sink.checked.get()))
-    } else {
-        None
-    })
+    let status = told(alloc, words, &files, &mut sink)?;
+    Ok(status == Status::Done && sink.is(counts.0, counts.1))
 }
 
 #[test]
 fn each_function_is_told_in_turn(rt: HostRuntime) -> Result<(), Fail> {
-    let alloc = rt.alloc();
-    let (_, certificate) = run(alloc, "translate a.c", TEXT.as_bytes(), b"", &SOUND)?;
-    for (words, want) in [
+    let certificate = written(rt.alloc(), "translate a.c", TEXT)?;
+    for (words, counts) in [
         ("sample 3", (0, 0)),
         ("show a.c", (3, 0)),
         ("print a.c bytes=h", (3, 0)),
@@ -105,10 +96,7 @@ fn each_function_is_told_in_turn(rt: HostRuntime) -> Result<(), Fail> {
         ("trial 3", (3, 0)),
         ("check a.c c.cert", (0, 3)),
     ] {
-        assert!(rt;
-            counted(alloc, words, &certificate)? == Some(want),
-            "{words}"
-        );
+        assert!(rt; tells(rt.alloc(), words, &certificate, counts)?, "{words}");
     }
     Ok(())
 }

@@ -1,6 +1,6 @@
 //! Texts, one a line, each with the line that shows it or refuses it.
 
-/// A sentence of the typing rules each. `shown` stands for any programs.
+/// A sentence of the typing rules each. Before `..` stands how the line begins.
 pub(crate) const ROWS: &str = "\
 int f(void){return x;} => source: unknown at 19
 enum e x; => source: unknown at 0
@@ -142,55 +142,96 @@ int f(char a[4097]); => source: too large at 11
 int f(int[0]); => source: too large at 9
 typedef int t[4096][5]; => source: too large at 12
 struct s{int a[4097];}; => source: too large at 13
-int f(void){return 0;} => shown
-int f(int a){return a;}int g(int a){int r;r=f(a);return r;} => shown
-int g(int);int f(int a){int r;r=g(a);return r;}int g(int a){int r;r=f(a);return r;} => shown
-extern int x;int x;extern int x; => shown
-int x=1;int*p=0;int*q=(void*)0;void*r=0; => shown
-enum{A,B=5,C};int a[C];int f(void){return A+B+C;} => shown
-enum e{A};enum e f(enum e x){return x;} => shown
-struct{int a;}x;struct{int b;}y;int f(void){return x.a+y.b;} => shown
-struct s{int a;struct s*next;};int f(struct s*p){return p->next->a;} => shown
-struct s{int a[2][3];};int f(struct s*p,int i){return p->a[i][2];} => shown
-struct s{int a;};void f(struct s*p,struct s*q){*p=*q;} => shown
-struct s{int a;};struct s g;void f(struct s*p){g=*p;*p=g;} => shown
+int f(void){return 0;} => (program..
+int f(int a){return a;}int g(int a){int r;r=f(a);return r;} => (program..
+int g(int);int f(int a){int r;r=g(a);return r;}int g(int a){int r;r=f(a);return r;} => (program..
+extern int x;int x;extern int x; => (program..
+int x=1;int*p=0;int*q=(void*)0;void*r=0; => (program..
+enum{A,B=5,C};int a[C];int f(void){return A+B+C;} => (program..
+enum e{A};enum e f(enum e x){return x;} => (program..
+struct{int a;}x;struct{int b;}y;int f(void){return x.a+y.b;} => (program..
+struct s{int a;struct s*next;};int f(struct s*p){return p->next->a;} => (program..
+struct s{int a[2][3];};int f(struct s*p,int i){return p->a[i][2];} => (program..
+struct s{int a;};void f(struct s*p,struct s*q){*p=*q;} => (program..
+struct s{int a;};struct s g;void f(struct s*p){g=*p;*p=g;} => (program..
 struct s{char a[4096][16];}; => (program)
-int a[4096];char b[4096][16]; => shown
-int f(int a){{int a;a=1;}return a;} => shown
-int f(int a){for(int a=0;a<3;a++);return a;} => shown
-void f(int a){switch(a){case 1:;int y;y=1;break;case 2:;{int y;y=2;}}} => shown
-int f(int a){switch(a){case 1:case 2:return 1;case 3:while(1)break;return 2;default:break;}return 0;} => shown
-int f(void*p,int*q){q=p;p=q;return p==q&&q==0&&p==(void*)0;} => shown
-int f(int a,int*p,void*q){p=a?p:0;q=a?p:q;return 0;} => shown
-int f(int*p){return p[1]+*(p+1)+*(1+p)+*(p-1);} => shown
-int*f(int*p){return &p[3];} => shown
-int*f(int*p){return &*p;} => shown
-struct s{int a[3];};int*f(struct s*p){return p->a;} => shown
-struct s{int a[3];};int f(struct s*p){return sizeof p->a+sizeof(1?0:0);} => shown
-unsigned f(int*p){return sizeof*p+sizeof p+sizeof(int*);} => shown
-int f(char*p){p++;++p;return 0;} => shown
-int f(int a){a+=1;a<<=2;a++;--a;return a;} => shown
-void f(void);void f(void){return;} => shown
-static inline const int f(const int a){return a;} => shown
-int f(int a[]){return a[0];} => shown
-int f(int a[3]){return *a;} => shown
+int a[4096];char b[4096][16]; => (program..
+int f(int a){{int a;a=1;}return a;} => (program..
+int f(int a){for(int a=0;a<3;a++);return a;} => (program..
+void f(int a){switch(a){case 1:;int y;y=1;break;case 2:;{int y;y=2;}}} => (program..
+int f(int a){switch(a){case 1:case 2:return 1;case 3:while(1)break;return 2;default:break;}return 0;} => (program..
+int f(void*p,int*q){q=p;p=q;return p==q&&q==0&&p==(void*)0;} => (program..
+int f(int a,int*p,void*q){p=a?p:0;q=a?p:q;return 0;} => (program..
+int f(int*p){return p[1]+*(p+1)+*(1+p)+*(p-1);} => (program..
+int*f(int*p){return &p[3];} => (program..
+int*f(int*p){return &*p;} => (program..
+struct s{int a[3];};int*f(struct s*p){return p->a;} => (program..
+struct s{int a[3];};int f(struct s*p){return sizeof p->a+sizeof(1?0:0);} => (program..
+unsigned f(int*p){return sizeof*p+sizeof p+sizeof(int*);} => (program..
+int f(char*p){p++;++p;return 0;} => (program..
+int f(int a){a+=1;a<<=2;a++;--a;return a;} => (program..
+void f(void);void f(void){return;} => (program..
+static inline const int f(const int a){return a;} => (program..
+int f(int a[]){return a[0];} => (program..
+int f(int a[3]){return *a;} => (program..
 typedef struct node node_t;struct node{node_t*next;}; => (program)
-long long x=9223372036854775807;unsigned long long y=18446744073709551615u; => shown
-int f(unsigned a,long b){return a<b;} => shown
-long const int x; => shown
+long long x=9223372036854775807;unsigned long long y=18446744073709551615u; => (program..
+int f(unsigned a,long b){return a<b;} => (program..
+long const int x; => (program..
 int; => (program)
 unsigned inc(unsigned a){return a+1;} => (program (inc numbers ((a (nat 32))) ((nat 32)) (do () (guard (between 0 (add a 1) 4294967295)) (ret (add a 1)))))
 unsigned f(void){return 7;} => (program (f numbers () ((nat 32)) (ret 7)))
-unsigned f(void){return -1;} => shown
+unsigned f(void){return -1;} => (program..
 enum{A=-1};unsigned f(void){return A;} => (program (f numbers () ((nat 32)) (ret 4294967295)))
 typedef unsigned u;struct s{u a;};u f(u a){return (a)+sizeof(struct s);} => (program (f numbers ((a (nat 32))) ((nat 32)) (do () (guard (between 0 (add a 4) 4294967295)) (ret (add a 4)))))
 unsigned f(unsigned a){return 'a'+a;} => (program (f numbers ((a (nat 32))) ((nat 32)) (do () (guard (between 0 (add 97 a) 4294967295)) (ret (add 97 a)))))
-unsigned f(char*a){return sizeof(int*)+sizeof*(int*)a;} => shown
-unsigned f(unsigned a){unsigned b;return a;} => shown
-unsigned f(unsigned a){return a+sizeof*(int*)a;} => shown
-unsigned f(unsigned a){return a;}unsigned g(unsigned a){return a;} => shown
-unsigned f(unsigned a){return a+1l;} => shown
-unsigned f(unsigned a){return a-a;} => shown
-unsigned f(int a){return a;} => shown
-int f(unsigned a){return 1;} => shown
-";
+unsigned f(char*a){return sizeof(int*)+sizeof*(int*)a;} => (program..
+unsigned f(unsigned a){unsigned b;return a;} => (program..
+unsigned f(unsigned a){return a+sizeof*(int*)a;} => (program..
+unsigned f(unsigned a){return a;}unsigned g(unsigned a){return a;} => (program..
+unsigned f(unsigned a){return a+1l;} => (program..
+unsigned f(unsigned a){return a-a;} => (program..
+unsigned f(int a){return a;} => (program..
+int f(unsigned a){return 1;} => (program..";
+
+/// The same of tokens, of the grammar and of programs.
+pub(crate) const READ: &str = "\
+unsigned f(unsigned a){return a;} => (program (f numbers ((a (nat 32))) ((nat 32)) (ret a)))
+unsigned f(unsigned a,unsigned b,unsigned c){return a+(b+c);} => (program (f numbers ((a (nat 32)) (b (nat 32)) (c (nat 32))) ((nat 32)) (do () (guard (between 0 (add b c) 4294967295)) () (guard (between 0 (add a (add b c)) 4294967295)) (ret (add a (add b c))))))
+ => (program)
+int f(int a){return a;} => (program..
+unsigned int f(unsigned a){return a;} => (program (f numbers ((a (nat 32))) ((nat 32)) (ret a)))
+unsigned f(unsigned a){return a+0x7fffffff;} => (program (f numbers ((a (nat 32))) ((nat 32)) (do () (guard (between 0 (add a 2147483647) 4294967295)) (ret (add a 2147483647)))))
+unsigned f(unsigned a){return a+2147483648;} => (program..
+unsigned f(unsigned a){return a+4294967296u;} => (program..
+unsigned f(unsigned a){return a+1ul;} => (program..
+unsigned f(unsigned a){return b;} => source: unknown at 30
+unsigned f(unsigned a,unsigned a){return a;} => source: twice at 31
+unsigned f(unsigned a){return a-a;} => (program..
+unsigned f(void){return 1u;} => (program (f numbers () ((nat 32)) (ret 1)))
+unsigned f(unsigned a){;return a;} => (program..
+unsigned f(unsigned a){return g(a);} => source: unknown at 30
+unsigned f(unsigned a); => (program)
+unsigned f(unsigned a){return a;}int x; => (program..
+int f(void){goto x;} => source: unsupported goto at 12
+char *s = \"x\"; => source: unsupported \" at 10
+int f(int a,...); => source: unsupported ... at 12
+int a; # 1 => source: unsupported # at 7
+/* x => source: open comment at 0
+int a = 08; => source: bad number at 8
+int a = 18446744073709551616ull; => source: bad number at 8
+int a = 18446744073709551615ull; => (program..
+int @; => source: bad byte at 4
+int a = '\\377'; => (program..
+int a = '\\400'; => source: bad byte at 8
+int f(int a){else;} => source: syntax at 13
+int f(int a,int b){return a- -b;} => (program..
+int f(int a,int b){return a--b;} => source: syntax at 27
+int f(int a,int b){return a+++b;} => source: syntax at 27
+void f(int *p){*p++;} => source: syntax at 17
+void f(void){x*y;} => source: syntax at 14
+typedef int x;void f(void){x*y;} => (program..
+typedef int t;struct s{int t;}; => source: syntax at 27
+/* /* */ */ => source: syntax at 9
+int => source: syntax at 3
+unsigned f(unsigned a){return a;  => source: syntax at 32";

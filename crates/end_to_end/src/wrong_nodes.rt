@@ -1,7 +1,8 @@
 //! Certificates with one word changed: another rule is refused at its own node, and no other word is
 //! taken for the one that stands there.
 
-use crate::checks::{CERTIFICATE, SEVEN, SOUND, changed, check, run};
+use crate::calls::{Answer, Files, said};
+use crate::checks::{CERTIFICATE, SEVEN, line_of, written};
 use ac_core::Status;
 use std::alloc::{AllocError, Global};
 use std::test::Fail;
@@ -68,59 +69,94 @@ fn role_in(around: &Open, phase: &[u8]) -> Role {
     }
 }
 
+// The nodes that were found so far, the lists that are open, and the phase and how many rules it has.
+#[derive(Drop)]
+struct Reader<'a> {
+    text: &'a [u8],
+    nodes: Vec<Node<'a>>,
+    open: Vec<Open<'a>>,
+    phase: &'a [u8],
+    rules: usize,
+}
+
+impl<'a> Reader<'a> {
+    // What the next node is, which is one part more of the innermost list.
+    fn next_role(&mut self) -> Role {
+        let Some(around) = self.open.last_mut() else {
+            return Role::Certificate;
+        };
+        let role = role_in(around, self.phase);
+        around.parts = around.parts.saturating_add(1);
+        role
+    }
+
+    // The node that begins there.
+    fn begin(&mut self, start: usize) -> Result<(), AllocError> {
+        let role = self.next_role();
+        let head = word_at(self.text, start.saturating_add(1));
+        if role == Role::Phase {
+            self.phase = head;
+            self.rules = 0;
+        }
+        let node = Node {
+            role,
+            phase: self.phase,
+            number: self.rules,
+            start,
+            end: start.saturating_add(word_at(self.text, start).len()),
+        };
+        if role == Role::Rule {
+            self.rules = self.rules.saturating_add(1);
+        }
+        if self.text.get(start) == Some(&b'(') {
+            self.open(role, head)?;
+        }
+        self.nodes.push(node)?;
+        Ok(())
+    }
+
+    // The list of the next node.
+    fn open(&mut self, role: Role, head: &'a [u8]) -> Result<(), AllocError> {
+        let at = self.nodes.len();
+        let open = Open {
+            role,
+            head,
+            parts: 0,
+            at,
+        };
+        self.open.push(open)?;
+        Ok(())
+    }
+
+    // The innermost list ends before that place.
+    fn close(&mut self, end: usize) {
+        if let Some(closed) = self.open.pop()
+            && let Some(node) = self.nodes.get_mut(closed.at)
+        {
+            node.end = end;
+        }
+    }
+}
+
 // All nodes of a certificate's text, in preorder.
 fn nodes_of(alloc: Global, text: &[u8]) -> Result<Vec<Node>, AllocError> {
-    let mut nodes = Vec::new(alloc);
-    let mut open: Vec<Open> = Vec::new(alloc);
-    let mut phase: &[u8] = &[];
-    let mut rules = 0usize;
+    let mut reader = Reader {
+        text,
+        nodes: Vec::new(alloc),
+        open: Vec::new(alloc),
+        phase: &[],
+        rules: 0,
+    };
     let mut before = b' ';
     for (start, byte) in text.iter().enumerate() {
         if *byte == b')' {
-            if let Some(closed) = open.pop()
-                && let Some(node) = nodes.get_mut(closed.at)
-            {
-                let node: &mut Node = node;
-                node.end = start.saturating_add(1);
-            }
+            reader.close(start.saturating_add(1));
         } else if *byte == b'(' || matches!(before, b' ' | b'(') && !matches!(byte, b' ' | b'\n') {
-            let role = match open.last_mut() {
-                Some(around) => {
-                    let role = role_in(around, phase);
-                    around.parts = around.parts.saturating_add(1);
-                    role
-                }
-                None => Role::Certificate,
-            };
-            let head = word_at(text, start.saturating_add(1));
-            if role == Role::Phase {
-                phase = head;
-                rules = 0;
-            }
-            let end = start.saturating_add(word_at(text, start).len());
-            nodes.push(Node {
-                role,
-                phase,
-                number: rules,
-                start,
-                end,
-            })?;
-            if role == Role::Rule {
-                rules = rules.saturating_add(1);
-            }
-            if *byte == b'(' {
-                let at = nodes.len().saturating_sub(1);
-                open.push(Open {
-                    role,
-                    head,
-                    parts: 0,
-                    at,
-                })?;
-            }
+            reader.begin(start)?;
         }
         before = *byte;
     }
-    Ok(nodes)
+    Ok(reader.nodes)
 }
 
 // The text with this node made another.
@@ -149,30 +185,64 @@ const LOOP: &str = "unsigned f(unsigned a){while(a)a=a/2; return a;}";
 
 const BYTES: &str = "unsigned f(unsigned *p){unsigned char *c=(unsigned char *)p; return *c;}";
 
-// The certificate that is written for a text.
-fn written(alloc: Global, text: &str) -> Result<Vec<u8>, AllocError> {
-    let (_, certificate) = run(alloc, "translate a.c", text.as_bytes(), b"", &SOUND)?;
-    Ok(certificate)
+// What is said of the certificate with this node made another.
+fn checked(
+    alloc: Global,
+    text: &str,
+    certificate: &[u8],
+    node: &Node,
+    word: &str,
+) -> Result<Answer, AllocError> {
+    let changed = with(alloc, certificate, node, word)?;
+    let files = Files::of(text.as_bytes()).with(&changed);
+    said(alloc, "check a.c c.cert", &files)
+}
+
+// What is said of a node that is another rule.
+#[derive(Clone, Copy, PartialEq, Eq)]
+enum Refusal {
+    Wrong,
+    None,
+    Other,
+}
+
+// What is said of the node of that number in the text where it is another rule.
+fn refusal_of(
+    alloc: Global,
+    text: &str,
+    certificate: &[u8],
+    node: &Node,
+    at: usize,
+) -> Result<Refusal, AllocError> {
+    let answer = checked(alloc, text, certificate, node, other_rule(node.phase))?;
+    let phase = str::from_utf8(node.phase).unwrap_or("");
+    let wrong = format!(in alloc; "no: f {phase} {}", node.number)?;
+    if answer.is(wrong.as_str()) {
+        return Ok(Refusal::Wrong);
+    }
+    let none = format!(in alloc; "text: certificate shape at {at}")?;
+    Ok(if answer.is(none.as_str()) {
+        Refusal::None
+    } else {
+        Refusal::Other
+    })
 }
 
 // How many nodes of rules become another rule, and how many become none, where each is refused at its
 // own place.
-fn refused(alloc: Global, text: &str, certificate: &[u8]) -> Result<Option<(u32, u32)>, Fail> {
+fn refused(
+    alloc: Global,
+    text: &str,
+    certificate: &[u8],
+) -> Result<Option<(u32, u32)>, AllocError> {
     let (mut wrong, mut none) = (0u32, 0u32);
     for (at, node) in nodes_of(alloc, certificate)?.iter().enumerate() {
-        let rule = other_rule(node.phase);
-        if node.role == Role::Rule && word_at(certificate, node.start) != rule.as_bytes() {
-            let changed = with(alloc, certificate, node, rule)?;
-            let (_, said) = check(alloc, text, &changed)?;
-            let phase = str::from_utf8(node.phase).unwrap_or("");
-            let line = format!(in alloc; "no: f {phase} {}\n", node.number)?;
-            let shape = format!(in alloc; "text: certificate shape at {at}\n")?;
-            if said.as_slice() == line.as_bytes() {
-                wrong = wrong.saturating_add(1);
-            } else if said.as_slice() == shape.as_bytes() {
-                none = none.saturating_add(1);
-            } else {
-                return Ok(None);
+        let rule = other_rule(node.phase).as_bytes();
+        if node.role == Role::Rule && word_at(certificate, node.start) != rule {
+            match refusal_of(alloc, text, certificate, node, at)? {
+                Refusal::Wrong => wrong = wrong.saturating_add(1),
+                Refusal::None => none = none.saturating_add(1),
+                Refusal::Other => return Ok(None),
             }
         }
     }
@@ -181,27 +251,44 @@ fn refused(alloc: Global, text: &str, certificate: &[u8]) -> Result<Option<(u32,
 
 #[test]
 fn other_rules_are_refused_at_their_nodes(rt: HostRuntime) -> Result<(), Fail> {
-    let alloc = rt.alloc();
-    let seven = changed(alloc, CERTIFICATE, "7", "7")?;
-    assert!(rt; refused(alloc, SEVEN, &seven)? == Some((42, 1)));
-    assert!(rt; refused(alloc, COUNT, &written(alloc, COUNT)?)? == Some((137, 23)));
-    assert!(rt; refused(alloc, BYTES, &written(alloc, BYTES)?)? == Some((88, 0)));
+    let seven = line_of(rt.alloc(), CERTIFICATE)?;
+    assert!(rt; refused(rt.alloc(), SEVEN, &seven)? == Some((42, 1)));
+    for (text, want) in [(COUNT, (137, 23)), (BYTES, (88, 0))] {
+        let certificate = written(rt.alloc(), "translate a.c", text)?;
+        let found = refused(rt.alloc(), text, &certificate)?;
+        assert!(rt; found == Some(want), "{text}: {found:?}");
+    }
     Ok(())
 }
 
-// Each word made another: what was accepted is so no more.
+// Whether what was accepted is so no more where a word is another.
+fn is_refused(
+    alloc: Global,
+    text: &str,
+    certificate: &[u8],
+    node: &Node,
+) -> Result<bool, AllocError> {
+    let answer = checked(alloc, text, certificate, node, "other")?;
+    Ok(matches!(answer.status, Status::No | Status::Text))
+}
+
+// The first node whose word can be another.
+fn first_accepted(alloc: Global, text: &str) -> Result<Option<usize>, AllocError> {
+    let certificate = written(alloc, "translate a.c", text)?;
+    for (at, node) in nodes_of(alloc, &certificate)?.iter().enumerate() {
+        let is_word = !word_at(&certificate, node.start).is_empty();
+        if is_word && !is_refused(alloc, text, &certificate, node)? {
+            return Ok(Some(at));
+        }
+    }
+    Ok(None)
+}
+
 #[test]
 fn no_other_word_is_accepted(rt: HostRuntime) -> Result<(), Fail> {
-    let alloc = rt.alloc();
     for text in [SEVEN, LOOP, BYTES] {
-        let certificate = written(alloc, text)?;
-        for (at, node) in nodes_of(alloc, &certificate)?.iter().enumerate() {
-            if !word_at(&certificate, node.start).is_empty() {
-                let changed = with(alloc, &certificate, node, "other")?;
-                let (status, _) = check(alloc, text, &changed)?;
-                assert!(rt; matches!(status, Status::No | Status::Text), "{at}");
-            }
-        }
+        let found = first_accepted(rt.alloc(), text)?;
+        assert!(rt; found.is_none(), "{text}: {found:?}");
     }
     Ok(())
 }
