@@ -77,7 +77,6 @@ module _ (at : Point) (left right ones others : List Exp) (same : OneApart at le
 -- a row that is one step apart from itself where what is left of it is
 
 module _ (at : Point) (exps rest : List Exp) (same : OneApart at rest rest ↔ OneApart at exps exps) where
-
   module _ (a : Exp) (behind : List Exp) (first : rest ≡ a ∷ behind) where
     pub this_itself : StepApart at a a → OneApart at exps exps
     this_itself k = same.0 (subst (λ es. OneApart at es es) (sym first) (this_apart at a behind k))

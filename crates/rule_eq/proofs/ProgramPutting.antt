@@ -17,7 +17,6 @@ use Rattle.rule_eq.proofs.PutParts.{path_head_put, put_before}
 -- one program of another's parts is so where its own last part is
 
 module _ (x : Name) (e : Exp) where
-
   pub write_iff : (place place' : Place) (a a' : Exp) (m right : Mon) → m ≡ M.Write place a → right ≡ M.Write place' a' →
       ((place' ≡ place_substituted x e place) × (a' ≡ substituted x e a)) ↔ (right ≡ program_substituted x e m)
   write_iff place place' a a' m right h k = (

@@ -33,7 +33,6 @@ first_none no_trees e = refl
 first_none (more u ts) e = absurd cc
 
 module _ {Rule : Type 0} (words : Words Rule) where
-
   plain_front : (at inner : ℕ) (o : Option Rule) (g : Option (Given Rule)) (r : Rule) (t : Tree) (us : Trees) (b : Bool) → inner ≡ next (next at) → Some r ≡ o → fits (words.arity r) (count (more t us)) ≡ b →
       front_by words at o g (more t us) ≡ cond {A = Read (Rule × Trees)} b (Ok ((r, more t us), inner)) (Err at)
   plain_front at inner o g r t us b e is fit =

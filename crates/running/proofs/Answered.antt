@@ -43,7 +43,6 @@ module _ (target : Target) (text memory : List ℕ) (unit : TypedUnit) where
     after_certificate _ _ h = absurd h
 
 module _ (unit : TypedUnit) (cs : List Steps) (text : List ℕ) where
-
   module _ (m : Memory) (is : IsMemoryText unit text m) (within : m.turns ≤ most_turns) where
     pub from_memory : (status : Status) (lines : List ℕ) → IsRunFrom unit cs m status lines → IsRunOf unit cs text status lines
     from_memory Done lines h = record { memory = m; text = record { is_text = is; within = within }; runs = h }

@@ -14,7 +14,6 @@ use Rattle.answers.specs.declared.status.Status.{Status}
 use Rattle.answers.specs.declared.status.Status.TheVariants.{Done, No, Words, Source, Text, ReadFault, WriteFault, Limit, Memory, NotYet}
 
 module _ (t : Target) (of_unit : TypedUnit → Status → List ℕ → Type 0) where
-
   pub tree_answer : (ts : List Lexeme) (tree : List External) (status : Status) (lines : List ℕ) → IsTree ts tree → IsTreeAnswer t of_unit tree status lines → IsTokensAnswer t of_unit ts status lines
   tree_answer ts tree Source lines h a = inr (record { tree = tree; is_tree = h; answer = a })
   tree_answer ts tree Limit lines h a = inr (record { tree = tree; is_tree = h; answer = a })
