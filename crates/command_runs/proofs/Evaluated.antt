@@ -15,7 +15,7 @@ use Rattle.expression_lang.specs.Signature.{Binder, no_env}
 use Rattle.expression_lang.specs.Wide.{wide}
 use Rattle.expression_lang.specs.CodeState.{Bindings, env_with, env_of, scalar_of_value, scalars_with, scope_in, AreScalars}
 use Rattle.expression_lang.proofs.Fine.{HasSort, AreFine, fine, fine_path}
-use Rattle.expression_lang.proofs.Scalars.{globals_have, scalar_is, scalar_here}
+use Rattle.expression_lang.proofs.ScalarValues.{globals_have, scalar_is, scalar_here}
 use Rattle.command_runs.specs.declared.outcome.CState as C
 use Rattle.command_runs.specs.declared.frame.Frame as R
 use Rattle.command_runs.specs.Locals.{env_from, AreLocals}

@@ -11,7 +11,7 @@ use Rattle.c_values.specs.Name.{Name, same_name, with_name}
 use Rattle.c_values.specs.Value.{Value}
 use Rattle.c_values.specs.CodeValue.{value_of}
 use Rattle.expression_lang.specs.CodeState.{Bindings, env_of}
-use Rattle.expression_lang.proofs.Scalars.{env_behind}
+use Rattle.expression_lang.proofs.ScalarValues.{env_behind}
 use Rattle.command_runs.specs.Locals.{Table, put_in}
 use Rattle.command_runs.specs.CodeRun.{table_of}
 

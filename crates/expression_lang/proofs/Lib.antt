@@ -22,5 +22,5 @@ pub mod OperandSorts
 pub mod BinderNames
 pub mod SameScalars
 pub mod SortParts
-pub mod Scalars
+pub mod ScalarValues
 pub mod Bound

@@ -13,7 +13,7 @@ use Rattle.expression_lang.specs.Sort.{Sort, sort_of}
 use Rattle.expression_lang.specs.CodeReady.{IsReady}
 use Rattle.expression_lang.specs.CodeState.{Bindings, env_of, scope_in, AreScalars, AreOfTypes, state_of}
 use Rattle.expression_lang.proofs.Fine.{fine}
-use Rattle.expression_lang.proofs.Scalars.{names_have, globals_have}
+use Rattle.expression_lang.proofs.ScalarValues.{names_have, globals_have}
 
 some_sort : (o : Option Sort) → IsSome o → (r : Sort) × (o ≡ Some r)
 some_sort (Some r) h = (r, refl)

@@ -11,7 +11,7 @@ use Rattle.expression_lang.specs.Evaluation.{Env}
 use Rattle.expression_lang.specs.Signature.{bound}
 use Rattle.expression_lang.specs.States.{IsEnvironment}
 use Rattle.expression_lang.specs.CodeState.{Bindings, env_with, env_of, scalar_of_value, scalars_with, IsScalar, AreScalars}
-use Rattle.expression_lang.proofs.Scalars.{scalar_here, scalar_is, names_have, env_behind}
+use Rattle.expression_lang.proofs.ScalarValues.{scalar_here, scalar_is, names_have, env_behind}
 use Rattle.monad_lang.specs.Program.{FinalUnit}
 use Rattle.monad_lang.specs.Sorted.{setting_with}
 use Rattle.program_facts.specs.Lasting.{AreOfSorts}

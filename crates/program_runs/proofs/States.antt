@@ -6,7 +6,7 @@ use Rattle.c_values.specs.declared.program.Program as U
 use Rattle.c_values.specs.CodeValue.{global_of}
 use Rattle.c_memory.specs.Heap.{Heap}
 use Rattle.expression_lang.specs.States.{IsState}
-use Rattle.expression_lang.proofs.Scalars.{globals_have}
+use Rattle.expression_lang.proofs.ScalarValues.{globals_have}
 use Rattle.monad_lang.specs.declared.program.FinalFn as F
 use Rattle.program_runs.specs.declared.machine.AState as A
 use Rattle.program_runs.specs.CodeRun.{state_in, IsStateOf}
