@@ -20,7 +20,7 @@ use Rattle.program_runs.specs.declared.machine.Turns as T
 use Rattle.program_runs.specs.WideRun.{Trouble, Fails, IsWide, unless}
 use Rattle.program_runs.specs.Bound.{Extends}
 use Rattle.program_runs.specs.Machine.{Turns, Turn, Running, Turning, Gave, turns_at, setting_at, IsSorted, Steps, CanTurn, Enters}
-use Rattle.program_runs.specs.CodeRun.{IsMet, HasStopped, stack_of, AreMarked, machine_at, turns_of}
+use Rattle.program_runs.specs.CodeRun.{IsMet, HasStopped, stack_of, machine_at, turns_of}
 use Rattle.program_runs.proofs.Bindings.{env_extended, scalars_extended, setting_extended}
 use Rattle.program_runs.proofs.Leading.{unless_none, choose_true, choose_false, truth_sorted}
 use Rattle.program_runs.proofs.MachineSteps.{loop_ends, turn_begins}
@@ -95,5 +95,3 @@ module _ (u : FinalUnit) (k : ℕ) (out : List Scalar) (s : State) (bs new : Bin
       subst (λ st. Steps u k out (machine_at bs items (Turning bs (turns_of t) vs) s) (record { stack = st; now = Running new (mon_of t.body.now) (record { turns = n; depth = t.left.depth }); state = s }))
       (sym (pushed_first new items news _ grown ∙ ap (λ q. Turn q left ∷ stack_of q (reverse items)) (ap (λ i. take i new) same ∙ cut_back bs new (turns_of t).names vs x)))
       (turn_begins u k out (stack_of bs (reverse items)) s bs new (turns_of t).names (turns_of t).guard (turns_of t).test (turns_of t).body n t.left.depth vs t.left.turns one x e.narrow_guard e.guard e.narrow_test e.test h)
-
-module _ (bs new : Bindings) (items : List W.Pending) (xs : List Name) (vs : List Value) (x : Extends bs xs vs new) (mark : ℕ) (same : mark ≡ length bs) (marked : AreMarked (length bs) (reverse items)) where

@@ -70,10 +70,6 @@ module _ (at : Point) (left right ones others : List Exp) (a b : Exp) (behind re
   pub rest_differs : b ≡ a → others ≢ ones → rest ≢ behind
   rest_differs e differ i = differ (second ∙ ap₂ (λ c cs. c ∷ cs) e i ∙ sym first)
 
--- where one of them is at its end
-
-module _ (at : Point) (left right ones others : List Exp) (same : OneApart at left right ↔ OneApart at ones others) where
-
 -- a row that is one step apart from itself where what is left of it is
 
 module _ (at : Point) (exps rest : List Exp) (same : OneApart at rest rest ↔ OneApart at exps exps) where
