@@ -1,6 +1,6 @@
 -- What stands at a place of a list in which names are distinct is found by its name.
 use Rattle.std.proofs.Common.{◌≡◌, ℕ, zero, suc, ◌<◌, true, not, List, [], ◌∷◌, length, get_or, map, Some, sym, ap, ◌∙◌, subst, arith}
-use Rattle.std.proofs.lemmas.Bool.{and_parts, not-true, cond-true, cond-false, or_second as or_first, or_right}
+use Rattle.std.proofs.lemmas.Bool.{and_parts, not-true, cond-true, cond-false, or_left, or_right}
 use Rattle.std.specs.Prelude.{slice_get}
 use Rattle.std.specs.Option.{IsSomeAnd}
 use Rattle.c_values.specs.Name.{Name, same_name, is_among, are_distinct}
@@ -12,7 +12,7 @@ module _ {F : Type 0} (name : F → Name) where
   among_at : (fs : List F) (k : ℕ) (f : F) → k < length fs → f ≡ get_or fs k f → is_among (name f) (map name fs) ≡ true
   among_at [] k f lt e = absurd (omega arith)
   among_at (g ∷ fs) zero f lt e =
-      or_first (same_name (name f) (name g)) (is_among (name f) (map name fs)) (ap (λ h. same_name (name f) (name h)) (sym e) ∙ same_name-refl (name f))
+      or_left (same_name (name f) (name g)) (is_among (name f) (map name fs)) (ap (λ h. same_name (name f) (name h)) (sym e) ∙ same_name-refl (name f))
   among_at (g ∷ fs) (suc k) f lt e = or_right (same_name (name f) (name g)) (is_among (name f) (map name fs)) (among_at fs k f (omega arith) e)
 
   pub found_at : (fs : List F) (k : ℕ) (f : F) → are_distinct (map name fs) ≡ true → k < length fs → f ≡ get_or fs k f → function_named name fs (name f) ≡ Some f
