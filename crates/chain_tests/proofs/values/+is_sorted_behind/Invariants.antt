@@ -1,6 +1,0 @@
--- There are fewer bindings left at each call.
-use Rattle.std.specs.Prelude.{length}
-use Rattle.chain_tests.proofs.values.+is_sorted_behind.Given as goal
-
-abbrev pub decreases-is_sorted_behind : goal.decreases-is_sorted_behind
-decreases-is_sorted_behind c = length c.bindings.now

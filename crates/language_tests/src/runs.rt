@@ -1,0 +1,5 @@
+//! Tests of runs of functions, from units made by hand.
+
+mod arguments;
+mod programs;
+mod units;

@@ -1,0 +1,7 @@
+//! The tests of the steps to typed heaps and to numbers: of their rules by tables of words, and of
+//! what translates by them.
+
+mod heaps;
+mod lifted;
+mod sizes;
+mod words;

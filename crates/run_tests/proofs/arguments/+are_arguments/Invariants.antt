@@ -1,6 +1,0 @@
--- There are fewer parameters each time.
-use Rattle.std.proofs.Common.{length}
-use Rattle.run_tests.proofs.arguments.+are_arguments.Given as goal
-
-abbrev pub decreases-are_arguments : goal.decreases-are_arguments
-decreases-are_arguments l = length l.parameters.now
