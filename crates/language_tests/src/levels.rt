@@ -122,23 +122,30 @@ fn chosen_levels_and_reasons(rt: HostRuntime) -> Result<(), Fail> {
     Ok(())
 }
 
-// So many functions, each of which calls the next; the last casts. Or the first does, and each
-// other one calls the one before.
-fn chain(alloc: Global, count: u32, rising: bool) -> Result<TypedUnit, Fail> {
+// The function of a number, which calls another.
+fn link(alloc: Global, own: u32, other: u32) -> Result<TypedFn, AllocError> {
+    let name = format!(in alloc; "f{own}")?;
+    let callee = format!(in alloc; "f{other}")?;
+    calling(alloc, name.as_str(), callee.as_str())
+}
+
+// So many functions, each of which calls the next; the last casts.
+fn rising(alloc: Global, count: u32) -> Result<TypedUnit, Fail> {
     let mut functions = Vec::new(alloc);
-    if !rising {
-        functions.push(casting(alloc, "f0")?)?;
-    }
     for k in 0..count {
-        let own = if rising { k } else { k.saturating_add(1) };
-        let other = if rising { k.saturating_add(1) } else { k };
-        let name = format!(in alloc; "f{own}")?;
-        let callee = format!(in alloc; "f{other}")?;
-        functions.push(calling(alloc, name.as_str(), callee.as_str())?)?;
+        functions.push(link(alloc, k, k.saturating_add(1))?)?;
     }
-    if rising {
-        let last = format!(in alloc; "f{count}")?;
-        functions.push(casting(alloc, last.as_str())?)?;
+    let last = format!(in alloc; "f{count}")?;
+    functions.push(casting(alloc, last.as_str())?)?;
+    unit(alloc, functions)
+}
+
+// The first casts, and each of so many others calls the one before.
+fn falling(alloc: Global, count: u32) -> Result<TypedUnit, Fail> {
+    let mut functions = Vec::new(alloc);
+    functions.push(casting(alloc, "f0")?)?;
+    for k in 0..count {
+        functions.push(link(alloc, k.saturating_add(1), k)?)?;
     }
     unit(alloc, functions)
 }
@@ -157,9 +164,7 @@ fn on_bytes(alloc: Global, u: &TypedUnit) -> Result<usize, AllocError> {
 
 #[test]
 fn long_chains_of_callers(rt: HostRuntime) -> Result<(), Fail> {
-    let rising = chain(rt.alloc(), 1023, true)?;
-    assert!(rt; on_bytes(rt.alloc(), &rising)? == 1024);
-    let falling = chain(rt.alloc(), 1023, false)?;
-    assert!(rt; on_bytes(rt.alloc(), &falling)? == 1024);
+    assert!(rt; on_bytes(rt.alloc(), &rising(rt.alloc(), 1023)?)? == 1024);
+    assert!(rt; on_bytes(rt.alloc(), &falling(rt.alloc(), 1023)?)? == 1024);
     Ok(())
 }

@@ -4,39 +4,40 @@ use std::alloc::Global;
 use std::fmt::Write;
 use std::test::Fail;
 
-/// A token in words.
-fn write_token(out: &mut String, token: &Token) -> Result<(), Fail> {
-    match &token.kind {
-        TokenKind::Name(name) => write!(out, "name {name}")?,
-        TokenKind::Keyword(keyword) => {
-            let text = keyword.text();
-            write!(out, "keyword {text}")?
-        }
-        TokenKind::Punct(punct) => {
-            let text = punct.text();
-            write!(out, "punct {text}")?
-        }
-        TokenKind::Character(value) => write!(out, "character {value}")?,
+/// What a number's token says besides its value: its base, and the letters of its suffix.
+fn suffix(decimal: bool, unsigned: bool, longs: u8) -> (&'static str, &'static str, &'static str) {
+    let base = if decimal { "" } else { " not decimal" };
+    let unsigned = if unsigned { " u" } else { "" };
+    match longs {
+        0 => (base, unsigned, ""),
+        1 => (base, unsigned, " l"),
+        _ => (base, unsigned, " l l"),
+    }
+}
+
+/// What a token is, in words.
+fn write_kind(out: &mut String, kind: &TokenKind) -> Result<(), Fail> {
+    match kind {
+        TokenKind::Name(name) => Ok(write!(out, "name {name}")?),
+        TokenKind::Keyword(keyword) => Ok(write!(out, "keyword {}", keyword.text())?),
+        TokenKind::Punct(punct) => Ok(write!(out, "punct {}", punct.text())?),
+        TokenKind::Character(value) => Ok(write!(out, "character {value}")?),
         TokenKind::Number {
             value,
             decimal,
             unsigned,
             longs,
         } => {
-            let base = if *decimal { "" } else { " not decimal" };
-            let u = if *unsigned { " u" } else { "" };
-            let l = match *longs {
-                0 => "",
-                1 => " l",
-                _ => " l l",
-            };
-            write!(out, "number {value}{base}{u}{l}")?
+            let (base, u, l) = suffix(*decimal, *unsigned, *longs);
+            Ok(write!(out, "number {value}{base}{u}{l}")?)
         }
     }
-    let start = token.start;
-    let end = token.end;
-    write!(out, " {start}..{end}")?;
-    Ok(())
+}
+
+/// A token in words, with its place.
+fn write_token(out: &mut String, token: &Token) -> Result<(), Fail> {
+    write_kind(out, &token.kind)?;
+    Ok(write!(out, " {}..{}", token.start, token.end)?)
 }
 
 /// The tokens of a text in words, or its fault.
@@ -253,23 +254,35 @@ static VALUES: [(&str, &str, &str); 8] = [
     ),
 ];
 
+/// How many of the values a number with such a suffix may have.
+fn types_of(is_decimal: bool, suffix: &str) -> usize {
+    if is_decimal && !suffix.starts_with('u') {
+        5
+    } else {
+        7
+    }
+}
+
+/// Whether a number is read where it fits, and refused where it doesn't.
+fn is_read_where_it_fits(alloc: Global, text: &[u8], fits: bool) -> bool {
+    match tokens(alloc, text) {
+        Ok(_) => fits,
+        Err(fault) => !fits && fault == LexFault::BadNumber(0),
+    }
+}
+
 #[test]
 fn numbers_end_at_their_types(rt: HostRuntime) -> Result<(), Fail> {
     for (i, (decimal, octal, hexadecimal)) in VALUES.iter().enumerate() {
         for (digits, is_decimal) in [(*decimal, true), (*octal, false), (*hexadecimal, false)] {
             for suffix in ["", "u", "l", "ul", "ll", "ull"] {
                 let text = format!(in rt.alloc(); "{digits}{suffix}")?;
-                let fits = if is_decimal && !suffix.starts_with('u') {
-                    i < 5
-                } else {
-                    i < 7
-                };
-                let read = tokens(rt.alloc(), text.as_bytes());
-                if fits {
-                    assert!(rt; read.is_ok(), "{text}");
-                } else {
-                    assert!(rt; read == Err(LexFault::BadNumber(0)), "{text}");
-                }
+                let is_read = is_read_where_it_fits(
+                    rt.alloc(),
+                    text.as_bytes(),
+                    i < types_of(is_decimal, suffix),
+                );
+                assert!(rt; is_read, "{text}");
             }
         }
     }

@@ -54,13 +54,17 @@ pub(crate) fn unit_of(alloc: Global, level: Level, body: Mon) -> Result<FinalUni
     unit(alloc, vec![in alloc; f]?)
 }
 
+// What the function at a place in a chain of so many does.
+fn link_text(alloc: Global, k: u32, count: u32) -> Result<String, Fail> {
+    if k < count {
+        return Ok(format!(in alloc; "(call f{} p)", u64::from(k) + 1)?);
+    }
+    Ok(String::from_str(alloc, "(ret p)")?)
+}
+
 // The function at a place in a chain of so many.
 fn link(alloc: Global, k: u32, count: u32) -> Result<FinalFn, Fail> {
-    let text = if k < count {
-        format!(in alloc; "(call f{} p)", u64::from(k) + 1)?
-    } else {
-        String::from_str(alloc, "(ret p)")?
-    };
+    let text = link_text(alloc, k, count)?;
     let body = program(alloc, text.as_str())?;
     let name = format!(in alloc; "f{k}")?;
     Ok(function(alloc, name, Level::Words, body)?)
