@@ -10,6 +10,8 @@ mod exceptions;
 #[cfg(test)]
 mod locals;
 #[cfg(test)]
+mod rows;
+#[cfg(test)]
 mod sizes;
 #[cfg(test)]
 mod steps;

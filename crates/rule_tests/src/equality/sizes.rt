@@ -1,40 +1,11 @@
 //! Deep and long programs through the kernel: nested 4,096 deep, and along 200,000 parts. A row
-//! is one of `rules`; in a cell `A*B*C*D*E` stands for so many A, one B, so many C, one D and so
-//! many E. A long program has few names, since a name is looked for in all that was passed.
+//! is one of `rules`, with parts that stand there many times. A long program has few names, since a
+//! name is looked for in all that was passed.
 
 use crate::equality::rules::is_so;
-use std::alloc::{AllocError, Global};
+use crate::rows::repeated;
+use std::alloc::Global;
 use std::test::Fail;
-
-fn push_times(text: &mut String, part: &str, count: u32) -> Result<(), AllocError> {
-    for _ in 0..count {
-        text.push_str(part)?;
-    }
-    Ok(())
-}
-
-fn push_cell(text: &mut String, cell: &str, count: u32) -> Result<(), AllocError> {
-    if !cell.contains('*') {
-        return text.push_str(cell);
-    }
-    for (k, part) in cell.split('*').enumerate() {
-        let times = if k % 2 == 0 { count } else { 1 };
-        push_times(text, part, times)?;
-    }
-    Ok(())
-}
-
-// A row with so many parts.
-fn repeated(alloc: Global, line: &str, count: u32) -> Result<String, AllocError> {
-    let mut text = String::new(alloc);
-    for (k, cell) in line.split(" | ").enumerate() {
-        if k > 0 {
-            text.push_str(" | ")?;
-        }
-        push_cell(&mut text, cell, count)?;
-    }
-    Ok(text)
-}
 
 const DEEP: &str = "\
 2bind *exp* refl | bind *guard not not t* ret | bind *guard t* ret | ok

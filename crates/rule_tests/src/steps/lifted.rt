@@ -1,7 +1,7 @@
 //! Tests of what lifts programs to typed heaps: a program of each kind, and long and deep ones.
 //! `test_programs` says what the words are, and in `sizes` stands what `*` is.
 
-use crate::steps::sizes::repeated;
+use crate::rows::repeated;
 use heap_lift::translate;
 use rule_heap::Rule;
 use rule_trees::Tree;

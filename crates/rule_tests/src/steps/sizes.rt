@@ -1,41 +1,12 @@
 //! Programs of many sizes, through the kernels of both steps and the translator to numbers: deep
 //! ones, and ones where what is wanted is known from far before. A row is one of `heaps` or
-//! `words`; in a cell `A*B*C*D` stands for so many A, one B, so many C and one D. What the kernels
-//! cost is counted in `docs/PERFORMANCE.md`.
+//! `words`, with parts that stand there many times. What the kernels cost is counted in
+//! `docs/PERFORMANCE.md`.
 
+use crate::rows::repeated;
 use crate::steps::{heaps, words};
-use std::alloc::{AllocError, Global};
+use std::alloc::Global;
 use std::test::Fail;
-
-fn push_times(text: &mut String, part: &str, count: u32) -> Result<(), AllocError> {
-    for _ in 0..count {
-        text.push_str(part)?;
-    }
-    Ok(())
-}
-
-fn push_cell(text: &mut String, cell: &str, count: u32) -> Result<(), AllocError> {
-    if !cell.contains('*') {
-        return text.push_str(cell);
-    }
-    for (k, part) in cell.split('*').enumerate() {
-        let times = if k % 2 == 0 { count } else { 1 };
-        push_times(text, part, times)?;
-    }
-    Ok(())
-}
-
-/// A row with so many parts.
-pub(crate) fn repeated(alloc: Global, line: &str, count: u32) -> Result<String, AllocError> {
-    let mut text = String::new(alloc);
-    for (k, cell) in line.split(" | ").enumerate() {
-        if k > 0 {
-            text.push_str(" | ")?;
-        }
-        push_cell(&mut text, cell, count)?;
-    }
-    Ok(text)
-}
 
 // Whether the kernel of heaps says what the row does, with so many parts.
 fn is_on_heaps(alloc: Global, line: &str, count: u32) -> Result<bool, Fail> {
