@@ -6,28 +6,22 @@ ghost use Rattle.c_values.specs.CodeTypes.{target_of};
 ghost use Rattle.c_memory.specs.CodeHeap.{memory_of};
 ghost use Rattle.c_memory.specs.Heap.{IsHeap, OnBytes};
 
-use crate::heaps::{UINT, copy_value, heap_of_row, is_root, put_word, word_at};
+use crate::heaps::{
+    UINT, copy_value, define, heap_of_row, is_root, pair, put_word, struct_type, word_at,
+};
 use c_memory::{ByteHeap, Heap, HeapFault};
-use c_values::{CType, IntType, Layout, StructDef, Target};
+use c_values::{CType, IntType, Layout, Target};
 use std::alloc::{AllocError, Global};
 use std::test::Fail;
 
 fn named(alloc: Global) -> Result<CType, AllocError> {
-    Ok(CType::Struct(String::from_str(alloc, "p")?))
+    struct_type(alloc, "p")
 }
 
 // A layout with a struct `p` of a byte and an `unsigned`.
 fn layout(alloc: Global, target: Target) -> Result<Layout, Fail> {
     let mut l = Layout::build(target, Vec::new(alloc))?;
-    let mut members = Vec::new(alloc);
-    members.push((String::from_str(alloc, "a")?, CType::Int(IntType::UChar)))?;
-    members.push((String::from_str(alloc, "b")?, UINT))?;
-    let definition = StructDef {
-        name: String::from_str(alloc, "p")?,
-        members,
-    };
-    l.can_follow(&definition).then_some(()).ok_or("no layout")?;
-    l.define(alloc, definition)?;
+    define(alloc, &mut l, pair(alloc)?)?;
     Ok(l)
 }
 

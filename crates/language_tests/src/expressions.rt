@@ -73,18 +73,23 @@ fn operations_at_the_limit(rt: HostRuntime) -> Result<(), Fail> {
     Ok(())
 }
 
+// Whether a test that is too wide is evaluated behind this truth value.
+fn is_evaluated(alloc: Global, left: bool, head: &str) -> Result<bool, Fail> {
+    let left = truth(alloc, left)?;
+    let right = wide_test(alloc)?;
+    match head {
+        "and" => is_wide(alloc, &Exp::And(left, right)),
+        "or" => is_wide(alloc, &Exp::Or(left, right)),
+        "imp" => is_wide(alloc, &Exp::Imp(left, right)),
+        _ => is_wide(alloc, &Exp::If(left, right, truth(alloc, true)?)),
+    }
+}
+
 #[test]
 fn operands_that_are_left_open(rt: HostRuntime) -> Result<(), Fail> {
-    let alloc = rt.alloc();
-    for left in [false, true] {
-        let and = Exp::And(truth(alloc, left)?, wide_test(alloc)?);
-        assert!(rt; is_wide(alloc, &and)? == left);
-        let or = Exp::Or(truth(alloc, left)?, wide_test(alloc)?);
-        assert!(rt; is_wide(alloc, &or)? == !left);
-        let imp = Exp::Imp(truth(alloc, left)?, wide_test(alloc)?);
-        assert!(rt; is_wide(alloc, &imp)? == left);
-        let choice = Exp::If(truth(alloc, left)?, wide_test(alloc)?, truth(alloc, true)?);
-        assert!(rt; is_wide(alloc, &choice)? == left);
+    for (head, left) in [("and", true), ("or", false), ("imp", true), ("if", true)] {
+        assert!(rt; is_evaluated(rt.alloc(), left, head)?, "{head}");
+        assert!(rt; !is_evaluated(rt.alloc(), !left, head)?, "{head}");
     }
     Ok(())
 }

@@ -17,11 +17,50 @@ ghost use Rattle.c_memory.specs.Heap.{IsHeap, OnBytes};
 
 use c_memory::{ByteHeap, Heap, HeapFault, Step};
 use c_values::views::word;
-use c_values::{CType, IntType, Layout, Number, Target, Value, address_width, is_object, width_of};
+use c_values::{
+    CType, IntType, Layout, Number, StructDef, Target, Value, address_width, is_object, width_of,
+};
 use std::alloc::{AllocError, Global};
+use std::test::Fail;
 use typed_heap::type_at;
 
 pub(crate) const UINT: CType = CType::Int(IntType::UInt);
+
+pub(crate) const BYTE: CType = CType::Int(IntType::UChar);
+
+/// A member of a struct.
+pub(crate) fn member(alloc: Global, name: &str, ty: CType) -> Result<(String, CType), AllocError> {
+    Ok((String::from_str(alloc, name)?, ty))
+}
+
+/// A struct of such members.
+pub(crate) fn struct_of(
+    alloc: Global,
+    name: &str,
+    members: Vec<(String, CType)>,
+) -> Result<StructDef, AllocError> {
+    let name = String::from_str(alloc, name)?;
+    Ok(StructDef { name, members })
+}
+
+/// A struct `p` of a byte and an `unsigned`.
+pub(crate) fn pair(alloc: Global) -> Result<StructDef, AllocError> {
+    let mut members = Vec::new(alloc);
+    members.push(member(alloc, "a", BYTE)?)?;
+    members.push(member(alloc, "b", UINT)?)?;
+    struct_of(alloc, "p", members)
+}
+
+/// The type of a struct of a name.
+pub(crate) fn struct_type(alloc: Global, name: &str) -> Result<CType, AllocError> {
+    Ok(CType::Struct(String::from_str(alloc, name)?))
+}
+
+/// Adds a struct to a layout.
+pub(crate) fn define(alloc: Global, l: &mut Layout, definition: StructDef) -> Result<(), Fail> {
+    l.can_follow(&definition).then_some(()).ok_or("no layout")?;
+    Ok(l.define(alloc, definition)?)
+}
 
 /// Whether a type may be that of a tag.
 pub(crate) fn is_root(l: &Layout, t: &CType) -> bool

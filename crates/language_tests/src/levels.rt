@@ -4,7 +4,7 @@ ghost use Rattle.std.specs.Prelude.{◌≡◌, IfOk};
 
 use c_lang::tree::{Destination, Expr, Statement, Statements, TypedFn, TypedUnit, Use};
 use c_levels::reasons::reason;
-use c_levels::{Reason, default_modes};
+use c_levels::{Modes, Reason, default_modes};
 use c_values::{CType, IntType, Layout, Target};
 use expression_lang::Level;
 use std::alloc::{AllocError, Global};
@@ -83,16 +83,26 @@ fn levels_unit(alloc: Global) -> Result<TypedUnit, Fail> {
     unit(alloc, functions)
 }
 
+// The names of a line.
+fn names(alloc: Global, line: &str) -> Result<Vec<String>, AllocError> {
+    let mut names = Vec::new(alloc);
+    for name in line.split(' ') {
+        names.push(text(alloc, name)?)?;
+    }
+    Ok(names)
+}
+
+// Whether the functions have these levels.
+fn are_shown(alloc: Global, modes: &Modes, levels: &str) -> Result<bool, Fail> {
+    Ok(format!(in alloc; "{:?}", modes.levels)?.as_str() == levels)
+}
+
 #[test]
 fn default_levels_and_reasons(rt: HostRuntime) -> Result<(), Fail> {
     let alloc = rt.alloc();
     let u = levels_unit(alloc)?;
-    let mut words = Vec::new(alloc);
-    words.push(text(alloc, "w")?)?;
-    words.push(text(alloc, "b0")?)?;
-    let modes = default_modes(alloc, &u, &[], &words)?;
-    let shown = format!(in alloc; "{:?}", modes.levels)?;
-    assert!(rt; shown.as_str() == "[Bytes, Bytes, Bytes, Numbers, Words]");
+    let modes = default_modes(alloc, &u, &[], &names(alloc, "w b0")?)?;
+    assert!(rt; are_shown(alloc, &modes, "[Bytes, Bytes, Bytes, Numbers, Words]")?);
     assert!(rt; u.functions.len() == 5);
     assert!(rt; reason(&u, &modes, 0) == Reason::Calls(1));
     assert!(rt; reason(&u, &modes, 1) == Reason::Calls(2));
@@ -104,20 +114,22 @@ fn default_levels_and_reasons(rt: HostRuntime) -> Result<(), Fail> {
 fn chosen_levels_and_reasons(rt: HostRuntime) -> Result<(), Fail> {
     let alloc = rt.alloc();
     let u = levels_unit(alloc)?;
-    let mut bytes = Vec::new(alloc);
-    bytes.push(text(alloc, "n")?)?;
-    bytes.push(text(alloc, "w")?)?;
+    let bytes = names(alloc, "n w")?;
     let modes = default_modes(alloc, &u, &bytes, &bytes)?;
-    let shown = format!(in alloc; "{:?}", modes.levels)?;
-    assert!(rt; shown.as_str() == "[Bytes, Bytes, Bytes, Bytes, Bytes]");
+    assert!(rt; are_shown(alloc, &modes, "[Bytes, Bytes, Bytes, Bytes, Bytes]")?);
     assert!(rt; u.functions.len() == 5);
     assert!(rt; reason(&u, &modes, 3) == Reason::Calls(4));
     assert!(rt; reason(&u, &modes, 4) == Reason::Calls(4));
-    let mut bytes = Vec::new(alloc);
-    bytes.push(text(alloc, "n")?)?;
-    let modes = default_modes(alloc, &u, &bytes, &[])?;
-    let shown = format!(in alloc; "{:?}", modes.levels)?;
-    assert!(rt; shown.as_str() == "[Bytes, Bytes, Bytes, Bytes, Numbers]");
+    Ok(())
+}
+
+#[test]
+fn a_chosen_level_and_its_reason(rt: HostRuntime) -> Result<(), Fail> {
+    let alloc = rt.alloc();
+    let u = levels_unit(alloc)?;
+    let modes = default_modes(alloc, &u, &names(alloc, "n")?, &[])?;
+    assert!(rt; are_shown(alloc, &modes, "[Bytes, Bytes, Bytes, Bytes, Numbers]")?);
+    assert!(rt; u.functions.len() == 5);
     assert!(rt; reason(&u, &modes, 3) == Reason::Chosen);
     Ok(())
 }

@@ -5,43 +5,36 @@ ghost use Rattle.c_memory.specs.CodeHeap.{memory_of};
 ghost use Rattle.c_memory.specs.Heap.{IsHeap, OnBytes};
 ghost use Rattle.typed_heap.specs.CodeCells.{typed_content};
 
-use crate::heaps::{UINT, copy_value, covers, heap_of_row, is_root, put_word, word_at};
+use crate::heaps::{
+    BYTE, UINT, copy_value, covers, define, heap_of_row, is_root, member, pair, put_word,
+    struct_of, struct_type, word_at,
+};
 use c_memory::{ByteHeap, HeapFault, Step};
-use c_values::{CType, IntType, Layout, Number, StructDef, Target};
+use c_values::{CType, Layout, Number, StructDef, Target};
 use std::alloc::{AllocError, Global};
 use std::test::Fail;
 use typed_heap::{TypedHeap, view};
 
-const BYTE: CType = CType::Int(IntType::UChar);
-
-// A struct `p` of a byte and an `unsigned`; and a struct `q` of two of them and three bytes.
-fn structs(alloc: Global) -> Result<Vec<StructDef>, AllocError> {
-    let mut small = Vec::new(alloc);
-    small.push((String::from_str(alloc, "a")?, BYTE))?;
-    small.push((String::from_str(alloc, "b")?, UINT))?;
-    let mut large = Vec::new(alloc);
-    let pair = Box::new(alloc, CType::Struct(String::from_str(alloc, "p")?))?;
-    large.push((String::from_str(alloc, "pair")?, CType::Array(pair, 2)))?;
-    let byte = Box::new(alloc, BYTE)?;
-    large.push((String::from_str(alloc, "row")?, CType::Array(byte, 3)))?;
-    let mut structs = Vec::new(alloc);
-    structs.push(StructDef {
-        name: String::from_str(alloc, "p")?,
-        members: small,
-    })?;
-    structs.push(StructDef {
-        name: String::from_str(alloc, "q")?,
-        members: large,
-    })?;
-    Ok(structs)
+// So many of a type, one after the other.
+fn row_of(alloc: Global, ty: CType, length: u32) -> Result<CType, AllocError> {
+    Ok(CType::Array(Box::new(alloc, ty)?, length))
 }
 
+// A struct `q` of two `p` and three bytes.
+fn pairs(alloc: Global) -> Result<StructDef, AllocError> {
+    let mut members = Vec::new(alloc);
+    let pairs = row_of(alloc, struct_type(alloc, "p")?, 2)?;
+    members.push(member(alloc, "pair", pairs)?)?;
+    let bytes = row_of(alloc, BYTE, 3)?;
+    members.push(member(alloc, "row", bytes)?)?;
+    struct_of(alloc, "q", members)
+}
+
+// A layout with a struct `p` of a byte and an `unsigned`, and `q`.
 fn layout(alloc: Global, target: Target) -> Result<Layout, Fail> {
     let mut l = Layout::build(target, Vec::new(alloc))?;
-    for definition in structs(alloc)? {
-        l.can_follow(&definition).then_some(()).ok_or("no layout")?;
-        l.define(alloc, definition)?;
-    }
+    define(alloc, &mut l, pair(alloc)?)?;
+    define(alloc, &mut l, pairs(alloc)?)?;
     Ok(l)
 }
 
@@ -166,9 +159,9 @@ fn element(negative: bool, magnitude: u128) -> [Step; 3] {
 #[test]
 fn padding_stays(rt: HostRuntime) -> Result<(), Fail> {
     let alloc = rt.alloc();
-    let p = CType::Struct(String::from_str(alloc, "p")?);
-    let first = CType::Struct(String::from_str(alloc, "p")?);
-    let second = CType::Struct(String::from_str(alloc, "p")?);
+    let p = struct_type(alloc, "p")?;
+    let first = struct_type(alloc, "p")?;
+    let second = struct_type(alloc, "p")?;
     let mut h = BothHeaps::new(alloc, (4096, first), (4104, second))?;
     // An `unsigned` over a byte and padding is no part of a `p`.
     h.put(alloc, &UINT, 4096, &[], 0xaaaa_aaaa)?;
@@ -189,8 +182,8 @@ fn padding_stays(rt: HostRuntime) -> Result<(), Fail> {
 #[test]
 fn indices_of_elements(rt: HostRuntime) -> Result<(), Fail> {
     let alloc = rt.alloc();
-    let q = CType::Struct(String::from_str(alloc, "q")?);
-    let tag = CType::Struct(String::from_str(alloc, "q")?);
+    let q = struct_type(alloc, "q")?;
+    let tag = struct_type(alloc, "q")?;
     let mut h = BothHeaps::new(alloc, (4096, tag), (8192, UINT))?;
     h.put(alloc, &q, 4096, &element(false, 0), 10)?;
     h.put(alloc, &q, 4096, &element(false, 1), 11)?;
@@ -226,10 +219,10 @@ fn indices_of_elements(rt: HostRuntime) -> Result<(), Fail> {
 #[test]
 fn roots_of_two_types(rt: HostRuntime) -> Result<(), Fail> {
     let alloc = rt.alloc();
-    let p = CType::Struct(String::from_str(alloc, "p")?);
-    let q = CType::Struct(String::from_str(alloc, "q")?);
+    let p = struct_type(alloc, "p")?;
+    let q = struct_type(alloc, "q")?;
     let row = CType::Array(Box::new(alloc, BYTE)?, 3);
-    let tag = CType::Struct(String::from_str(alloc, "q")?);
+    let tag = struct_type(alloc, "q")?;
     let mut h = BothHeaps::new(alloc, (4096, tag), (8192, UINT))?;
     let roots = [
         (&q, 4096, true),
@@ -277,14 +270,9 @@ fn deep_layout(alloc: Global, depth: u32) -> Result<Layout, Fail> {
         ty = CType::Array(Box::new(alloc, ty)?, 1);
     }
     let mut members = Vec::new(alloc);
-    members.push((String::from_str(alloc, "a")?, ty))?;
-    let definition = StructDef {
-        name: String::from_str(alloc, "d")?,
-        members,
-    };
+    members.push(member(alloc, "a", ty)?)?;
     let mut l = Layout::build(Target::Ilp32, Vec::new(alloc))?;
-    l.can_follow(&definition).then_some(()).ok_or("no layout")?;
-    l.define(alloc, definition)?;
+    define(alloc, &mut l, struct_of(alloc, "d", members)?)?;
     Ok(l)
 }
 
@@ -303,9 +291,9 @@ fn values_of_deep_types(rt: HostRuntime) -> Result<(), Fail> {
     let alloc = rt.alloc();
     let l = deep_layout(alloc, 80_000)?;
     let path = deep_path(alloc, 80_000)?;
-    let d = CType::Struct(String::from_str(alloc, "d")?);
-    let first = CType::Struct(String::from_str(alloc, "d")?);
-    let second = CType::Struct(String::from_str(alloc, "d")?);
+    let d = struct_type(alloc, "d")?;
+    let first = struct_type(alloc, "d")?;
+    let second = struct_type(alloc, "d")?;
     let mut h = BothHeaps::with_layout(alloc, l, (4096, first), (8192, second))?;
     h.put(alloc, &UINT, 4096, &[], 7)?;
     h.copy(alloc, &d, 8192, 4096)?;
