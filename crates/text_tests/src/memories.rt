@@ -17,15 +17,17 @@ fn pointer(alloc: Global) -> Result<CType, AllocError> {
 }
 
 // struct p { int v; struct p *next; };
-fn layout(alloc: Global) -> Result<Layout, Fail> {
-    let mut layout = Layout::build(Target::Ilp32, Vec::new(alloc))?;
+fn definition(alloc: Global) -> Result<StructDef, AllocError> {
     let mut members = Vec::new(alloc);
     members.push((name(alloc, "v")?, CType::Int(IntType::Int)))?;
     members.push((name(alloc, "next")?, pointer(alloc)?))?;
-    let definition = StructDef {
-        name: name(alloc, "p")?,
-        members,
-    };
+    let name = name(alloc, "p")?;
+    Ok(StructDef { name, members })
+}
+
+fn layout(alloc: Global) -> Result<Layout, Fail> {
+    let mut layout = Layout::build(Target::Ilp32, Vec::new(alloc))?;
+    let definition = definition(alloc)?;
     layout
         .can_follow(&definition)
         .then_some(())
@@ -34,41 +36,49 @@ fn layout(alloc: Global) -> Result<Layout, Fail> {
     Ok(layout)
 }
 
-// struct p n; int x; int f(int i, struct p *q) {}
-fn unit(alloc: Global) -> Result<TypedUnit, Fail> {
-    let zero = Number::new(false, 0);
+fn global(alloc: Global, text: &str, ty: CType) -> Result<GlobalVar, AllocError> {
+    Ok(GlobalVar {
+        name: name(alloc, text)?,
+        ty,
+        initial: Value::Number(Number::new(false, 0)),
+    })
+}
+
+// struct p n; int x;
+fn globals(alloc: Global) -> Result<Vec<GlobalVar>, AllocError> {
     let mut globals = Vec::new(alloc);
-    globals.push(GlobalVar {
-        name: name(alloc, "n")?,
-        ty: CType::Struct(name(alloc, "p")?),
-        initial: Value::Number(zero),
-    })?;
-    globals.push(GlobalVar {
-        name: name(alloc, "x")?,
-        ty: CType::Int(IntType::Int),
-        initial: Value::Number(zero),
-    })?;
+    let n = CType::Struct(name(alloc, "p")?);
+    globals.push(global(alloc, "n", n)?)?;
+    globals.push(global(alloc, "x", CType::Int(IntType::Int))?)?;
+    Ok(globals)
+}
+
+fn parameter(alloc: Global, text: &str, ty: CType) -> Result<Variable, AllocError> {
+    let name = name(alloc, text)?;
+    Ok(Variable { name, ty })
+}
+
+// int f(int i, struct p *q) {}
+fn function(alloc: Global) -> Result<TypedFn, AllocError> {
     let mut params = Vec::new(alloc);
-    params.push(Variable {
-        name: name(alloc, "i")?,
-        ty: CType::Int(IntType::Int),
-    })?;
-    params.push(Variable {
-        name: name(alloc, "q")?,
-        ty: pointer(alloc)?,
-    })?;
-    let mut functions = Vec::new(alloc);
-    functions.push(TypedFn {
+    params.push(parameter(alloc, "i", CType::Int(IntType::Int))?)?;
+    params.push(parameter(alloc, "q", pointer(alloc)?)?)?;
+    Ok(TypedFn {
         name: name(alloc, "f")?,
         result: None,
         params,
         locals: Vec::new(alloc),
         folds_cast: false,
         body: Statements::None,
-    })?;
+    })
+}
+
+fn unit(alloc: Global) -> Result<TypedUnit, Fail> {
+    let mut functions = Vec::new(alloc);
+    functions.push(function(alloc)?)?;
     Ok(TypedUnit {
         layout: layout(alloc)?,
-        globals,
+        globals: globals(alloc)?,
         functions,
     })
 }

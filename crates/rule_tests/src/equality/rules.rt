@@ -115,6 +115,19 @@ fn verdict(
     Ok(check(t, left, right, setting, &facts, inside))
 }
 
+// Whether it says what a row does.
+fn agrees(
+    alloc: Global,
+    row: &Row<'_>,
+    setting: Setting<'_>,
+    inside: &Inside<'_>,
+) -> Result<bool, Fail> {
+    let t = tree::<EqualityRules>(alloc, row.rules)?;
+    let left = program_of(alloc, row.left)?;
+    let right = program_of(alloc, row.right)?;
+    Ok(row.says(verdict(setting, inside, &t, &left, &right)?))
+}
+
 /// Whether the kernel says what the row of a line does.
 pub(crate) fn is_so(alloc: Global, line: &str) -> Result<bool, Fail> {
     if is_remark(line) {
@@ -133,10 +146,7 @@ pub(crate) fn is_so(alloc: Global, line: &str) -> Result<bool, Fail> {
         phase: Phase::OnNumbers,
     };
     let inside = Inside::Parameters(&parameters, Phase::OnNumbers);
-    let t = tree::<EqualityRules>(alloc, row.rules)?;
-    let left = program_of(alloc, row.left)?;
-    let right = program_of(alloc, row.right)?;
-    Ok(row.says(verdict(setting, &inside, &t, &left, &right)?))
+    agrees(alloc, &row, setting, &inside)
 }
 
 const INSTANCES: &str = "\
