@@ -101,11 +101,41 @@ fn pair(alloc: Global) -> Result<(CType, Box<Exp>), AllocError> {
     Ok((CType::Array(word, 2), pointer))
 }
 
+// The number of a sign and a magnitude; zero has none.
+fn number(negative: bool, magnitude: u128) -> Number {
+    Number::new(negative && magnitude != 0, magnitude)
+}
+
 // A path to an element.
 fn element(alloc: Global, negative: bool, magnitude: u128) -> Result<Path, AllocError> {
-    let index = Exp::Number(Number::new(negative && magnitude != 0, magnitude));
+    let index = Exp::Number(number(negative, magnitude));
     let here = Box::new(alloc, Path::Here)?;
     Ok(Path::Index(Box::new(alloc, index)?, here))
+}
+
+// The value at a path from there.
+fn load(alloc: Global, path: Path) -> Result<Exp, AllocError> {
+    let (ty, pointer) = pair(alloc)?;
+    Ok(Exp::Load(ty, pointer, path))
+}
+
+// The address of a path from there.
+fn at(alloc: Global, path: Path) -> Result<Exp, AllocError> {
+    let (ty, pointer) = pair(alloc)?;
+    Ok(Exp::At(ty, pointer, path))
+}
+
+// The address so many words from there.
+fn padd(alloc: Global, count: Number) -> Result<Exp, AllocError> {
+    let (_, pointer) = pair(alloc)?;
+    let count = Box::new(alloc, Exp::Number(count))?;
+    Ok(Exp::Padd(CType::Int(IntType::UInt), pointer, count))
+}
+
+// Whether an expression without names is that word of 32 bits.
+fn is_word(alloc: Global, e: &Exp, bits: u32) -> Result<bool, Fail> {
+    let value = value_of(alloc, e)?.ok().ok_or("no value")?;
+    Ok(value == Value::Word(Word::new(32, u64::from(bits))))
 }
 
 #[test]
@@ -119,17 +149,15 @@ fn indices_of_any_size(rt: HostRuntime) -> Result<(), Fail> {
         (true, (1 << 127) - 1, 4100, 8),
     ];
     for (negative, magnitude, address, bits) in rows {
-        let (ty, pointer) = pair(alloc)?;
-        let load = Exp::Load(ty, pointer, element(alloc, negative, magnitude)?);
-        let (ty, pointer) = pair(alloc)?;
-        let at = Exp::At(ty, pointer, element(alloc, negative, magnitude)?);
-        let (_, pointer) = pair(alloc)?;
-        let index = Exp::Number(Number::new(negative, magnitude));
-        let padd = Exp::Padd(CType::Int(IntType::UInt), pointer, Box::new(alloc, index)?);
-        for (e, want) in [(&load, bits), (&at, address), (&padd, address)] {
-            let value = value_of(alloc, e)?.ok().ok_or("no value")?;
-            assert!(rt; value == Value::Word(Word::new(32, want)), "{magnitude}");
-        }
+        let path = element(alloc, negative, magnitude)?;
+        assert!(rt; is_word(alloc, &load(alloc, path)?, bits)?, "{magnitude}");
+        let path = element(alloc, negative, magnitude)?;
+        assert!(rt; is_word(alloc, &at(alloc, path)?, address)?, "{magnitude}");
+        let index = number(negative, magnitude);
+        assert!(rt;
+            is_word(alloc, &padd(alloc, index)?, address)?,
+            "{magnitude}"
+        );
     }
     Ok(())
 }

@@ -24,7 +24,7 @@ use std::test::Fail;
 use word_abstract::FunctionKinds;
 
 /// At which levels the functions of a text are to be.
-#[derive(Clone, Copy, Debug)]
+#[derive(Clone, Copy, Debug, PartialEq, Eq)]
 pub(crate) enum Chosen {
     Defaults,
     Words,
@@ -47,8 +47,8 @@ fn named(alloc: Global, name: &str, is_there: bool) -> Result<Vec<String>, Alloc
 fn generated(alloc: Global, text: &str, target: Target, chosen: Chosen) -> Result<SimplUnit, Fail> {
     let tokens = tokens(alloc, text.as_bytes())?;
     let unit = check_unit(alloc, target, &parse(alloc, &tokens)?)?;
-    let bytes = named(alloc, "f", matches!(chosen, Chosen::Bytes))?;
-    let words = named(alloc, "f", matches!(chosen, Chosen::Words))?;
+    let bytes = named(alloc, "f", chosen == Chosen::Bytes)?;
+    let words = named(alloc, "f", chosen == Chosen::Words)?;
     let modes = default_modes(alloc, &unit, &bytes, &words)?;
     Ok(generate(alloc, &unit, &modes)?)
 }
