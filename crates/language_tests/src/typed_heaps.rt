@@ -156,13 +156,13 @@ fn element(negative: bool, magnitude: u128) -> [Step; 3] {
     [Step::Field(0), Step::Index(index), Step::Field(1)]
 }
 
-#[test]
-fn padding_stays(rt: HostRuntime) -> Result<(), Fail> {
-    let alloc = rt.alloc();
-    let p = struct_type(alloc, "p")?;
-    let first = struct_type(alloc, "p")?;
-    let second = struct_type(alloc, "p")?;
-    let mut h = BothHeaps::new(alloc, (4096, first), (4104, second))?;
+// Writes two `p`, and then the first in place of the second.
+fn write_pairs(alloc: Global, h: &mut BothHeaps, p: &CType) -> Result<(), AllocError>
+    requires bytes { IsHeap h.old.l (OnBytes (memory_of h.old.bytes)) }
+    requires cells { IsHeap h.old.l (typed_content h.old.cells) }
+    ensures bytes { IsHeap h.new.l (OnBytes (memory_of h.new.bytes)) }
+    ensures cells { IsHeap h.new.l (typed_content h.new.cells) }
+{
     // An `unsigned` over a byte and padding is no part of a `p`.
     h.put(alloc, &UINT, 4096, &[], 0xaaaa_aaaa)?;
     h.put(alloc, &BYTE, 4096, &[], 1)?;
@@ -170,7 +170,17 @@ fn padding_stays(rt: HostRuntime) -> Result<(), Fail> {
     h.put(alloc, &UINT, 4104, &[], 0xbbbb_bbbb)?;
     h.put(alloc, &BYTE, 4104, &[], 3)?;
     h.put(alloc, &UINT, 4108, &[], 4)?;
-    h.copy(alloc, &p, 4104, 4096)?;
+    h.copy(alloc, p, 4104, 4096)
+}
+
+#[test]
+fn padding_stays(rt: HostRuntime) -> Result<(), Fail> {
+    let alloc = rt.alloc();
+    let p = struct_type(alloc, "p")?;
+    let first = struct_type(alloc, "p")?;
+    let second = struct_type(alloc, "p")?;
+    let mut h = BothHeaps::new(alloc, (4096, first), (4104, second))?;
+    write_pairs(alloc, &mut h, &p)?;
     assert!(rt; h.words(&UINT, 4104, &[]) == (Some(0xbbbb_bb01), Some(0)));
     for (address, k, want) in [(4096, 0, 1), (4096, 1, 2), (4104, 0, 1), (4104, 1, 2)] {
         let words = h.words(&p, address, &[Step::Field(k)]);
@@ -179,16 +189,38 @@ fn padding_stays(rt: HostRuntime) -> Result<(), Fail> {
     Ok(())
 }
 
+// Writes the two elements of a `q`, and what is before and behind them.
+fn write_elements(alloc: Global, h: &mut BothHeaps, q: &CType) -> Result<(), AllocError>
+    requires bytes { IsHeap h.old.l (OnBytes (memory_of h.old.bytes)) }
+    requires cells { IsHeap h.old.l (typed_content h.old.cells) }
+    ensures bytes { IsHeap h.new.l (OnBytes (memory_of h.new.bytes)) }
+    ensures cells { IsHeap h.new.l (typed_content h.new.cells) }
+{
+    h.put(alloc, q, 4096, &element(false, 0), 10)?;
+    h.put(alloc, q, 4096, &element(false, 1), 11)?;
+    h.put(alloc, &UINT, 4116, &[], 12)?;
+    h.put(alloc, &UINT, 4092, &[], 13)
+}
+
+// Writes at indices past the elements.
+fn write_past(alloc: Global, h: &mut BothHeaps, q: &CType) -> Result<(), AllocError>
+    requires bytes { IsHeap h.old.l (OnBytes (memory_of h.old.bytes)) }
+    requires cells { IsHeap h.old.l (typed_content h.old.cells) }
+    ensures bytes { IsHeap h.new.l (OnBytes (memory_of h.new.bytes)) }
+    ensures cells { IsHeap h.new.l (typed_content h.new.cells) }
+{
+    h.put(alloc, q, 4096, &element(false, 2), 99)?;
+    h.put(alloc, q, 4096, &element(true, 1), 99)?;
+    h.put(alloc, q, 4096, &element(false, 1 << 127), 99)
+}
+
 #[test]
 fn indices_of_elements(rt: HostRuntime) -> Result<(), Fail> {
     let alloc = rt.alloc();
     let q = struct_type(alloc, "q")?;
     let tag = struct_type(alloc, "q")?;
     let mut h = BothHeaps::new(alloc, (4096, tag), (8192, UINT))?;
-    h.put(alloc, &q, 4096, &element(false, 0), 10)?;
-    h.put(alloc, &q, 4096, &element(false, 1), 11)?;
-    h.put(alloc, &UINT, 4116, &[], 12)?;
-    h.put(alloc, &UINT, 4092, &[], 13)?;
+    write_elements(alloc, &mut h, &q)?;
     let rows = [
         (false, 0, 10, 10),
         (false, 1, 11, 11),
@@ -201,9 +233,7 @@ fn indices_of_elements(rt: HostRuntime) -> Result<(), Fail> {
         let words = h.words(&q, 4096, &element(negative, magnitude));
         assert!(rt; words == (Some(in_bytes), Some(in_cells)), "{magnitude}");
     }
-    h.put(alloc, &q, 4096, &element(false, 2), 99)?;
-    h.put(alloc, &q, 4096, &element(true, 1), 99)?;
-    h.put(alloc, &q, 4096, &element(false, 1 << 127), 99)?;
+    write_past(alloc, &mut h, &q)?;
     for (address, in_bytes, in_cells) in [
         (4100, 99, 10),
         (4108, 11, 11),
@@ -214,6 +244,18 @@ fn indices_of_elements(rt: HostRuntime) -> Result<(), Fail> {
         assert!(rt; words == (Some(in_bytes), Some(in_cells)), "{address}");
     }
     Ok(())
+}
+
+// Writes parts of a `q`, and a word that no tag covers.
+fn write_parts(alloc: Global, h: &mut BothHeaps, p: &CType) -> Result<(), AllocError>
+    requires bytes { IsHeap h.old.l (OnBytes (memory_of h.old.bytes)) }
+    requires cells { IsHeap h.old.l (typed_content h.old.cells) }
+    ensures bytes { IsHeap h.new.l (OnBytes (memory_of h.new.bytes)) }
+    ensures cells { IsHeap h.new.l (typed_content h.new.cells) }
+{
+    h.put(alloc, &UINT, 4108, &[], 5)?;
+    h.put(alloc, p, 4104, &[Step::Field(0)], 6)?;
+    h.put(alloc, &UINT, 8196, &[], 7)
 }
 
 #[test]
@@ -238,9 +280,7 @@ fn roots_of_two_types(rt: HostRuntime) -> Result<(), Fail> {
     for (t, address, want) in roots {
         assert!(rt; h.covers(t, address) == (want, want), "{address}");
     }
-    h.put(alloc, &UINT, 4108, &[], 5)?;
-    h.put(alloc, &p, 4104, &[Step::Field(0)], 6)?;
-    h.put(alloc, &UINT, 8196, &[], 7)?;
+    write_parts(alloc, &mut h, &p)?;
     assert!(rt; h.words(&q, 4096, &element(false, 1)) == (Some(5), Some(5)));
     assert!(rt; h.words(&BYTE, 4104, &[]) == (Some(6), Some(6)));
     assert!(rt; h.words(&UINT, 8196, &[]) == (Some(7), Some(0)));
@@ -286,6 +326,18 @@ fn deep_path(alloc: Global, depth: u32) -> Result<Vec<Step>, AllocError> {
     Ok(path)
 }
 
+// Writes a `d`, puts it in place of another, and writes it again at the path.
+fn write_deep(alloc: Global, h: &mut BothHeaps, d: &CType, path: &[Step]) -> Result<(), AllocError>
+    requires bytes { IsHeap h.old.l (OnBytes (memory_of h.old.bytes)) }
+    requires cells { IsHeap h.old.l (typed_content h.old.cells) }
+    ensures bytes { IsHeap h.new.l (OnBytes (memory_of h.new.bytes)) }
+    ensures cells { IsHeap h.new.l (typed_content h.new.cells) }
+{
+    h.put(alloc, &UINT, 4096, &[], 7)?;
+    h.copy(alloc, d, 8192, 4096)?;
+    h.put(alloc, d, 4096, path, 8)
+}
+
 #[test]
 fn values_of_deep_types(rt: HostRuntime) -> Result<(), Fail> {
     let alloc = rt.alloc();
@@ -295,10 +347,8 @@ fn values_of_deep_types(rt: HostRuntime) -> Result<(), Fail> {
     let first = struct_type(alloc, "d")?;
     let second = struct_type(alloc, "d")?;
     let mut h = BothHeaps::with_layout(alloc, l, (4096, first), (8192, second))?;
-    h.put(alloc, &UINT, 4096, &[], 7)?;
-    h.copy(alloc, &d, 8192, 4096)?;
+    write_deep(alloc, &mut h, &d, &path)?;
     assert!(rt; h.words(&UINT, 8192, &[]) == (Some(7), Some(7)));
-    h.put(alloc, &d, 4096, &path, 8)?;
     assert!(rt; h.words(&UINT, 4096, &[]) == (Some(8), Some(8)));
     assert!(rt; h.words(&d, 8192, &path) == (Some(7), Some(7)));
     Ok(())
