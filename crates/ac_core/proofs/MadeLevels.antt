@@ -7,7 +7,7 @@ use Rattle.ac_expr.specs.SameExp.{same_exp}
 use Rattle.simpl_lang.specs.Command.{SimplUnit}
 use Rattle.c_lang.specs.Typed.{TypedFn, TypedUnit}
 use Rattle.generation.specs.Generate.{function_of, signature_of, generated}
-use Rattle.acceptance_laws.specs.Made.{tidy_last, all_steps_with, tidy_certificate}
+use Rattle.pipeline.specs.Made.{tidy_last, all_steps_with, tidy_certificate}
 
 each_level : (u : SimplUnit) (l : Layout) (levels : Name → Level) (fs : List TypedFn) →
     map (λ c. c.level) (all_steps_with tidy_last same_exp u (map (λ f. function_of l (levels f.name) f) fs) (map (λ f. signature_of l (levels f.name) f) fs))

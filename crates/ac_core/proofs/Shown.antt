@@ -6,8 +6,8 @@ use Rattle.generation.specs.Generate.{generated}
 use Rattle.ac_expr.specs.SameExp.{same_exp}
 use Rattle.simpl_lang.specs.Command.{SimplUnit}
 use Rattle.monad_lang.specs.Program.{FinalUnit}
-use Rattle.acceptance_laws.specs.Made.{tidy_certificate}
-use Rattle.acceptance_laws.specs.Units.{last_unit}
+use Rattle.pipeline.specs.Made.{tidy_certificate}
+use Rattle.pipeline.specs.Units.{last_unit}
 use Rattle.certificate_text.specs.CertificateText.{certificate_text}
 use Rattle.text_answers.specs.TextAnswer.{IsRead}
 use Rattle.command_line.specs.Words.{bytes_names, words_names, target_of, first_unknown}

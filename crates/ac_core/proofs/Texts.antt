@@ -29,10 +29,10 @@ use Rattle.generation.specs.Generate.{generated}
 use Rattle.generated_texts.specs.HasTexts as made
 use Rattle.generated_texts.specs.HasTexts.{is_binder, is_result, function_has_text, signature_has_text}
 use Rattle.generated_texts.proofs.UnitTexts.{generated_has_texts}
-use Rattle.heap_ready.specs.Ready.{CallsLifted}
+use Rattle.pipeline.specs.Ready.{CallsLifted}
 use Rattle.acceptance.specs.Certificate.{Steps}
-use Rattle.acceptance_laws.specs.Made.{tidy_certificate}
-use Rattle.acceptance_laws.specs.Units.{on_numbers, functions_with, last_unit}
+use Rattle.pipeline.specs.Made.{tidy_certificate}
+use Rattle.pipeline.specs.Units.{on_numbers, functions_with, last_unit}
 use Rattle.certificate_text.specs.CertificateText as certificates
 use Rattle.made_texts.specs.HasTexts.{AllHaveTexts}
 use Rattle.made_texts.proofs.MadeTexts.{generated_texts}

@@ -9,13 +9,13 @@ use Rattle.c_lang.specs.WellTyped.{IsWellTyped}
 use Rattle.c_meaning.specs.Levels.{AreDefaultLevels}
 use Rattle.generation.specs.Generate.{generated}
 use Rattle.ac_expr.specs.SameExp.{same_exp}
-use Rattle.heap_ready.specs.Ready.{CallsLifted}
-use Rattle.heap_ready.proofs.DefaultLevels.{default_calls_lifted}
+use Rattle.pipeline.specs.Ready.{CallsLifted}
+use Rattle.pipeline.proofs.DefaultLevels.{default_calls_lifted}
 use Rattle.acceptance.specs.Certificate.{Steps}
 use Rattle.acceptance.specs.Accepted.{IsAccepted}
-use Rattle.acceptance_laws.specs.Made.{tidy_certificate}
-use Rattle.acceptance_laws.specs.Units.{last_unit}
-use Rattle.acceptance_laws.proofs.MadeAccepted.{last_are_tidy}
+use Rattle.pipeline.specs.Made.{tidy_certificate}
+use Rattle.pipeline.specs.Units.{last_unit}
+use Rattle.pipeline.proofs.MadeAccepted.{last_are_tidy}
 use Rattle.unit_translation.proofs.LastUnit.{certificate_is_accepted, made_is_exact}
 use Rattle.unit_translation.proofs.Formed.{last_formed, last_programs, last_forms}
 use Rattle.certificate_text.specs.CertificateText as certificates

@@ -19,7 +19,7 @@ use Rattle.acceptance.specs.Accepted.{IsAccepted}
 use Rattle.acceptance.specs.UnitVerdict.{DecidesUnit}
 use Rattle.acceptance.specs.CodePlace.{unit_verdict_of}
 use Rattle.acceptance.specs.declared.places.Refusal as code
-use Rattle.acceptance_laws.specs.Made.{tidy_certificate}
+use Rattle.pipeline.specs.Made.{tidy_certificate}
 use Rattle.certificate_text.specs.CertificateText.{Two, certificate_text}
 use Rattle.text_answers.specs.TextAnswer.{IsRead}
 use Rattle.text_answers.proofs.WellTyped.{well_typed}

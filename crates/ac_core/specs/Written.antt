@@ -13,11 +13,11 @@ use Rattle.command_line.specs.Words.{Form, AsTree, AsLines, AsCertificate, targe
 use Rattle.c_lang.specs.Typed.{TypedUnit}
 use Rattle.c_meaning.specs.Levels.{AreDefaultLevels}
 use Rattle.generation.specs.Generate.{generated}
-use Rattle.acceptance_laws.specs.Made.{AreTidy}
+use Rattle.pipeline.specs.Made.{AreTidy}
 use Rattle.unit_translation.specs.Forms.{AreOfTheirForms}
 use Rattle.acceptance.specs.Certificate.{Steps}
 use Rattle.acceptance.specs.Accepted.{IsAccepted}
-use Rattle.acceptance_laws.specs.Units.{last_unit}
+use Rattle.pipeline.specs.Units.{last_unit}
 use Rattle.certificate_text.specs.CertificateText.{Certificate, Two, certificate_text, certificate_tree}
 use Rattle.certificate_text.specs.Answer.{IsCertificateText}
 use Rattle.exactness.specs.Exact.{AreProgramsOf, IsExact}

@@ -17,8 +17,8 @@ use Rattle.acceptance.specs.Certificate.{Steps}
 use Rattle.acceptance.specs.Accepted.{IsAccepted}
 use Rattle.acceptance.specs.UnitVerdict.{IsUnitVerdict}
 use Rattle.acceptance.proofs.UnitVerdicts.{unit_verdicts_decide}
-use Rattle.acceptance_laws.proofs.AcceptedExact.{accepted_is_exact}
-use Rattle.steady_units.proofs.AcceptedSteady.{accepted_is_steady}
+use Rattle.pipeline.proofs.AcceptedExact.{accepted_is_exact}
+use Rattle.pipeline.proofs.AcceptedSteady.{accepted_is_steady}
 use Rattle.unit_translation.proofs.LevelsThere.{levels_there}
 use Rattle.unit_translation.proofs.Formed.{last_formed, last_programs, last_forms}
 use Rattle.answers.specs.declared.status.Status.{Status}

@@ -11,9 +11,9 @@ use Rattle.c_lang.specs.WellTyped.{IsWellTyped}
 use Rattle.generation.specs.Generate.{generated}
 use Rattle.acceptance.specs.Certificate.{Steps}
 use Rattle.acceptance.specs.Accepted.{IsAccepted}
-use Rattle.acceptance_laws.specs.Units.{on_numbers, functions_with, last_unit}
-use Rattle.acceptance_laws.proofs.AcceptedExact.{accepted_is_exact}
-use Rattle.steady_units.proofs.AcceptedSteady.{accepted_is_steady}
+use Rattle.pipeline.specs.Units.{on_numbers, functions_with, last_unit}
+use Rattle.pipeline.proofs.AcceptedExact.{accepted_is_exact}
+use Rattle.pipeline.proofs.AcceptedSteady.{accepted_is_steady}
 use Rattle.unit_translation.proofs.Formed.{last_formed, last_programs, last_forms}
 use Rattle.certificate_text.specs.CertificateText.{Certificate}
 use Rattle.certificate_text.specs.Answer.{IsCertificateText}

@@ -13,8 +13,8 @@ use Rattle.acceptance.specs.Certificate.{Steps}
 use Rattle.acceptance.specs.Accepted.{IsAccepted}
 use Rattle.acceptance.specs.Verdict.{Place}
 use Rattle.acceptance.specs.UnitVerdict.{of_function, IsUnitVerdict}
-use Rattle.acceptance_laws.specs.Units.{last_unit}
-use Rattle.steady_units.specs.SteadyUnits.{IsUnitSteady}
+use Rattle.pipeline.specs.Units.{last_unit}
+use Rattle.pipeline.specs.SteadyUnits.{IsUnitSteady}
 use Rattle.unit_translation.specs.Forms.{AreOfTheirForms}
 use Rattle.expression_text.specs.declared.fault.TextFault.{TextFault}
 use Rattle.expression_text.specs.declared.fault.TextFault.TheVariants as F

@@ -11,7 +11,7 @@ ghost use Rattle.c_lang.specs.WellTyped.{IsWellTyped};
 ghost use Rattle.generation.specs.Generate.{generated};
 ghost use Rattle.acceptance.specs.Accepted.{IsAccepted};
 ghost use Rattle.acceptance.specs.CodeCertificate.{steps_of};
-ghost use Rattle.acceptance_laws.specs.Units.{last_unit};
+ghost use Rattle.pipeline.specs.Units.{last_unit};
 ghost use Rattle.certificate_text.specs.CodeCertificate.{certificate_of};
 ghost use Rattle.checking.specs.Refused.{names_apart, AreAtLevels, IsJudged, IsAnswer, Decides};
 ghost use Rattle.checking.specs.CodeRefused.{answer_of};

@@ -5,7 +5,7 @@ ghost use Rattle.expression_lang.specs.CodeSignature.{signature_of};
 ghost use Rattle.simpl_lang.specs.CodeCommand.{simpl_unit_of};
 ghost use Rattle.monad_lang.specs.CodeProgram.{final_fn_of, final_unit_of};
 ghost use Rattle.acceptance.specs.CodeCertificate.{steps_of};
-ghost use Rattle.acceptance_laws.specs.Units.{functions_with, on_numbers};
+ghost use Rattle.pipeline.specs.Units.{functions_with, on_numbers};
 
 use acceptance::Steps;
 use expression_lang::Signature;

@@ -19,7 +19,7 @@ ghost use Rattle.acceptance.specs.Accepted.{IsAccepted};
 ghost use Rattle.acceptance.specs.Verdict.{IsFunctionVerdict};
 ghost use Rattle.acceptance.specs.CodeOutputs.{has_result};
 ghost use Rattle.acceptance.specs.CodePlace.{verdict_of};
-ghost use Rattle.acceptance_laws.specs.Units.{functions_with, last_unit, on_numbers};
+ghost use Rattle.pipeline.specs.Units.{functions_with, last_unit, on_numbers};
 ghost use Rattle.certificate_text.specs.CertificateText as texts;
 ghost use Rattle.certificate_text.specs.Answer.{IsCertificateText};
 ghost use Rattle.certificate_text.specs.CodeIndex.{index_in};

@@ -30,13 +30,13 @@ use Rattle.c_lang.specs.Typed.{TypedUnit}
 use Rattle.c_lang.specs.WellTyped.{IsWellTyped}
 use Rattle.generation.specs.Generate.{generated}
 use Rattle.generation.proofs.WellFormedUnits.{generated_is_well_formed}
-use Rattle.heap_ready.specs.Ready.{CallsLifted}
+use Rattle.pipeline.specs.Ready.{CallsLifted}
 use Rattle.acceptance.specs.Certificate.{Steps}
 use Rattle.acceptance.specs.Accepted.{is_on_words, word_context, IsHeapStep, IsFunctionAccepted, AreFunctionsAccepted, IsAccepted}
-use Rattle.acceptance_laws.specs.Made.{local_made, heap_made, steps_with, all_steps_with, tidy_last, tidy_certificate, begins_at}
-use Rattle.acceptance_laws.proofs.MadeSteps.{before_is}
-use Rattle.acceptance_laws.proofs.UnitsMade.{results_there}
-use Rattle.acceptance_laws.proofs.MadeAccepted.{tidy_is_accepted}
+use Rattle.pipeline.specs.Made.{local_made, heap_made, steps_with, all_steps_with, tidy_last, tidy_certificate, begins_at}
+use Rattle.pipeline.proofs.MadeSteps.{before_is}
+use Rattle.pipeline.proofs.UnitsMade.{results_there}
+use Rattle.pipeline.proofs.MadeAccepted.{tidy_is_accepted}
 use Rattle.certificate_text.specs.CertificateText.{is_heap, is_function}
 use Rattle.made_texts.specs.Few.{binds_few}
 use Rattle.made_texts.specs.HasTexts.{HasTexts, AllHaveTexts, UnitHasTexts}

@@ -8,9 +8,9 @@ ghost use Rattle.simpl_lang.specs.Sorted.{IsWellFormed};
 ghost use Rattle.c_lang.specs.Typed.{TypedUnit};
 ghost use Rattle.c_lang.specs.WellTyped.{IsWellTyped};
 ghost use Rattle.generation.specs.Generate.{generated};
-ghost use Rattle.heap_ready.specs.Ready.{CallsLifted};
+ghost use Rattle.pipeline.specs.Ready.{CallsLifted};
 ghost use Rattle.acceptance.specs.Accepted.{IsAccepted};
-ghost use Rattle.acceptance_laws.specs.Made.{tidy_certificate};
+ghost use Rattle.pipeline.specs.Made.{tidy_certificate};
 ghost use Rattle.certificate_text.specs.CertificateText.{Version, is_certificate};
 ghost use Rattle.made_texts.specs.HasTexts.{UnitHasTexts};
 

@@ -14,8 +14,8 @@ use Rattle.rule_exn.specs.Units.{AreTakenTo, IsUnitTakenTo}
 use Rattle.rule_exn.proofs.EliminatedTaken.{eliminated_taken, eliminated_flat}
 use Rattle.rule_exn.proofs.EliminatedSorted.{eliminated_sorted}
 use Rattle.rule_local.specs.Lifted.{AllFlat}
-use Rattle.heap_ready.specs.Ready.{function_eliminated, unit_eliminated}
-use Rattle.word_ready.proofs.LocalsKnown.{locals_known}
+use Rattle.pipeline.specs.Ready.{function_eliminated, unit_eliminated}
+use Rattle.pipeline.proofs.LocalsKnown.{locals_known}
 
 functions_taken : (fs : List SimplFn) → AreTakenTo fs (map function_eliminated fs)
 functions_taken [] = tt

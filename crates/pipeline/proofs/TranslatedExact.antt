@@ -28,11 +28,11 @@ use Rattle.c_meaning.specs.Levels.{AreDefaultLevels}
 use Rattle.generation.specs.Generate.{function_of, signature_of, generated}
 use Rattle.generation.proofs.FlagUnused.{generated_leaves_the_flag}
 use Rattle.generation.proofs.WellFormedUnits.{generated_is_well_formed}
-use Rattle.heap_ready.specs.Ready.{function_eliminated, unit_eliminated, CallsLifted}
-use Rattle.heap_ready.proofs.UnitsReady.{generates_ready}
-use Rattle.heap_ready.proofs.DefaultLevels.{default_calls_lifted}
-use Rattle.word_ready.specs.GeneratesReady.{kinds_of_functions, kinds_in, on_words, AreWordReady}
-use Rattle.word_ready.proofs.UnitsReady.{generates_word_ready}
+use Rattle.pipeline.specs.Ready.{function_eliminated, unit_eliminated, CallsLifted}
+use Rattle.pipeline.proofs.UnitsForHeaps.{generates_ready}
+use Rattle.pipeline.proofs.DefaultLevels.{default_calls_lifted}
+use Rattle.pipeline.specs.GeneratesReady.{kinds_of_functions, kinds_in, on_words, AreWordReady}
+use Rattle.pipeline.proofs.UnitsForNumbers.{generates_word_ready}
 use Rattle.exactness.specs.Exact.{results_of, ArePrograms, AreProgramsOf, IsExact}
 use Rattle.pipeline.specs.Taken.{AreTaken}
 use Rattle.pipeline.specs.Translated.{unit_translated}

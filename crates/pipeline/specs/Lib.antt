@@ -1,4 +1,10 @@
+pub mod CommandReady
+pub mod Ready
+pub mod GeneratesReady
 pub mod Chain
 pub mod Whole
 pub mod Taken
 pub mod Translated
+pub mod Units
+pub mod Made
+pub mod SteadyUnits

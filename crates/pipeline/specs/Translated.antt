@@ -8,7 +8,7 @@ use Rattle.monad_lang.specs.Program.{FinalUnit}
 use Rattle.rule_word.specs.UnitAbstracted.{unit_abstracted}
 use Rattle.c_lang.specs.Typed.{TypedUnit}
 use Rattle.generation.specs.Generate.{generated}
-use Rattle.word_ready.specs.GeneratesReady.{kinds_in, on_words}
+use Rattle.pipeline.specs.GeneratesReady.{kinds_in, on_words}
 
 -- expressions are compared by a test
 abbrev pub unit_translated : (Exp → Exp → Bool) → TypedUnit → (Name → Level) → FinalUnit

@@ -7,7 +7,7 @@ use Rattle.c_memory.specs.declared.faults.HeapFault.TheVariants as H
 use Rattle.c_lang.specs.Typed.{TypedUnit}
 use Rattle.c_lang.specs.WellTyped.{IsWellTyped}
 use Rattle.acceptance.specs.Certificate.{Steps}
-use Rattle.acceptance_laws.proofs.AcceptedExact.{accepted_is_exact}
+use Rattle.pipeline.proofs.AcceptedExact.{accepted_is_exact}
 use Rattle.certificate_text.specs.CertificateText.{Certificate}
 use Rattle.expression_text.specs.declared.fault.TextFault.TheVariants as F
 use Rattle.memory_text.specs.MemoryText.{Memory, most_turns}

@@ -5,7 +5,7 @@ use Rattle.expression_lang.specs.GuardKind.{GuardKind}
 use Rattle.expression_lang.specs.Machine.{Returned}
 use Rattle.monad_lang.specs.Run.{Answer}
 use Rattle.program_runs.specs.WideRun.{Trouble, Fails}
-use Rattle.acceptance_laws.proofs.AcceptedExact.{accepted_is_exact}
+use Rattle.pipeline.proofs.AcceptedExact.{accepted_is_exact}
 use Rattle.certificate_text.specs.CertificateText.{Certificate}
 use Rattle.run_start.specs.Start.{bytes_in, globals_in, arguments_in, nested_calls}
 use Rattle.run_lines.specs.RunLines.{Verdict, verdict, verdict_text, line_end, c_lines, program_lines}

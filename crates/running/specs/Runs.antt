@@ -18,7 +18,7 @@ use Rattle.c_meaning.specs.Kinds.{variables}
 use Rattle.generation.specs.Generate.{generated}
 use Rattle.exactness.specs.Exact.{Begin, IsBegin, ReturnsAs, IsUndefined, c_ends, heap_for}
 use Rattle.acceptance.specs.Certificate.{Steps}
-use Rattle.acceptance_laws.specs.Units.{last_unit}
+use Rattle.pipeline.specs.Units.{last_unit}
 use Rattle.memory_text.specs.MemoryText.{Memory}
 use Rattle.run_start.specs.Start.{begin_of}
 use Rattle.run_lines.specs.RunLines.{run_lines}

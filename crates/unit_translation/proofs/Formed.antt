@@ -16,8 +16,8 @@ use Rattle.generation.proofs.WellFormedUnits.{generated_is_well_formed}
 use Rattle.exactness.specs.Exact.{AreProgramsOf}
 use Rattle.acceptance.specs.Certificate.{Steps}
 use Rattle.acceptance.specs.Accepted.{is_on_numbers, AreFunctionsAccepted, IsAccepted}
-use Rattle.acceptance_laws.specs.Units.{on_numbers, functions_with, last_unit}
-use Rattle.acceptance_laws.proofs.AcceptedTaken.{accepted_units_are_taken}
+use Rattle.pipeline.specs.Units.{on_numbers, functions_with, last_unit}
+use Rattle.pipeline.proofs.AcceptedTaken.{accepted_units_are_taken}
 use Rattle.unit_translation.specs.Forms.{AreOfTheirForms}
 
 forms : (u : SimplUnit) (fs : List SimplFn) (ss : List Signature) (cs : List Steps) → are_signed fs ss ≡ true →

@@ -12,12 +12,12 @@ use Rattle.c_lang.specs.Typed.{TypedUnit}
 use Rattle.c_lang.specs.WellTyped.{IsWellTyped}
 use Rattle.generation.specs.Generate.{generated}
 use Rattle.exactness.specs.Exact.{IsExact}
-use Rattle.heap_ready.specs.Ready.{CallsLifted}
+use Rattle.pipeline.specs.Ready.{CallsLifted}
 use Rattle.acceptance.specs.Accepted.{IsAccepted}
-use Rattle.acceptance_laws.specs.Made.{tidy_last, all_steps_with, tidy_certificate}
-use Rattle.acceptance_laws.specs.Units.{on_numbers, functions_with, last_unit}
-use Rattle.acceptance_laws.proofs.AcceptedExact.{accepted_is_exact}
-use Rattle.acceptance_laws.proofs.MadeAccepted.{tidy_is_accepted}
+use Rattle.pipeline.specs.Made.{tidy_last, all_steps_with, tidy_certificate}
+use Rattle.pipeline.specs.Units.{on_numbers, functions_with, last_unit}
+use Rattle.pipeline.proofs.AcceptedExact.{accepted_is_exact}
+use Rattle.pipeline.proofs.MadeAccepted.{tidy_is_accepted}
 use Rattle.unit_translation.specs.CodeTranslated.{last_program, last_functions}
 
 functions_are : (u : SimplUnit) (fs : List SimplFn) (ss : List Signature) →

@@ -13,7 +13,7 @@ use Rattle.c_lang.specs.WellTyped.{IsWellTyped}
 use Rattle.generation.specs.Generate.{generated}
 use Rattle.generation.proofs.FlagUnused.{generated_leaves_the_flag}
 use Rattle.generation.proofs.WellFormedUnits.{generated_is_well_formed}
-use Rattle.heap_ready.specs.Ready.{function_eliminated, unit_eliminated}
+use Rattle.pipeline.specs.Ready.{function_eliminated, unit_eliminated}
 use Rattle.pipeline.proofs.EliminatedUnits.{unit_formed}
 use Rattle.unit_translation.specs.CodeTranslated.{IsReadyToLift, AllReadyToLift}
 

@@ -13,8 +13,8 @@ use Rattle.rule_local.specs.Rule as Locals
 use Rattle.rule_heap.specs.Rule as Heaps
 use Rattle.acceptance.specs.Certificate.{Step}
 use Rattle.c_lang.specs.Typed.{TypedFn}
-use Rattle.acceptance_laws.specs.Made.{tidy_last, steps_with}
-use Rattle.acceptance_laws.specs.Units.{on_numbers}
+use Rattle.pipeline.specs.Made.{tidy_last, steps_with}
+use Rattle.pipeline.specs.Units.{on_numbers}
 
 -- the program before words become numbers
 abbrev pub program_before : Step Mon Locals.Rule → Option (Step Mon Heaps.Rule) → Mon

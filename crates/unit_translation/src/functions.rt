@@ -7,7 +7,7 @@ ghost use Rattle.expression_lang.specs.CodeSignature.{binder_of, signature_of};
 ghost use Rattle.simpl_lang.specs.CodeCommand.{simpl_fn_of, simpl_unit_of};
 ghost use Rattle.monad_lang.specs.CodeProgram.{mon_of, final_fn_of};
 ghost use Rattle.rule_word.specs.Scopes.{result_as_list};
-ghost use Rattle.acceptance_laws.specs.Units.{on_numbers};
+ghost use Rattle.pipeline.specs.Units.{on_numbers};
 ghost use Rattle.unit_translation.specs.CodeTranslated.{IsReadyToLift, last_program};
 
 use crate::steps::steps;

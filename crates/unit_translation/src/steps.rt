@@ -16,7 +16,7 @@ ghost use Rattle.rule_heap.specs.CodeRule as heaps;
 ghost use Rattle.rule_word.specs.CodeRule as words;
 ghost use Rattle.rule_eq.specs.CodeRule as equality;
 ghost use Rattle.acceptance.specs.CodeCertificate.{step_of, steps_of};
-ghost use Rattle.acceptance_laws.specs.Made.{exception_made, local_made, heap_made, word_made, tidy_last, steps_with};
+ghost use Rattle.pipeline.specs.Made.{exception_made, local_made, heap_made, word_made, tidy_last, steps_with};
 ghost use Rattle.unit_translation.specs.CodeTranslated.{IsReadyToLift, program_before};
 
 use acceptance::{Step, Steps};

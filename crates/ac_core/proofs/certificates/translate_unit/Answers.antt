@@ -7,9 +7,9 @@ use Rattle.c_lang.specs.CodeTyped.{unit_of}
 use Rattle.generation.specs.Generate.{generated}
 use Rattle.acceptance.specs.Certificate.{Steps}
 use Rattle.acceptance.specs.Accepted.{IsAccepted}
-use Rattle.acceptance_laws.specs.Made.{tidy_certificate, AreTidy}
-use Rattle.acceptance_laws.specs.Units.{last_unit}
-use Rattle.acceptance_laws.proofs.MadeAccepted.{last_are_tidy}
+use Rattle.pipeline.specs.Made.{tidy_certificate, AreTidy}
+use Rattle.pipeline.specs.Units.{last_unit}
+use Rattle.pipeline.proofs.MadeAccepted.{last_are_tidy}
 use Rattle.unit_translation.specs.CodeTranslated.{AllReadyToLift}
 use Rattle.unit_translation.proofs.ReadyToLift.{generated_are_ready}
 use Rattle.unit_translation.proofs.LastUnit.{certificate_is_accepted}

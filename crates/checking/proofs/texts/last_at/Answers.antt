@@ -7,7 +7,7 @@ use Rattle.monad_lang.specs.CodeProgram.{mon_of}
 use Rattle.monad_lang.specs.declared.program.Mon as M
 use Rattle.acceptance.specs.Certificate.{Steps}
 use Rattle.acceptance.specs.CodeCertificate.{steps_of}
-use Rattle.acceptance_laws.specs.Units.{on_numbers}
+use Rattle.pipeline.specs.Units.{on_numbers}
 use Rattle.checking.proofs.texts.last_at.Goals as goal
 
 pub returns : goal.returns

@@ -5,7 +5,7 @@ use Rattle.expression_lang.specs.CodeSignature.{binder_of}
 use Rattle.expression_lang.specs.Signature.{kinds_of}
 use Rattle.expression_lang.specs.View.{views_at}
 use Rattle.acceptance.specs.Accepted.{IsAccepted}
-use Rattle.acceptance_laws.specs.Units.{last_unit}
+use Rattle.pipeline.specs.Units.{last_unit}
 use Rattle.checking.specs.Checked.{level_in}
 use Rattle.running.specs.CodeRuns.{unit_at}
 use Rattle.running.proofs.ProgramRuns.{within, is_there, takes_them, globals_typed, program_end}

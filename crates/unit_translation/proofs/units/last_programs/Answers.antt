@@ -9,8 +9,8 @@ use Rattle.monad_lang.specs.Sorted.{IsWellFormed}
 use Rattle.c_lang.specs.CodeTyped.{unit_of}
 use Rattle.generation.specs.Generate.{generated}
 use Rattle.exactness.specs.Exact.{AreProgramsOf, IsExact}
-use Rattle.acceptance_laws.specs.Made.{tidy_certificate}
-use Rattle.acceptance_laws.specs.Units.{last_unit}
+use Rattle.pipeline.specs.Made.{tidy_certificate}
+use Rattle.pipeline.specs.Units.{last_unit}
 use Rattle.unit_translation.specs.CodeTranslated.{AllReadyToLift}
 use Rattle.unit_translation.specs.Forms.{AreOfTheirForms}
 use Rattle.unit_translation.proofs.ReadyToLift.{generated_are_ready}

@@ -4,7 +4,7 @@ use Rattle.ac_expr.specs.SameExp.{same_exp}
 use Rattle.expression_lang.specs.CodeSignature.{signature_of}
 use Rattle.simpl_lang.specs.CodeCommand.{simpl_fn_of, simpl_unit_of}
 use Rattle.acceptance.specs.CodeCertificate.{steps_of}
-use Rattle.acceptance_laws.specs.Made.{tidy_last, all_steps_with, tidy_certificate}
+use Rattle.pipeline.specs.Made.{tidy_last, all_steps_with, tidy_certificate}
 use Rattle.unit_translation.specs.CodeTranslated.{AllReadyToLift}
 use Rattle.unit_translation.proofs.units.translate_functions.Given as goal
 

@@ -3,8 +3,8 @@ use Rattle.std.proofs.Common.{sym, subst, ◌∙◌, ap}
 use Rattle.ac_expr.specs.SameExp.{same_exp}
 use Rattle.simpl_lang.specs.CodeCommand.{simpl_unit_of}
 use Rattle.monad_lang.specs.Program.{FinalUnit}
-use Rattle.acceptance_laws.specs.Made.{AreTidy}
-use Rattle.acceptance_laws.proofs.MadeAccepted.{last_are_tidy}
+use Rattle.pipeline.specs.Made.{AreTidy}
+use Rattle.pipeline.proofs.MadeAccepted.{last_are_tidy}
 use Rattle.unit_translation.proofs.LastUnit.{made_is_last}
 use Rattle.unit_translation.proofs.units.translate_generated.Goals as goal
 

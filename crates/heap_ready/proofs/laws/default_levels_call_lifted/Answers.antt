@@ -1,5 +1,0 @@
-use Rattle.heap_ready.proofs.DefaultLevels.{default_calls_lifted}
-use Rattle.heap_ready.proofs.laws.default_levels_call_lifted.Goals as goal
-
-pub returns : goal.returns
-returns c = λ u bytes words levels typed default'. default_calls_lifted u bytes words levels default' typed

@@ -1,6 +1,0 @@
-use Rattle.heap_ready.proofs.GeneratedReady.{commands_ready, whole_ready}
-use Rattle.generation.specs.Generate.{commands}
-use Rattle.heap_ready.proofs.laws.generated_commands_are_ready.Goals as goal
-
-pub returns : goal.returns
-returns c = λ g level lifted around ss result typed. whole_ready g level lifted result (commands g.layout level ss) (commands_ready g level lifted around ss typed)

@@ -1,8 +1,0 @@
-use Rattle.heap_ready.proofs.LiftedReady.{lifted_ready, locals_lifted_ready}
-use Rattle.heap_ready.proofs.laws.ready_commands_are_lifted_ready.Goals as goal
-
-pub returns : goal.returns
-returns c = record {
-  part = lifted_ready;
-  body = locals_lifted_ready;
-}

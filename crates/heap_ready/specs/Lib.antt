@@ -1,2 +1,0 @@
-pub mod CommandReady
-pub mod Ready

@@ -1,5 +1,0 @@
-pub mod AcceptedSteady
-pub mod CallsKept
-pub mod KindWords
-pub mod LiftedCalls
-pub mod TakenSteady
