@@ -8,7 +8,6 @@ system refuse that one. Each run has to end with status 8 and nothing written, o
 """
 
 import os
-import re
 import subprocess
 import sys
 import tempfile
@@ -67,17 +66,15 @@ def write(name, text):
 
 def main():
     program = os.path.abspath(sys.argv[1])
-    tests = os.path.join(os.path.dirname(os.path.dirname(os.path.realpath(__file__))), "crates/end_to_end/src/checks.rt")
-    with open(tests, encoding="utf-8") as file:
-        certificate = re.search(r'CERTIFICATE: &str =\s*"([^"]*)"', file.read())[1]
     with tempfile.TemporaryDirectory() as room:
         os.chdir(room)
         write("refuser.c", REFUSER)
         subprocess.run(["cc", "-shared", "-fPIC", "-O2", "-o", "refuser.so", "refuser.c", "-ldl"], check=True)
-        for name, text in (("sum.c", SUM), ("seven.c", SEVEN), ("swap.c", SWAP), ("swap.mem", MEMORY), ("seven.cert", certificate + "\n")):
+        for name, text in (("sum.c", SUM), ("seven.c", SEVEN), ("swap.c", SWAP), ("swap.mem", MEMORY)):
             write(name, text)
-        with open("swap.cert", "wb") as file:
-            subprocess.run([program, "translate", "swap.c"], stdout=file, check=True)
+        for name in ("seven", "swap"):
+            with open(f"{name}.cert", "wb") as file:
+                subprocess.run([program, "translate", f"{name}.c"], stdout=file, check=True)
         bad = 0
         for words in ("show sum.c", "run swap.c swap.cert swap.mem", "check seven.c seven.cert", "trial 5"):
             bad += refuse_each(program, words.split())

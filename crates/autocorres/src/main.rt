@@ -10,6 +10,8 @@
 mod file_shelf;
 mod stdout_sink;
 mod terminal;
+#[cfg(test)]
+mod tests;
 
 use ac_base::{Nobody, write_whole};
 use ac_core::{Status, autocorres};

@@ -2,8 +2,8 @@
 
 ghost use Rattle.std.specs.Prelude.{Some};
 
-use crate::calls::{Files, told};
-use crate::checks::written;
+use crate::tests::calls::{Files, told};
+use crate::tests::checks::written;
 use ac_base::{Failed, MemorySink, Progress, Sink, Work};
 use ac_core::Status;
 use std::alloc::{AllocError, Global};

@@ -1,7 +1,7 @@
 //! Certificates that are checked: one that is accepted, what becomes of it where a word is changed or
 //! the text is cut, and those that the program writes itself.
 
-use crate::calls::{Answer, Files, NO_FILES, Outside, SOUND, answer_of, said, writes};
+use crate::tests::calls::{Answer, Files, NO_FILES, Outside, SOUND, answer_of, said, writes};
 use ac_core::Status;
 use std::alloc::{AllocError, Global};
 use std::test::Fail;

@@ -1,7 +1,8 @@
 //! What is said of calls over a shelf in memory.
 
-use crate::refused::REFUSED;
-use crate::rows::{MANY, ROWS, WIDE, WORDS};
+use crate::tests::calls::{NEVER, put, words_of};
+use crate::tests::refused_nodes::REFUSED;
+use crate::tests::refused_texts::{MANY, ROWS, WIDE, WORDS};
 use ac_base::MemoryShelf;
 use answers::Status;
 use remarks::remark;
@@ -10,9 +11,6 @@ use std::test::Fail;
 
 // A text that is typed on both targets.
 const TYPED: &str = "int f(int a) { return a; }";
-
-// The number of a call that isn't made.
-const NEVER: u64 = u64::MAX;
 
 const CHANGED: &str = "a.c: the file has changed since it was read, so no place in it is shown";
 
@@ -30,39 +28,22 @@ says where to begin. Each OPT is one of these:
   bytes=F                    the function F works on the bytes of memory
   target=T                   T is ilp32, or lp64, where long and pointers have 64 bits";
 
-// Puts a file among the others.
-fn put(files: &mut Vec<(String, Vec<u8>)>, name: &str, bytes: &[u8]) -> Result<(), AllocError> {
-    let alloc = *files.allocator();
-    let name = String::from_str(alloc, name)?;
-    let bytes = Vec::from_slice(alloc, bytes)?;
-    Ok(files.push((name, bytes))?)
-}
-
 // A shelf that holds the text as `a.c`, and whose call of this number fails.
 fn shelf(alloc: Global, text: &[u8], fails: u64) -> Result<MemoryShelf, AllocError> {
     let failing = Vec::from_slice(alloc, &[fails])?;
     let mut files = Vec::new(alloc);
-    put(&mut files, "a.c", text)?;
+    put(&mut files, "a.c", Some(text))?;
     Ok(MemoryShelf::new(files, failing))
 }
 
 // The same with a certificate.
 fn shelf_of_two(alloc: Global, text: &str, certificate: &str) -> Result<MemoryShelf, AllocError> {
     let mut files = Vec::new(alloc);
-    put(&mut files, "a.c", text.as_bytes())?;
+    put(&mut files, "a.c", Some(text.as_bytes()))?;
     let mut line = Vec::from_slice(alloc, certificate.as_bytes())?;
     line.push(b'\n')?;
-    put(&mut files, "a.cert", &line)?;
+    put(&mut files, "a.cert", Some(&line))?;
     Ok(MemoryShelf::new(files, Vec::new(alloc)))
-}
-
-fn words_of(alloc: Global, line: &str) -> Result<Vec<String>, AllocError> {
-    let mut words = Vec::new(alloc);
-    for word in line.split(' ') {
-        let word = String::from_str(alloc, word)?;
-        words.push(word)?;
-    }
-    Ok(words)
 }
 
 // The call itself, of which no test knows more than what is said.

@@ -95,8 +95,8 @@ fn status_of(lines: &str) -> Status {
     }
 }
 
-// Puts a file among the others, where it is there.
-fn put(
+/// Puts a file among the others, where it is there.
+pub(crate) fn put(
     files: &mut Vec<(String, Vec<u8>)>,
     name: &str,
     bytes: Option<&[u8]>,
@@ -125,7 +125,7 @@ fn sink(alloc: Global, outside: &Outside) -> Result<MemorySink, AllocError> {
 }
 
 /// The words of a line, one after each space; two spaces have an empty word between them.
-fn words_of(alloc: Global, line: &str) -> Result<Vec<String>, AllocError> {
+pub(crate) fn words_of(alloc: Global, line: &str) -> Result<Vec<String>, AllocError> {
     let mut words = Vec::new(alloc);
     for word in line.split(' ') {
         let word = String::from_str(alloc, word)?;

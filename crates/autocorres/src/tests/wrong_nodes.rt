@@ -1,8 +1,8 @@
 //! Certificates with one word changed: another rule is refused at its own node, and no other word is
 //! taken for the one that stands there.
 
-use crate::calls::{Answer, Files, said};
-use crate::checks::{CERTIFICATE, SEVEN, line_of, written};
+use crate::tests::calls::{Answer, Files, said};
+use crate::tests::checks::{CERTIFICATE, SEVEN, line_of, written};
 use ac_core::Status;
 use std::alloc::{AllocError, Global};
 use std::test::Fail;
@@ -94,38 +94,51 @@ impl<'a> Reader<'a> {
     fn begin(&mut self, start: usize) -> Result<(), AllocError> {
         let role = self.next_role();
         let head = word_at(self.text, start.saturating_add(1));
+        let at = self.nodes.len();
+        let node = Node {
+            role,
+            number: self.number(role, head),
+            phase: self.phase,
+            start,
+            end: start.saturating_add(word_at(self.text, start).len()),
+        };
+        self.nodes.push(node)?;
+        self.open(start, role, head, at)
+    }
+
+    // How many rules of its phase come before the next node, which may be a phase or a rule itself.
+    fn number(&mut self, role: Role, head: &'a [u8]) -> usize {
         if role == Role::Phase {
             self.phase = head;
             self.rules = 0;
         }
-        let node = Node {
-            role,
-            phase: self.phase,
-            number: self.rules,
-            start,
-            end: start.saturating_add(word_at(self.text, start).len()),
-        };
+        let number = self.rules;
         if role == Role::Rule {
-            self.rules = self.rules.saturating_add(1);
+            self.rules = number.saturating_add(1);
         }
-        if self.text.get(start) == Some(&b'(') {
-            self.open(role, head)?;
-        }
-        self.nodes.push(node)?;
-        Ok(())
+        number
     }
 
-    // The list of the next node.
-    fn open(&mut self, role: Role, head: &'a [u8]) -> Result<(), AllocError> {
-        let at = self.nodes.len();
-        let open = Open {
-            role,
-            head,
-            parts: 0,
-            at,
-        };
-        self.open.push(open)?;
-        Ok(())
+    // The list of the node that begins there, if it is a list.
+    fn open(
+        &mut self,
+        start: usize,
+        role: Role,
+        head: &'a [u8],
+        at: usize,
+    ) -> Result<(), AllocError> {
+        if self.text.get(start) != Some(&b'(') {
+            return Ok(());
+        }
+        let parts = 0;
+        Ok(
+            self.open.push(Open {
+                role,
+                head,
+                parts,
+                at,
+            })?,
+        )
     }
 
     // The innermost list ends before that place.

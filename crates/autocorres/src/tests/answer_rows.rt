@@ -1,7 +1,7 @@
 //! Answers of the top call to C texts.
 
-use crate::calls::{Files, NO_FILES, SOUND, answer_to, reads, said, writes};
-use crate::type_rows::{READ, ROWS};
+use crate::tests::calls::{Files, NO_FILES, SOUND, answer_to, reads, said, writes};
+use crate::tests::type_rows::{READ, ROWS};
 use certificate_text::read;
 use std::alloc::{AllocError, Global};
 use std::test::Fail;

@@ -1,7 +1,7 @@
 //! Runs of C functions and of their programs, side by side.
 
-use crate::calls::{Files, said};
-use crate::checks::{CERTIFICATE, SEVEN, changed, line_of, written};
+use crate::tests::calls::{Files, said};
+use crate::tests::checks::{CERTIFICATE, SEVEN, changed, line_of, written};
 use std::alloc::Global;
 use std::test::Fail;
 

@@ -1,6 +1,6 @@
 //! Words that are of a form, and words that aren't.
 
-use crate::calls::{NO_FILES, SOUND, answer_to, said};
+use crate::tests::calls::{NO_FILES, SOUND, answer_to, said};
 use ac_core::Status;
 use std::alloc::{AllocError, Global};
 use std::test::Fail;

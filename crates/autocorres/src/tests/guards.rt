@@ -1,6 +1,6 @@
 //! Guards of each kind, in each place where an expression can stand, are translated and checked.
 
-use crate::checks::is_accepted;
+use crate::tests::checks::is_accepted;
 use std::alloc::{AllocError, Global};
 use std::test::Fail;
 
