@@ -7,7 +7,7 @@ use expression_lang::Exp;
 use program_facts::Parts;
 
 /// A rule. What it asks of two programs or of two expressions is defined in `specs/Table`.
-#[derive(Debug, Drop)]
+#[derive(Debug)]
 pub enum Rule {
     Ret,
     Bind,
@@ -33,6 +33,19 @@ pub enum Rule {
     Cond,
     /// With the right side of the address.
     Known(Box<Exp>),
+}
+
+// A derived drop would be written out wherever a rule may be let go.
+impl Drop for Rule {
+    fn drop(self) {
+        match self {
+            Rule::Drop(_address) | Rule::Known(_address) => {}
+            Rule::Ret | Rule::Bind | Rule::Guard | Rule::If | Rule::Global | Rule::Loop => {}
+            Rule::Call | Rule::Pick | Rule::Write | Rule::Pointer | Rule::Same => {}
+            Rule::Leaf | Rule::Load | Rule::Tagged | Rule::PtrOk | Rule::Op => {}
+            Rule::And | Rule::Or | Rule::Imp | Rule::Cond => {}
+        }
+    }
 }
 
 /// What is known where the two sides stand, and the layout.

@@ -7,7 +7,7 @@ use c_values::{GlobalVar, Layout};
 use expression_lang::{Kind, Signature};
 
 /// A rule. What it asks of two programs or of two expressions is defined in `specs/Table`.
-#[derive(Debug, Drop)]
+#[derive(Debug)]
 pub enum Rule {
     Ret,
     Guard,
@@ -48,6 +48,22 @@ pub enum Rule {
     Logic,
     Cond,
     Op,
+}
+
+// A derived drop would be written out wherever a rule may be let go.
+impl Drop for Rule {
+    fn drop(self) {
+        match self {
+            Rule::Bind(_kinds) | Rule::Loop(_kinds) | Rule::Recast(_kinds) => {}
+            Rule::Word(_) | Rule::Eq(_) => {}
+            Rule::Ret | Rule::Guard | Rule::If | Rule::Global | Rule::Pick | Rule::Write => {}
+            Rule::Call | Rule::PickNat | Rule::PickInt | Rule::Var | Rule::Const => {}
+            Rule::Nat | Rule::Int | Rule::Unat | Rule::Sint => {}
+            Rule::Add | Rule::Sub | Rule::Mul | Rule::Neg => {}
+            Rule::Udiv | Rule::Umod | Rule::Sdiv | Rule::Smod => {}
+            Rule::Order | Rule::Zext | Rule::Sext | Rule::Logic | Rule::Cond | Rule::Op => {}
+        }
+    }
 }
 
 /// How the value of an expression is seen on the right.
