@@ -81,7 +81,8 @@ fn is_evaluated(alloc: Global, left: bool, head: &str) -> Result<bool, Fail> {
         "and" => is_wide(alloc, &Exp::And(left, right)),
         "or" => is_wide(alloc, &Exp::Or(left, right)),
         "imp" => is_wide(alloc, &Exp::Imp(left, right)),
-        _ => is_wide(alloc, &Exp::If(left, right, truth(alloc, true)?)),
+        "if" => is_wide(alloc, &Exp::If(left, right, truth(alloc, true)?)),
+        _ => Err(Fail::from("no such head")),
     }
 }
 

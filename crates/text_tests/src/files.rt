@@ -1,4 +1,6 @@
-// Files read whole and bytes written whole, over memory: with calls that fail, and calls that give or take little.
+//! Files read whole and bytes written whole, over memory: with calls that fail, and calls that give
+//! or take little.
+
 ghost use Rattle.std.specs.Prelude.{None};
 
 use ac_base::{Failed, MemoryShelf, MemorySink, ReadTrouble, Shelf, read_whole, write_whole};

@@ -1,4 +1,6 @@
-// Texts of memories are read and written again, and texts that are none are refused at their place.
+//! Texts of memories are read and written again, and texts that are none are refused at their
+//! place.
+
 use c_lang::tree::{Statements, TypedFn, TypedUnit, Variable};
 use c_values::{CType, GlobalVar, IntType, Layout, Number, StructDef, Target, Value};
 use expression_text::TextFault;

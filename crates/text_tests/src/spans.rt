@@ -1,4 +1,5 @@
-// The parts of a root list are found at their offsets, each with the number of its nodes.
+//! The parts of a root list are found at their offsets, each with the number of its nodes.
+
 use ac_sx::{SxFault, SxPart, parts};
 use std::alloc::Global;
 use std::process::Abort;

@@ -1,4 +1,5 @@
-// Trees are read into a table, each once, and shown again as they were.
+//! Trees are read into a table, each once, and shown again as they were.
+
 ghost use Rattle.std.specs.Prelude.{◌<◌, length};
 
 use ac_sx::{SxFault, TermId, Terms, parts, read, write};

@@ -1,4 +1,5 @@
-// Trees are read and written, and texts that are none are refused at their place.
+//! Trees are read and written, and texts that are none are refused at their place.
+
 use ac_sx::{Sx, SxFault, read, write};
 use std::alloc::{AllocError, Global};
 use std::process::Abort;

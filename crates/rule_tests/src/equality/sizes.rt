@@ -4,7 +4,6 @@
 
 use crate::equality::rules::is_so;
 use crate::rows::repeated;
-use std::alloc::Global;
 use std::test::Fail;
 
 const DEEP: &str = "\

@@ -11,7 +11,7 @@ use program_sorts::are_kinds;
 use rule_trees::{At, Tree};
 use rule_word::{Context, Rule};
 use simpl_lang::SimplUnit;
-use std::alloc::{AllocError, Global};
+use std::alloc::Global;
 use std::test::Fail;
 use test_programs::{int, program_of};
 use test_tables::{Row, Rules, is_remark, tree};

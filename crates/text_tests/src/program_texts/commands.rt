@@ -1,4 +1,5 @@
-// Texts of commands are read and written, and trees that are none are refused at their place.
+//! Texts of commands are read and written, and trees that are none are refused at their place.
+
 use ac_sx::write;
 use command_text::{read_simpl, write_simpl};
 use expression_text::TextFault;

@@ -1,4 +1,5 @@
-// Expressions that nest deeply are read and written.
+//! Expressions that nest deeply are read and written.
+
 use ac_sx::write;
 use expression_text::{read_exp, write_exp};
 use std::alloc::Global;

@@ -1,4 +1,5 @@
-// Texts of programs are read and written, and trees that are none are refused at their place.
+//! Texts of programs are read and written, and trees that are none are refused at their place.
+
 use ac_sx::write;
 use expression_text::TextFault;
 use program_text::{read_kind, read_mon, write_kind, write_mon};
