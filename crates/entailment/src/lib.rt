@@ -1,0 +1,23 @@
+//! Which assertions follow from facts: a table of rules, that what they show holds, and the checker
+//! that decides whether a tree of rules shows an assertion.
+#![tactic(auto)]
+
+mod claim;
+mod coefficients;
+mod computing;
+mod entail;
+mod inequalities;
+mod instances;
+mod kernel;
+mod lengthening;
+mod linear;
+mod ranges;
+mod rewriting;
+mod sides;
+mod site;
+mod stepping;
+mod sums;
+mod verdicts;
+
+pub use entail::{Entail, Weighed};
+pub use verdicts::entails;
