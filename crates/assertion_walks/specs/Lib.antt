@@ -1,0 +1,9 @@
+pub mod CodePlace
+pub mod CodePut
+pub mod CodeRebuilt
+pub mod CodeRelated
+pub mod CodeScalar
+pub mod CodeWritten
+pub mod Put
+pub mod Rebuilt
+pub mod Written
