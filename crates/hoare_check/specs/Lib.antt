@@ -1,0 +1,4 @@
+pub mod Derive
+pub mod DeriveTable
+pub mod Accepted
+pub mod Holding
