@@ -42,3 +42,8 @@ pub mod TriplesHold
 pub mod TriplesOfC
 pub mod AcceptedOfC
 pub mod Worked
+pub mod AsShown
+pub mod DeriveRows
+pub mod LoopChecked
+pub mod NodeParts
+pub mod Posing
