@@ -14,7 +14,7 @@ use Rattle.acceptance.specs.Accepted.{IsAccepted}
 use Rattle.acceptance.specs.Verdict.{Place}
 use Rattle.acceptance.specs.UnitVerdict.{of_function, IsUnitVerdict}
 use Rattle.pipeline.specs.Units.{last_unit}
-use Rattle.pipeline.specs.SteadyUnits.{IsUnitSteady}
+use Rattle.exactness.specs.SteadyUnits.{IsUnitSteady}
 use Rattle.unit_translation.specs.Forms.{AreOfTheirForms}
 use Rattle.expression_text.specs.declared.fault.TextFault.{TextFault}
 use Rattle.expression_text.specs.declared.fault.TextFault.TheVariants as F

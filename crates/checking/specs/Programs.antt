@@ -5,7 +5,7 @@ use Rattle.c_lang.specs.Typed.{TypedUnit}
 use Rattle.monad_lang.specs.Program.{FinalUnit}
 use Rattle.monad_lang.specs.Sorted.{IsWellFormed}
 use Rattle.exactness.specs.Exact.{AreProgramsOf, IsExact}
-use Rattle.pipeline.specs.SteadyUnits.{IsUnitSteady}
+use Rattle.exactness.specs.SteadyUnits.{IsUnitSteady}
 use Rattle.unit_translation.specs.Forms.{AreOfTheirForms}
 
 -- They are those of the C functions at their levels, exact, well-formed and each of its level's form; lifted functions call lifted ones

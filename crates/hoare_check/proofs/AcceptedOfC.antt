@@ -6,7 +6,7 @@ use Rattle.expression_lang.specs.Sort.{Level}
 use Rattle.monad_lang.specs.Program.{FinalUnit}
 use Rattle.monad_lang.specs.Sorted.{IsWellFormed}
 use Rattle.c_lang.specs.Typed.{TypedUnit}
-use Rattle.pipeline.specs.SteadyUnits.{IsUnitSteady}
+use Rattle.exactness.specs.SteadyUnits.{IsUnitSteady}
 use Rattle.exactness.specs.Exact.{IsExact, AreProgramsOf}
 use Rattle.hoare_check.specs.Accepted.{Triple, AllAccepted}
 use Rattle.hoare_check.specs.Holding.{AllHold, AllHoldOfC}

@@ -23,7 +23,7 @@ use Rattle.monad_lang.specs.Steady.{TakesThem}
 use Rattle.monad_lang.specs.Sorted.{signature_of, IsWellFormed}
 use Rattle.program_facts.proofs.FactsAfter.{without_names_hold, without_reads_hold}
 use Rattle.program_facts.proofs.RunsLast.{formed_units_last}
-use Rattle.pipeline.specs.SteadyUnits.{IsUnitSteady, is_on_typed_heaps}
+use Rattle.exactness.specs.SteadyUnits.{IsUnitSteady, is_on_typed_heaps}
 use Rattle.exactness.specs.Triple.{Assertions, AreAssertions, AreLogicals, MeetsBefore, MeetsAfter, logical_names, logical_sorts, result_names, global_scope}
 use Rattle.hoare_check.specs.Derive.{Ground, Names}
 use Rattle.hoare_check.specs.DeriveTable.{scope, behind, variables, triple_at, IsCall, Calls}

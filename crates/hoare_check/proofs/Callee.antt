@@ -20,7 +20,7 @@ use Rattle.expression_lang.specs.View.{AreOfKinds}
 use Rattle.monad_lang.specs.Program.{FinalFn, FinalUnit, final_fn}
 use Rattle.monad_lang.specs.Run.{Answer, runs, functions_below}
 use Rattle.monad_lang.specs.Steady.{Viewed, Alike}
-use Rattle.pipeline.specs.SteadyUnits.{begins, IsFunctionSteady}
+use Rattle.exactness.specs.SteadyUnits.{begins, IsFunctionSteady}
 use Rattle.exactness.specs.Triple.{Assertions, AreLogicals, MeetsBefore, MeetsAfter, IsHeapFor, logical_names, result_name}
 use Rattle.hoare_check.specs.Accepted.{HoldsAt}
 use Rattle.hoare_check.proofs.Triples.{body_meets}

@@ -8,8 +8,8 @@ use Rattle.expression_lang.specs.Sorted.{names_with}
 use Rattle.ac_expr.specs.Fact.{Fact}
 use Rattle.monad_lang.specs.Program.{Mon, final_fn}
 use Rattle.monad_lang.specs.Sorted.{one_for_each, scalars_given}
-use Rattle.pipeline.specs.SteadyUnits.{is_on_typed_heaps}
-use Rattle.rule_heap.specs.Calls.{calls_only}
+use Rattle.exactness.specs.SteadyUnits.{is_on_typed_heaps}
+use Rattle.monad_lang.specs.Calls.{calls_only}
 use Rattle.rule_trees.specs.RuleTree.{Tree}
 use Rattle.entailment.specs.Entail as E
 use Rattle.entailment.specs.Table as T

@@ -25,7 +25,7 @@ use Rattle.monad_lang.specs.Steady.{WriteCovered, CallInRange}
 use Rattle.monad_lang.specs.Sorted.{scalars_given, IsWellFormed}
 use Rattle.monad_lang.proofs.AgreeingSorts.{sort_agrees}
 use Rattle.program_facts.proofs.SortedValues.{bound_sorted}
-use Rattle.pipeline.specs.SteadyUnits.{IsUnitSteady, begins}
+use Rattle.exactness.specs.SteadyUnits.{IsUnitSteady, begins}
 use Rattle.rule_trees.specs.RuleTree.{Accepts}
 use Rattle.exactness.specs.Triple.{Assertions, AreAssertions, AreLogicals, MeetsBefore, MeetsAfter, IsHeapFor, logical_names, logical_sorts, result_names, global_scope}
 use Rattle.hoare_check.specs.Derive.{Ground, Names, derived}

@@ -14,7 +14,7 @@ use Rattle.expression_lang.specs.View.{AreOfKinds}
 use Rattle.monad_lang.specs.Program.{FinalFn, FinalUnit, final_fn}
 use Rattle.monad_lang.specs.Run.{Answer, Failure, runs, function_runs, functions_below, program_runs}
 use Rattle.monad_lang.specs.Sorted.{signature_of}
-use Rattle.pipeline.specs.SteadyUnits.{begins}
+use Rattle.exactness.specs.SteadyUnits.{begins}
 use Rattle.exactness.specs.Triple.{Assertions, AreAssertions, AreLogicals, MeetsBefore, MeetsAfter, IsHeapFor}
 use Rattle.hoare_check.specs.DeriveTable.{triple_at}
 use Rattle.hoare_check.specs.Accepted.{HoldsAt, AllHoldAt}

@@ -3,7 +3,7 @@ use Rattle.std.proofs.Common.{ℕ, zero, suc, ◌<◌, List, [], ◌∷◌, map,
 use Rattle.c_values.specs.Choice.{Choice}
 use Rattle.monad_lang.specs.Program.{FinalUnit}
 use Rattle.monad_lang.specs.Sorted.{IsWellFormed}
-use Rattle.pipeline.specs.SteadyUnits.{IsUnitSteady}
+use Rattle.exactness.specs.SteadyUnits.{IsUnitSteady}
 use Rattle.exactness.specs.Triple.{Assertions, HoldsOfProgram}
 use Rattle.hoare_check.specs.Accepted.{Triple, IsAccepted, AllAccepted, HoldsAt, AllHoldAt}
 use Rattle.hoare_check.specs.Holding.{AllHold}

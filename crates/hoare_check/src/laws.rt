@@ -7,7 +7,7 @@ ghost use Rattle.monad_lang.specs.Program.{FinalUnit};
 ghost use Rattle.monad_lang.specs.Sorted.{IsWellFormed};
 ghost use Rattle.c_lang.specs.Typed.{TypedUnit};
 ghost use Rattle.exactness.specs.Exact.{AreProgramsOf, IsExact};
-ghost use Rattle.pipeline.specs.SteadyUnits.{IsUnitSteady};
+ghost use Rattle.exactness.specs.SteadyUnits.{IsUnitSteady};
 ghost use Rattle.hoare_check.specs.Accepted.{Triple, AllAccepted};
 ghost use Rattle.hoare_check.specs.Holding.{AllHold, AllHoldOfC};
 

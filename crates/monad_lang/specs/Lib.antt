@@ -11,3 +11,4 @@ pub mod CodeCompared
 pub mod CodeCopied
 pub mod Agree
 pub mod CodeWeight
+pub mod Calls

@@ -10,7 +10,7 @@ use Rattle.acceptance.specs.Certificate.{Steps}
 use Rattle.acceptance.specs.Accepted.{IsAccepted}
 use Rattle.pipeline.specs.Units.{flat_unit, local_unit, heap_unit, word_unit, last_unit}
 use Rattle.pipeline.proofs.AcceptedTaken.{accepted_units_are_taken}
-use Rattle.pipeline.specs.SteadyUnits.{IsUnitSteady}
+use Rattle.exactness.specs.SteadyUnits.{IsUnitSteady}
 use Rattle.pipeline.proofs.LiftedCalls.{lifted_calls}
 use Rattle.pipeline.proofs.TakenSteady.{last_in_range, last_is_steady}
 

@@ -14,7 +14,7 @@ use Rattle.rule_exn.specs.Quiet.{quiet}
 use Rattle.rule_exn.specs.Eliminated.{Eliminated, exceptions_eliminated, in_sequence, caught, repeated}
 use Rattle.rule_local.specs.Rule.{Context}
 use Rattle.rule_local.specs.Lifted.{Lifted, set_lifted, lifted, begun, locals_lifted}
-use Rattle.rule_heap.specs.Calls.{calls_only}
+use Rattle.monad_lang.specs.Calls.{calls_only}
 use Rattle.c_lang.specs.Typed as C
 use Rattle.c_meaning.specs.Levels.{callees, callees_in, callees_of}
 use Rattle.generation.specs.Guards.{exp, exps, truth, guards, argument_guards}

@@ -16,7 +16,7 @@ use Rattle.program_facts.specs.Substituted.{starts_substituted, program_substitu
 use Rattle.rule_parts.specs.Starts.{start_exps}
 use Rattle.rule_trees.specs.RuleTree.{Tree, Accepts, AllHold}
 use Rattle.rule_trees.proofs.Induction.{holds as accepted_holds}
-use Rattle.rule_heap.specs.Calls.{calls_only}
+use Rattle.monad_lang.specs.Calls.{calls_only}
 use Rattle.rule_heap.specs.Rule as H
 use Rattle.rule_heap.specs.Table as Heaps
 use Rattle.rule_word.specs.Rule as W

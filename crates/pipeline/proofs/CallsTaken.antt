@@ -13,7 +13,7 @@ use Rattle.rule_exn.specs.Table as Exceptions
 use Rattle.rule_local.specs.Rule as L
 use Rattle.rule_local.specs.Rule.{Context}
 use Rattle.rule_local.specs.Table as Locals
-use Rattle.rule_heap.specs.Calls as Programs
+use Rattle.monad_lang.specs.Calls as Programs
 use Rattle.acceptance.specs.Accepted.{calls_only}
 
 -- where the one test passes, the other one does

@@ -8,7 +8,7 @@ use Rattle.simpl_lang.specs.Command.{SimplFn, SimplUnit}
 use Rattle.monad_lang.specs.Program.{Mon, FinalFn, final_fn}
 use Rattle.rule_local.specs.Units.{context_of, outputs_of}
 use Rattle.rule_heap.specs.Rule as H
-use Rattle.rule_heap.specs.Calls as Programs
+use Rattle.monad_lang.specs.Calls as Programs
 use Rattle.rule_word.specs.Units.{in_scope}
 use Rattle.rule_word.specs.Scopes.{result_as_list}
 use Rattle.rule_eq.specs.Table.{point}
@@ -20,7 +20,7 @@ use Rattle.acceptance.specs.Accepted.{calls_only, is_lifted_there, word_context,
 use Rattle.pipeline.specs.Units.{on_numbers, functions_with, last_unit}
 use Rattle.pipeline.proofs.CallsTaken.{flat_calls, local_calls}
 use Rattle.pipeline.proofs.Signed.{made, signed}
-use Rattle.pipeline.specs.SteadyUnits.{is_on_typed_heaps}
+use Rattle.exactness.specs.SteadyUnits.{is_on_typed_heaps}
 use Rattle.pipeline.proofs.CallsKept.{heap_calls, word_calls, equal_calls}
 
 -- the last programs' functions, of signatures and steps

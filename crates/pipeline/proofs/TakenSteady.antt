@@ -43,7 +43,7 @@ use Rattle.rule_eq.proofs.UnitsKeep.{units_keep}
 use Rattle.c_lang.specs.Typed.{TypedUnit}
 use Rattle.pipeline.specs.Taken.{AreTaken}
 use Rattle.pipeline.proofs.Begins.{kinds_sorted, heap_can_be}
-use Rattle.pipeline.specs.SteadyUnits.{begins}
+use Rattle.exactness.specs.SteadyUnits.{begins}
 use Rattle.pipeline.proofs.KindWords.{StandsForWords, words_there}
 
 -- Functions by name

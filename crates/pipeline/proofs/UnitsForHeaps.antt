@@ -9,7 +9,7 @@ use Rattle.rule_exn.specs.Eliminated.{exceptions_eliminated}
 use Rattle.rule_local.specs.Units.{outputs_of, context_of}
 use Rattle.rule_local.specs.Lifted.{locals_lifted, function_lifted, functions_lifted}
 use Rattle.monad_lang.specs.Program.{Mon}
-use Rattle.rule_heap.specs.Calls.{calls_only}
+use Rattle.monad_lang.specs.Calls.{calls_only}
 use Rattle.rule_heap.specs.HeapLifted.{IsHeapReady, IsLiftable, IsFunctionReady, AreFunctionsReady}
 use Rattle.c_lang.specs.Typed as C
 use Rattle.c_lang.specs.WellTyped.{IsWellTyped, scope_in, nowhere, are_variables, is_result, are_statements, is_function, are_functions}

@@ -11,7 +11,7 @@ use Rattle.monad_lang.specs.Form.{is_bytes}
 use Rattle.monad_lang.specs.Sorted.{signature_of as signature_made, setting_signed}
 use Rattle.rule_local.specs.Units.{context_of, outputs_of, AreLiftedTo}
 use Rattle.rule_heap.specs.Rule as H
-use Rattle.rule_heap.specs.Calls as Programs
+use Rattle.monad_lang.specs.Calls as Programs
 use Rattle.rule_heap.specs.Units as Heaps
 use Rattle.rule_word.specs.Table as Words
 use Rattle.rule_word.specs.Units.{in_scope, AreAbstractedTo}

@@ -7,4 +7,3 @@ pub mod Taken
 pub mod Translated
 pub mod Units
 pub mod Made
-pub mod SteadyUnits

@@ -10,7 +10,7 @@ ghost use Rattle.generation.specs.Generate.{generated};
 ghost use Rattle.acceptance.specs.Certificate.{Steps};
 ghost use Rattle.acceptance.specs.Accepted.{IsAccepted};
 ghost use Rattle.pipeline.specs.Units.{last_unit};
-ghost use Rattle.pipeline.specs.SteadyUnits.{IsUnitSteady};
+ghost use Rattle.exactness.specs.SteadyUnits.{IsUnitSteady};
 
 /// Of the last programs of a certificate that is accepted for what generation makes of a well-typed
 /// unit, at whatever levels: a lifted function calls lifted ones alone; each program is in range

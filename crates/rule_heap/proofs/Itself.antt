@@ -17,7 +17,7 @@ use Rattle.monad_lang.specs.Run.{written}
 use Rattle.program_facts.proofs.KeepsTags.{place_keeps_tags}
 use Rattle.program_facts.specs.Flow.{facts_after}
 use Rattle.rule_parts.specs.Starts.{start_exps}
-use Rattle.rule_heap.specs.Calls.{calls_only}
+use Rattle.monad_lang.specs.Calls.{calls_only}
 use Rattle.rule_heap.proofs.Viewed.{IsSame, same_alike}
 use Rattle.rule_heap.proofs.Sound.{Sound, Agrees, AgreeAll, AlikeAnswers, ret, guard, choice, bind, call, pick, repeat}
 

@@ -45,7 +45,7 @@ use Rattle.rule_heap.specs.Rule as R
 use Rattle.rule_heap.specs.Rule.{Rule, Claim, OfProgram, OfExp}
 use Rattle.rule_heap.specs.Table.{each, IsPlace, row, table, Takes}
 use Rattle.rule_parts.specs.Starts.{start_exps}
-use Rattle.rule_heap.specs.Calls.{calls_only}
+use Rattle.monad_lang.specs.Calls.{calls_only}
 use Rattle.rule_heap.proofs.Alike.{AreAlike}
 use Rattle.rule_heap.proofs.InRange.{Leads, leads_there}
 use Rattle.rule_heap.proofs.SoundValues.{SoundExp, covered_left, covered_ok, tagged, known, each_same, exp_sound}

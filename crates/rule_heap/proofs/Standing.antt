@@ -32,7 +32,7 @@ use Rattle.program_facts.proofs.RunsLast.{formed_units_last}
 use Rattle.rule_trees.specs.RuleTree.{Tree}
 use Rattle.rule_heap.specs.Rule.{Rule}
 use Rattle.rule_heap.specs.Table.{Takes}
-use Rattle.rule_heap.specs.Calls.{calls_only}
+use Rattle.monad_lang.specs.Calls.{calls_only}
 use Rattle.rule_heap.specs.Kept.{AnswersOnItsHeap, HeapsKept}
 use Rattle.rule_heap.specs.Exact.{AnswersViewed, Place, left_runs, right_runs, CanBe, StandsFor}
 use Rattle.rule_heap.proofs.Alike.{AreAlike}

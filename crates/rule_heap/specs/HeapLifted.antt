@@ -20,7 +20,7 @@ use Rattle.rule_trees.specs.RuleTree.{Tree, Trees, node, no_trees, tree}
 use Rattle.rule_heap.specs.Rule as R
 use Rattle.rule_heap.specs.Rule.{Rule}
 use Rattle.rule_heap.specs.Table.{IsPlace}
-use Rattle.rule_heap.specs.Calls.{calls_only}
+use Rattle.monad_lang.specs.Calls.{calls_only}
 use Rattle.rule_heap.specs.ExpLifted.{exp_lifted, path_lifted, exp_tree, path_trees, leaf, over_one, over_two, IsReady, IsPathReady}
 
 -- the right side

@@ -1,6 +1,5 @@
 pub mod Rule
 pub mod Table
-pub mod Calls
 pub mod Kept
 pub mod Exact
 pub mod Units

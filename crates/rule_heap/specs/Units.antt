@@ -12,7 +12,7 @@ use Rattle.monad_lang.specs.Run.{functions_below, program_runs}
 use Rattle.rule_trees.specs.RuleTree.{Tree}
 use Rattle.rule_heap.specs.Rule.{Rule}
 use Rattle.rule_heap.specs.Table.{Takes}
-use Rattle.rule_heap.specs.Calls.{calls_only}
+use Rattle.monad_lang.specs.Calls.{calls_only}
 use Rattle.rule_heap.specs.Kept.{HeapsKept}
 
 -- from no facts; a lifted function calls lifted ones alone

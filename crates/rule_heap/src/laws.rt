@@ -12,7 +12,7 @@ ghost use Rattle.program_facts.specs.Lasting.{setting_in};
 ghost use Rattle.rule_trees.specs.RuleTree.{Tree};
 ghost use Rattle.rule_heap.specs.Rule.{Rule};
 ghost use Rattle.rule_heap.specs.Table.{Takes};
-ghost use Rattle.rule_heap.specs.Calls.{calls_only};
+ghost use Rattle.monad_lang.specs.Calls.{calls_only};
 ghost use Rattle.rule_heap.specs.Exact.{StandsFor};
 ghost use Rattle.rule_heap.specs.HeapLifted.{on_heaps, heap_tree, IsHeapReady, unit_on_heaps, AreFunctionsReady};
 ghost use Rattle.rule_heap.specs.Units.{IsUnitTakenTo, UnitsKeepHeaps};

@@ -15,7 +15,7 @@ use Rattle.expression_lang.specs.View.{AreOfKinds}
 use Rattle.monad_lang.specs.Program.{FinalFn, FinalUnit, final_fn}
 use Rattle.monad_lang.specs.Run.{functions_below}
 use Rattle.monad_lang.specs.Steady.{IsInRange, IsSteady}
-use Rattle.rule_heap.specs.Calls.{calls_only}
+use Rattle.monad_lang.specs.Calls.{calls_only}
 
 -- there is a function, and it is on typed heaps
 abbrev pub is_on_typed_heaps : Option FinalFn → Bool
