@@ -24,4 +24,6 @@ mod well_formed;
 pub use given::{give_same, gives_as};
 pub use inside::Inside;
 pub use settings::{Functions, Setting};
+pub use tell::Told;
+pub use values::{look_back, tell_value};
 pub use well_formed::{is_body_sorted, is_program_sorted, is_well_formed};

@@ -17,7 +17,7 @@ use monad_lang::Start;
 
 /// What is told of the scalar of a value.
 #[derive(Clone, Copy)]
-pub(crate) enum Told<'a> {
+pub enum Told<'a> {
     /// It is this one, or there is none.
     Known(Option<Scalar>),
     /// It is that of a name.

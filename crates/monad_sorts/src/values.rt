@@ -19,7 +19,7 @@ use program_sorts::Phase;
 /// loop, and then back over the parts whose names it leads to. It takes some 200 bytes of the stack
 /// at each level of the program.
 #[cycle(told)]
-pub(crate) fn tell_value<'a>(m: &'a Mon, position: usize, setting: Setting<'_>) -> Told<'a>
+pub fn tell_value<'a>(m: &'a Mon, position: usize, setting: Setting<'_>) -> Told<'a>
     ensures { (names : Name → Option plain.Scalar) → scalar_by names result
         ≡ told_at (values_told (setting_in setting.entry names) (mon_of m.now)) position }
 {
@@ -61,12 +61,7 @@ fn tell_own<'a>(m: &'a Mon, position: usize, setting: Setting<'_>) -> Told<'a>
 /// at the later half of them first, so it takes some 250 bytes of the stack for each halving of
 /// their number.
 #[cycle(told)]
-pub(crate) fn look_back<'a>(
-    m: &'a Mon,
-    steps: usize,
-    told: Told<'a>,
-    setting: Setting<'_>,
-) -> Told<'a>
+pub fn look_back<'a>(m: &'a Mon, steps: usize, told: Told<'a>, setting: Setting<'_>) -> Told<'a>
     ensures { (names : Name → Option plain.Scalar) → scalar_by names result
         ≡ scalar_by (names_after (setting_in setting.entry no_names) steps names (mon_of m.now))
         told.entry }
