@@ -8,7 +8,7 @@ use Rattle.c_values.specs.Value.{Value, Bits, Number, Truth, Parts, number_in, s
 use Rattle.expression_lang.specs.Expression.{Exp, TruthLit, Lt, Le, Eq}
 use Rattle.expression_lang.specs.Evaluation.{Env, State, value, holds}
 use Rattle.expression_lang.proofs.Decided.{number_is}
-use Rattle.entailment.specs.Entail.{Weighed}
+use Rattle.triple_lang.specs.Entail.{Weighed}
 use Rattle.entailment.specs.Linear.{Place, coefficient, Inequality, stated, opposite, one_where, excess, times, IsFine, is_equation, IsDenied}
 use Rattle.entailment.proofs.Products.{product_at_most}
 use Rattle.entailment.proofs.LinearForms.{worth-add, worth-neg, worth-times, worth-constant}

@@ -4,7 +4,7 @@ use Rattle.std.proofs.lemmas.Bool.{and_parts}
 use Rattle.expression_lang.specs.Expression.{Exp}
 use Rattle.expression_lang.specs.Sort.{Scope}
 use Rattle.ac_expr.specs.Fact.{Fact}
-use Rattle.entailment.specs.Entail.{Weighed}
+use Rattle.triple_lang.specs.Entail.{Weighed}
 use Rattle.entailment.specs.Linear.{Place, Constant, Unknown, stated, times, IsTaken, plus, total, AreTaken}
 use Rattle.entailment.specs.CodeSums.{times_found, each_in, added, added_all, each_in_all, AllMayTake}
 use Rattle.entailment.proofs.Narrowed.{IsThere, IsAllThere, Finds, two_there, there_two, all_two}

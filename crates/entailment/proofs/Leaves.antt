@@ -3,7 +3,7 @@ use Rattle.std.proofs.Common.{◌≡◌, Bool, List, [], refl}
 use Rattle.expression_lang.specs.Expression.{Exp, Eq, Between}
 use Rattle.expression_lang.specs.Sort.{Scope}
 use Rattle.ac_expr.specs.Fact.{Fact}
-use Rattle.entailment.specs.Entail as R
+use Rattle.triple_lang.specs.Entail as R
 use Rattle.entailment.specs.Table.{row}
 
 module _ (lifted : Bool) (g : Scope) (fs : List Fact) where

@@ -6,7 +6,7 @@ use Rattle.expression_lang.specs.Expression.{Exp}
 use Rattle.expression_lang.specs.Sort.{Scope}
 use Rattle.expression_lang.proofs.Decided.{number_is}
 use Rattle.ac_expr.specs.Fact.{Fact}
-use Rattle.entailment.specs.Entail.{Weighed}
+use Rattle.triple_lang.specs.Entail.{Weighed}
 use Rattle.entailment.specs.Linear.{Place, Constant, Unknown, stated, opposite, times, Inequality, total, IsLinear}
 use Rattle.entailment.specs.CodeSums.{first_found, total_found, is_zero, is_positive, each_unknown, each_in, each_in_all, cancels, may_deny, contradicts, AllMayTake, IsFound}
 use Rattle.entailment.proofs.Narrowed.{IsThere, IsAllThere}

@@ -8,7 +8,7 @@ use Rattle.expression_lang.specs.Evaluation.{Env, State, holds}
 use Rattle.expression_lang.specs.Sort.{Scope}
 use Rattle.ac_expr.specs.Fact.{Fact, AllSay}
 use Rattle.ac_expr.proofs.KnownHolds.{known_holds}
-use Rattle.entailment.specs.Entail.{Weighed}
+use Rattle.triple_lang.specs.Entail.{Weighed}
 use Rattle.entailment.specs.Linear.{Place, stated, opposite, times, plus, total, AreTaken, IsLinear}
 use Rattle.entailment.proofs.LinearForms.{worth-add, worth-constant}
 use Rattle.entailment.proofs.Distinct.{distinct}

@@ -17,8 +17,8 @@ use Rattle.ac_expr.proofs.StepsHold.{value_holds}
 use Rattle.ac_expr.proofs.ExactSteps.{places_exact}
 use Rattle.rule_trees.specs.RuleTree.{Tree, AllHold}
 use Rattle.rule_trees.proofs.Induction.{holds as accepted_holds}
-use Rattle.entailment.specs.Entail as R
-use Rattle.entailment.specs.Entail.{Rule, Claim, shown}
+use Rattle.triple_lang.specs.Entail as R
+use Rattle.triple_lang.specs.Entail.{Rule, Claim, shown}
 use Rattle.entailment.specs.Follows.{Follows}
 use Rattle.entailment.specs.Table.{row, table, Shows}
 use Rattle.entailment.proofs.Sorts.{assertion_sorted, sides_sorted, ends_sorted}

@@ -7,7 +7,7 @@ use Rattle.expression_lang.specs.Expression.{Exp, Var, NumberLit, Le, Between, E
 use Rattle.expression_lang.specs.Sort.{Scope, NumberSort}
 use Rattle.ac_expr.specs.Fact.{Fact, Whole}
 use Rattle.ac_expr.specs.SameExp.{same_exp}
-use Rattle.entailment.specs.Entail.{Weighed}
+use Rattle.triple_lang.specs.Entail.{Weighed}
 use Rattle.entailment.specs.Linear.{Place, Constant, Unknown, of_unknown, IsNarrow, AllNarrow, Inequality, excess, times, plus, IsLinear}
 
 abbrev a : Exp

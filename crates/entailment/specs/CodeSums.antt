@@ -6,7 +6,7 @@ use Rattle.expression_lang.specs.Expression.{Exp, NumberLit, TruthLit, Arith, Ne
 use Rattle.expression_lang.specs.Sort.{Scope, sort_of, is_number}
 use Rattle.ac_expr.specs.Fact.{Fact}
 use Rattle.ac_expr.specs.Known.{IsKnown}
-use Rattle.entailment.specs.Entail.{Weighed}
+use Rattle.triple_lang.specs.Entail.{Weighed}
 use Rattle.entailment.specs.Linear.{Place, Constant, Unknown, of_literal, of_unknown, Inequality, one_where, stated, opposite, is_equation}
 
 -- Expressions

@@ -1,9 +1,7 @@
-pub mod Entail
 pub mod Linear
 pub mod Rewritten
 pub mod Table
 pub mod Follows
-pub mod CodeEntail
 pub mod CodeClaim
 pub mod CodeSides
 pub mod CodeTruth

@@ -8,7 +8,7 @@ use Rattle.expression_lang.specs.Sort.{Scope, sort_of, is_number}
 use Rattle.ac_expr.specs.Fact.{Fact}
 use Rattle.ac_expr.specs.Known.{IsKnown}
 use Rattle.ac_expr.specs.SameExp.{same_exp}
-use Rattle.entailment.specs.Entail.{Weighed}
+use Rattle.triple_lang.specs.Entail.{Weighed}
 
 -- Expressions
 

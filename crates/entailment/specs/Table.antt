@@ -10,8 +10,8 @@ use Rattle.ac_expr.specs.Known.{IsKnown}
 use Rattle.ac_expr.specs.Step.{IsItsValue, OneStepApart}
 use Rattle.rule_trees.specs.RuleTree.{Row, asks, no_row, Table, Tree, Accepts}
 use Rattle.exactness.specs.Triple.{is_assertion}
-use Rattle.entailment.specs.Entail as R
-use Rattle.entailment.specs.Entail.{Rule, Claim, shown}
+use Rattle.triple_lang.specs.Entail as R
+use Rattle.triple_lang.specs.Entail.{Rule, Claim, shown}
 use Rattle.entailment.specs.Rewritten.{IsRewritten}
 use Rattle.entailment.specs.Linear.{IsLinear}
 

@@ -5,7 +5,7 @@ use expression_lang::Exp;
 
 /// An assertion that is to be shown: an expression, or one that isn't built.
 #[derive(Clone, Copy)]
-pub(crate) enum Claim<'a> {
+pub enum Claim<'a> {
     /// The expression itself.
     Whole(&'a Exp),
     /// That the number is at least the second.

@@ -8,7 +8,7 @@ ghost use Rattle.expression_lang.specs.Sort.{Scope as Scoped};
 ghost use Rattle.ac_expr.specs.Fact.{Fact as Plain};
 ghost use Rattle.ac_expr.specs.Known.{IsKnown};
 ghost use Rattle.ac_expr.specs.CodeChain.{facts_of};
-ghost use Rattle.entailment.specs.Entail as names;
+ghost use Rattle.triple_lang.specs.Entail as names;
 ghost use Rattle.entailment.specs.Table.{IsAssertion, row};
 ghost use Rattle.entailment.specs.CodeClaim.{claim_of, scope_at};
 
@@ -68,7 +68,7 @@ fn is_equation_of_other_heap(lifted: bool, a: &Exp, b: &Exp) -> bool
 }
 
 /// Whether an expression is an assertion.
-pub(crate) fn is_assertion<N: Scope>(e: &Exp, site: &Site<'_, N>) -> bool
+pub fn is_assertion<N: Scope>(e: &Exp, site: &Site<'_, N>) -> bool
     ensures { IsTrue result
         ↔ IsAssertion site.now.lifted (scope_at (N.scalars) site.now) (exp_of e.now) }
 {

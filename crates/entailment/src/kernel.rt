@@ -7,14 +7,13 @@ ghost use Rattle.ac_expr.specs.CodeFacts.{fact_of};
 ghost use Rattle.ac_expr.specs.CodeChain.{facts_of};
 ghost use Rattle.rule_trees.specs.RuleTree.{Checked};
 ghost use Rattle.rule_trees.specs.CodeFound.{leaf_answer};
-ghost use Rattle.entailment.specs.Entail as names;
-ghost use Rattle.entailment.specs.Entail.{shown};
+ghost use Rattle.triple_lang.specs.Entail as names;
+ghost use Rattle.triple_lang.specs.Entail.{shown};
 ghost use Rattle.entailment.specs.Table.{table};
 ghost use Rattle.entailment.specs.CodeClaim.{claim_of, scope_at};
-ghost use Rattle.entailment.specs.CodeEntail.{tree_of, over, over_both};
+ghost use Rattle.triple_lang.specs.CodeEntail.{tree_of, over, over_both};
 
 use crate::claim::Claim;
-use crate::entail::Entail;
 use crate::instances::{is_assertion, is_equation, is_known, is_reflexive};
 use crate::linear::is_linear;
 use crate::ranges::is_range;
@@ -24,12 +23,13 @@ use crate::stepping::{is_computed, is_step_apart};
 use ac_expr::{Fact, Facts, Sequence};
 use expression_lang::{Exp, Scope};
 use rule_trees::next;
+use triple_lang::Entail;
 
 /// What is checked of an assertion: the number behind the last node of a tree whose first has the
 /// number `at`, or the number of the first bad node. At each level of the tree it takes some of the
 /// stack.
 #[cycle(showing)]
-pub(crate) fn checked<S: Sequence, N: Scope>(
+pub fn checked<S: Sequence, N: Scope>(
     tree: &Entail,
     claim: &Claim<'_>,
     facts: &Facts<'_, S>,

@@ -5,7 +5,6 @@
 mod claim;
 mod coefficients;
 mod computing;
-mod entail;
 mod inequalities;
 mod instances;
 mod kernel;
@@ -19,5 +18,8 @@ mod stepping;
 mod sums;
 mod verdicts;
 
-pub use entail::{Entail, Weighed};
+pub use claim::Claim;
+pub use instances::is_assertion;
+pub use kernel::checked;
+pub use site::Site;
 pub use verdicts::entails;

@@ -5,17 +5,17 @@ ghost use Rattle.expression_lang.specs.CodeExpression.{exp_of};
 ghost use Rattle.ac_expr.specs.CodeChain.{facts_of};
 ghost use Rattle.entailment.specs.Linear.{IsLinear, is_equation};
 ghost use Rattle.entailment.specs.CodeClaim.{claim_of, scope_at};
-ghost use Rattle.entailment.specs.CodeEntail.{weighed_of};
+ghost use Rattle.triple_lang.specs.CodeEntail.{weighed_of};
 ghost use Rattle.entailment.specs.CodeSums.{AllMayTake, MayTake, are_numbers, may_weigh};
 
 use crate::claim::Claim;
-use crate::entail::Weighed;
 use crate::site::Site;
 use crate::sums::{Combination, contradicts};
 use ac_expr::{Fact, Facts, Sequence, known};
 use c_values::Number;
 use expression_lang::sort_rules::is_number;
 use expression_lang::{Exp, Scope, sort_of};
+use triple_lang::Weighed;
 
 // Whether an equation is of numbers.
 fn are_numbers<N: Scope>(site: &Site<'_, N>, fact: &Exp) -> bool

@@ -7,7 +7,7 @@ ghost use Rattle.expression_lang.specs.CodeExpression.{exp_of};
 ghost use Rattle.expression_lang.specs.CodeSort.{sort_value};
 ghost use Rattle.expression_lang.specs.Sort.{word_width};
 ghost use Rattle.ac_expr.specs.Fact.{Fact as Plain};
-ghost use Rattle.entailment.specs.Entail as names;
+ghost use Rattle.triple_lang.specs.Entail as names;
 ghost use Rattle.entailment.specs.Table.{HoldsWord, row};
 ghost use Rattle.entailment.specs.CodeClaim.{claim_of, scope_at};
 

@@ -11,7 +11,7 @@ use expression_lang::{Scalar, Scope};
 
 /// What is in scope, and whether assertions speak of typed heaps.
 #[derive(Clone, Copy)]
-pub(crate) struct Site<'a, N: Scope> {
+pub struct Site<'a, N: Scope> {
     pub lifted: bool,
     pub names: &'a N,
     pub layout: &'a Layout,

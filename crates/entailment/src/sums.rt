@@ -5,16 +5,16 @@ ghost use Rattle.std.specs.Ordering.{int_eq};
 ghost use Rattle.std.specs.Option.{option_map};
 ghost use Rattle.expression_lang.specs.CodeExpression.{exp_of};
 ghost use Rattle.entailment.specs.CodeClaim.{claim_of};
-ghost use Rattle.entailment.specs.CodeEntail.{weighed_of};
+ghost use Rattle.triple_lang.specs.CodeEntail.{weighed_of};
 ghost use Rattle.entailment.specs.CodeSums.{added, cancels, contradicts, each_in, each_in_all, each_unknown, first_found, in_factors, is_nothing, is_positive, is_zero, may_deny, total_found};
 ghost use Rattle.entailment.specs.CodeInequality.{inequality_of, place_of, side_of};
 
 use crate::claim::Claim;
 use crate::coefficients::{Place, literal, of_two, small};
-use crate::entail::Weighed;
 use crate::inequalities::{Inequality, Side, opposite, stated, times};
 use c_values::{Number, NumberOp, same_number};
 use expression_lang::Exp;
+use triple_lang::Weighed;
 
 /// So often the opposite of a claim, and so often each of the facts.
 #[derive(Clone, Copy)]

@@ -6,19 +6,19 @@ ghost use Rattle.expression_lang.specs.CodeExpression.{exp_of};
 ghost use Rattle.expression_lang.specs.Sort.{sort_of, is_truth};
 ghost use Rattle.ac_expr.specs.CodeChain.{facts_of, scope_of_facts};
 ghost use Rattle.rule_trees.specs.RuleTree.{Checked, IsVerdict};
-ghost use Rattle.entailment.specs.Entail.{shown};
+ghost use Rattle.triple_lang.specs.Entail.{shown};
 ghost use Rattle.entailment.specs.Table.{table};
 ghost use Rattle.entailment.specs.Follows.{Follows};
 ghost use Rattle.entailment.specs.CodeClaim.{verdict_of};
-ghost use Rattle.entailment.specs.CodeEntail.{tree_of};
+ghost use Rattle.triple_lang.specs.CodeEntail.{tree_of};
 
 use crate::claim::Claim;
-use crate::entail::Entail;
 use crate::kernel::checked;
 use crate::site::{NamesOf, Site, globals_of, layout_of};
 use ac_expr::{Facts, Sequence};
 use expression_lang::Exp;
 use rule_trees::At;
+use triple_lang::Entail;
 
 // What is checked of an assertion in the scope of facts.
 fn checked_among<S: Sequence>(

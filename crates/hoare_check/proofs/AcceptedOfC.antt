@@ -8,7 +8,8 @@ use Rattle.monad_lang.specs.Sorted.{IsWellFormed}
 use Rattle.c_lang.specs.Typed.{TypedUnit}
 use Rattle.exactness.specs.SteadyUnits.{IsUnitSteady}
 use Rattle.exactness.specs.Exact.{IsExact, AreProgramsOf}
-use Rattle.hoare_check.specs.Accepted.{Triple, AllAccepted}
+use Rattle.triple_lang.specs.Triple.{Triple}
+use Rattle.hoare_check.specs.Accepted.{AllAccepted}
 use Rattle.hoare_check.specs.Holding.{AllHold, AllHoldOfC}
 use Rattle.hoare_check.proofs.TriplesHold.{triples_hold}
 use Rattle.hoare_check.proofs.TriplesOfC.{triple_of_c}

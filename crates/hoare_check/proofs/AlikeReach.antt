@@ -16,7 +16,7 @@ use Rattle.monad_lang.specs.Reach.{AtEach, EachTurn, IsTurn, IfTrue, IfFalse}
 use Rattle.monad_lang.specs.Sorted.{scalars_given, start_scalars, place_sort, are_scalars, one_for_each, IsWellFormed}
 use Rattle.monad_lang.proofs.Given.{then_parts, fits_parts, given_there}
 use Rattle.program_facts.proofs.Sorts.{call_parts}
-use Rattle.hoare_check.specs.Derive.{Ground, Names}
+use Rattle.triple_lang.specs.Deriv.{Ground, Names}
 use Rattle.hoare_check.specs.DeriveTable.{setting, scope}
 use Rattle.hoare_check.specs.Accepted.{IsFine}
 use Rattle.hoare_check.proofs.Naming.{as_many}

@@ -19,7 +19,7 @@ use Rattle.monad_lang.proofs.Given.{then_parts, fits_parts, given_there}
 use Rattle.program_facts.specs.Lasting.{AreOfSorts}
 use Rattle.program_facts.proofs.Sorts.{call_parts}
 use Rattle.program_facts.proofs.SortedValues.{bound_sorted, starts_sorted}
-use Rattle.hoare_check.specs.Derive.{Ground, Names}
+use Rattle.triple_lang.specs.Deriv.{Ground, Names}
 use Rattle.hoare_check.specs.DeriveTable.{setting, scope}
 use Rattle.exactness.specs.Triple.{IsHeapFor}
 use Rattle.expression_lang.specs.States.{AreGlobals}

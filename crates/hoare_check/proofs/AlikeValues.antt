@@ -22,7 +22,7 @@ use Rattle.monad_lang.specs.Program.{Mon, Place, Start, final_fn}
 use Rattle.monad_lang.specs.Run.{Answer, written, start_values}
 use Rattle.monad_lang.specs.Steady.{TakesThem}
 use Rattle.monad_lang.specs.Sorted.{start_scalars, place_sort}
-use Rattle.hoare_check.specs.Derive.{Ground, Names}
+use Rattle.triple_lang.specs.Deriv.{Ground, Names}
 use Rattle.hoare_check.specs.DeriveTable.{scope}
 use Rattle.hoare_check.specs.Accepted.{Begins, IsFine}
 use Rattle.hoare_check.proofs.Naming.{bound_alike}

@@ -18,7 +18,7 @@ use Rattle.program_facts.specs.Lasting.{AreOfSorts, setting_in}
 use Rattle.program_facts.proofs.RunsLast.{programs_last, sorted_at_kinds}
 use Rattle.program_facts.proofs.SortedValues.{bound_sorted}
 use Rattle.exactness.specs.Triple.{IsHeapFor}
-use Rattle.hoare_check.specs.Derive.{Ground, Names}
+use Rattle.triple_lang.specs.Deriv.{Ground, Names}
 use Rattle.hoare_check.specs.DeriveTable.{setting, scope}
 use Rattle.hoare_check.specs.Accepted.{Begins}
 use Rattle.entailment.proofs.ShownHolds.{shown_holds}

@@ -22,7 +22,7 @@ use Rattle.monad_lang.specs.Program.{Mon}
 use Rattle.monad_lang.specs.Run.{Answer, runs, functions_below}
 use Rattle.monad_lang.specs.Sorted.{scalars_given, one_for_each, IsWellFormed}
 use Rattle.monad_lang.proofs.Given.{then_parts, fits_parts}
-use Rattle.hoare_check.specs.Derive.{Ground, Names}
+use Rattle.triple_lang.specs.Deriv.{Ground, Names}
 use Rattle.hoare_check.specs.DeriveTable.{setting, behind, Asserts, are_free_for}
 use Rattle.hoare_check.specs.Accepted.{Begins, Meets, IsDerived}
 use Rattle.hoare_check.proofs.Naming.{as_many, bound_past, named_past}

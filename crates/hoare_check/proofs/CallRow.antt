@@ -25,7 +25,7 @@ use Rattle.program_facts.proofs.FactsAfter.{without_names_hold, without_reads_ho
 use Rattle.program_facts.proofs.RunsLast.{formed_units_last}
 use Rattle.exactness.specs.SteadyUnits.{IsUnitSteady, is_on_typed_heaps}
 use Rattle.exactness.specs.Triple.{Assertions, AreAssertions, AreLogicals, MeetsBefore, MeetsAfter, logical_names, logical_sorts, result_names, global_scope}
-use Rattle.hoare_check.specs.Derive.{Ground, Names}
+use Rattle.triple_lang.specs.Deriv.{Ground, Names}
 use Rattle.hoare_check.specs.DeriveTable.{scope, behind, variables, triple_at, IsCall, Calls}
 use Rattle.hoare_check.specs.Accepted.{HoldsAt, HoldBelow, Begins, Meets, IsDerived}
 use Rattle.hoare_check.proofs.PutValues.{put_value}
@@ -34,7 +34,7 @@ use Rattle.hoare_check.proofs.JoinedNames.{known_name, either_order, values_join
 use Rattle.hoare_check.proofs.KnownNames.{known_value}
 use Rattle.hoare_check.proofs.ViewedValues.{viewed_value}
 use Rattle.hoare_check.proofs.LoopStarts.{named_values}
-use Rattle.pipeline.proofs.Begins.{kinds_sorted}
+use Rattle.hoare_check.proofs.KindSorts.{kinds_sorted}
 use Rattle.hoare_check.proofs.Results.{results_many, result_bound, results_distinct, arguments_many, logicals_many, logicals_are, logicals_stay}
 use Rattle.hoare_check.proofs.Triples.{IsTriple, AreTriples, triple_there, triple_holds, found_signature, body_run}
 use Rattle.hoare_check.proofs.CallsBelow.{stopped_never_fails, answered_below}

@@ -5,7 +5,7 @@ use Rattle.correspondence.specs.Bound.{called}
 use Rattle.c_values.specs.Choice.{Choice}
 use Rattle.expression_lang.specs.Signature.{Invocation}
 use Rattle.monad_lang.specs.Run.{Answer, functions_below, program_runs}
-use Rattle.hoare_check.specs.Derive.{Ground}
+use Rattle.triple_lang.specs.Deriv.{Ground}
 
 pub stopped_never_fails : (k : Ground) (p : Choice) (n : ℕ) (depth : Option ℕ) (c : Invocation) →
     ((i : ℕ) → i < n → (d : Option ℕ) → program_runs k.unit p i d c (Failed tt) → ⊥) → called (functions_below k.unit p n) depth c (Failed tt) → ⊥

@@ -6,20 +6,14 @@ use Rattle.expression_lang.specs.Expression.{Exp}
 use Rattle.expression_lang.specs.Sort.{Scalar}
 use Rattle.expression_lang.specs.Sorted.{names_with}
 use Rattle.ac_expr.specs.Fact.{Fact}
-use Rattle.monad_lang.specs.Program.{Mon, final_fn}
+use Rattle.monad_lang.specs.Program.{Mon}
 use Rattle.monad_lang.specs.Sorted.{one_for_each, scalars_given}
-use Rattle.exactness.specs.SteadyUnits.{is_on_typed_heaps}
-use Rattle.monad_lang.specs.Calls.{calls_only}
 use Rattle.rule_trees.specs.RuleTree.{Tree}
-use Rattle.entailment.specs.Entail as E
+use Rattle.triple_lang.specs.Entail as E
 use Rattle.entailment.specs.Table as T
-use Rattle.hoare_check.specs.Derive.{Ground, Names, Claim, entailed, derived}
+use Rattle.triple_lang.specs.Deriv.{Ground, Names, Claim, entailed, derived}
 use Rattle.hoare_check.specs.DeriveTable.{setting, scope, Asserts}
-use Rattle.hoare_check.specs.Accepted.{HoldBelow, IsDerived}
-
--- in a function on typed heaps the program calls functions on typed heaps alone
-abbrev pub CallsLifted : Ground → Mon → Type 0
-CallsLifted k m = k.lifted ≡ true → calls_only (λ x. is_on_typed_heaps (final_fn k.unit.functions x)) m ≡ true
+use Rattle.hoare_check.specs.Accepted.{CallsLifted, HoldBelow, IsDerived}
 
 -- the program is well-sorted, its values have distinct names, and the assertion is one under them
 pub record Fits (k : Ground) (ns : Names) (m : Mon) (xs : List Name) (q : Exp) : Type 0 where

@@ -11,10 +11,10 @@ use Rattle.monad_lang.specs.Sorted.{IsWellFormed}
 use Rattle.exactness.specs.SteadyUnits.{IsUnitSteady}
 use Rattle.rule_trees.specs.RuleTree.{Tree, node, Trees, no_trees, tree, Accepts, AcceptsAll, AllHold}
 use Rattle.rule_trees.proofs.Induction.{holds as accepted_holds}
-use Rattle.entailment.specs.Entail as E
+use Rattle.triple_lang.specs.Entail as E
 use Rattle.entailment.specs.Table as T
-use Rattle.hoare_check.specs.Derive as R
-use Rattle.hoare_check.specs.Derive.{Rule, Ground, Names, Claim, entailed, derived}
+use Rattle.triple_lang.specs.Deriv as R
+use Rattle.triple_lang.specs.Deriv.{Rule, Ground, Names, Claim, entailed, derived}
 use Rattle.hoare_check.specs.DeriveTable.{scope, in_names, row, table, shown_row, Asserts}
 use Rattle.hoare_check.specs.Accepted.{HoldBelow, IsDerived}
 use Rattle.hoare_check.proofs.Triples.{AreTriples}

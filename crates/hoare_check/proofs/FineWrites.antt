@@ -17,8 +17,8 @@ use Rattle.monad_lang.specs.Reach.{AtEach, EachTurn, IfTrue, IfFalse}
 use Rattle.monad_lang.specs.Steady.{WriteCovered, CallInRange}
 use Rattle.rule_trees.specs.RuleTree.{Tree, Accepts, AllHold}
 use Rattle.rule_trees.proofs.Induction.{holds as accepted_holds}
-use Rattle.hoare_check.specs.Derive as R
-use Rattle.hoare_check.specs.Derive.{Rule, Ground, Names, Claim, entailed, derived}
+use Rattle.triple_lang.specs.Deriv as R
+use Rattle.triple_lang.specs.Deriv.{Rule, Ground, Names, Claim, entailed, derived}
 use Rattle.hoare_check.specs.DeriveTable.{row, table}
 use Rattle.hoare_check.specs.Accepted.{IsFine}
 

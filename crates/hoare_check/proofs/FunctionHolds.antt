@@ -28,16 +28,17 @@ use Rattle.program_facts.proofs.SortedValues.{bound_sorted}
 use Rattle.exactness.specs.SteadyUnits.{IsUnitSteady, begins}
 use Rattle.rule_trees.specs.RuleTree.{Accepts}
 use Rattle.exactness.specs.Triple.{Assertions, AreAssertions, AreLogicals, MeetsBefore, MeetsAfter, IsHeapFor, logical_names, logical_sorts, result_names, global_scope}
-use Rattle.hoare_check.specs.Derive.{Ground, Names, derived}
+use Rattle.triple_lang.specs.Deriv.{Ground, Names, derived}
 use Rattle.hoare_check.specs.DeriveTable.{setting, scope, table, Asserts}
-use Rattle.hoare_check.specs.Accepted.{Triple, ground, names_before, IsAccepted, HoldsAt, AllHoldAt, HoldBelow, IsFine, Begins, Meets}
+use Rattle.triple_lang.specs.Triple.{Triple}
+use Rattle.hoare_check.specs.Accepted.{ground, names_before, IsAccepted, HoldsAt, AllHoldAt, HoldBelow, IsFine, Begins, Meets}
 use Rattle.hoare_check.proofs.Naming.{AsMany, as_many}
 use Rattle.hoare_check.proofs.JoinedNames.{known_name, either_order, distinct_second}
 use Rattle.rule_local.proofs.InScope.{exp_in_scope}
 use Rattle.hoare_check.proofs.KnownNames.{known_value}
 use Rattle.hoare_check.proofs.KnownPrograms.{given_wider}
 use Rattle.hoare_check.proofs.KeepsHeaps.{heap_of}
-use Rattle.pipeline.proofs.Begins.{kinds_sorted}
+use Rattle.hoare_check.proofs.KindSorts.{kinds_sorted}
 use Rattle.hoare_check.proofs.Results.{result_bound, results_distinct, arguments_many, logicals_many, logicals_sorted, sorts_joined}
 use Rattle.hoare_check.proofs.FunctionSorts.{found_sorted, BodySorted, body_sorted, one_result_each, one_result_name, kinds_many, logical_sorts_many, sorted_some}
 use Rattle.hoare_check.proofs.Triples.{AreTriples, found_name, body_run}

@@ -14,7 +14,7 @@ use Rattle.expression_lang.specs.Signature.{values_of, bound, no_env}
 use Rattle.expression_lang.proofs.Bound.{bound_stays}
 use Rattle.ac_expr.specs.Lasting.{is_unnamed}
 use Rattle.ac_expr.proofs.SameValues.{unnamed_same}
-use Rattle.hoare_check.specs.Derive.{Names}
+use Rattle.triple_lang.specs.Deriv.{Names}
 use Rattle.hoare_check.proofs.Naming.{AsMany, bound_alike}
 
 pub among_joined : (y : Name) (xs ys : List Name) → is_among y (xs ++ ys) ≡ (is_among y xs || is_among y ys)

@@ -1,3 +1,4 @@
+pub mod KindSorts
 pub mod Claims
 pub mod Naming
 pub mod KeepsHeaps
@@ -42,3 +43,15 @@ pub mod TriplesHold
 pub mod TriplesOfC
 pub mod AcceptedOfC
 pub mod Worked
+pub mod AsShown
+pub mod NodeParts
+pub mod Posing
+pub mod DeriveRows
+pub mod LoopChecked
+pub mod CallPosed
+pub mod CallChecked
+pub mod PassedNames
+pub mod FirstFaults
+pub mod TriplePosed
+pub mod ProgramPosed
+pub mod LogicalNames

@@ -24,7 +24,7 @@ use Rattle.monad_lang.proofs.Given.{then_parts, fits_parts, given_there}
 use Rattle.program_facts.specs.Lasting.{AreOfSorts}
 use Rattle.program_facts.proofs.SortedValues.{bound_sorted, starts_sorted}
 use Rattle.rule_parts.specs.Starts.{start_exps}
-use Rattle.hoare_check.specs.Derive.{Ground, Names}
+use Rattle.triple_lang.specs.Deriv.{Ground, Names}
 use Rattle.hoare_check.specs.DeriveTable.{setting, scope, within, variables, Asserts, are_free_for}
 use Rattle.assertion_walks.specs.Put.{put}
 use Rattle.hoare_check.specs.Accepted.{HoldBelow, IsFine, Begins, Meets, IsDerived}

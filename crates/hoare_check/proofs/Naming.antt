@@ -14,7 +14,7 @@ use Rattle.expression_lang.specs.Signature.{bound}
 use Rattle.expression_lang.proofs.Bound.{bound_stays}
 use Rattle.monad_lang.specs.Agree.{AgreeOn}
 use Rattle.program_facts.specs.Lasting.{AreOfSorts}
-use Rattle.hoare_check.specs.Derive.{Names}
+use Rattle.triple_lang.specs.Deriv.{Names}
 use Rattle.hoare_check.specs.DeriveTable.{are_free_for}
 
 -- as many of these as names

@@ -24,7 +24,7 @@ use Rattle.monad_lang.specs.Reach.{AtEach, IfTrue, IfFalse}
 use Rattle.monad_lang.specs.Sorted.{scalars_given, are_scalars, one_for_each, IsWellFormed}
 use Rattle.monad_lang.proofs.Given.{then_parts, fits_parts, given_there}
 use Rattle.program_facts.proofs.FactsAfter.{without_names_hold}
-use Rattle.hoare_check.specs.Derive.{Ground, Names}
+use Rattle.triple_lang.specs.Deriv.{Ground, Names}
 use Rattle.hoare_check.specs.DeriveTable.{setting, scope, behind, Asserts}
 use Rattle.assertion_walks.specs.Put.{put}
 use Rattle.hoare_check.specs.Accepted.{IsFine, Begins, Meets, IsDerived}

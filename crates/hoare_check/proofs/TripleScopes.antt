@@ -8,7 +8,7 @@ use Rattle.expression_lang.specs.Sort.{Scalar}
 use Rattle.expression_lang.specs.Sorted.{names_with}
 use Rattle.expression_lang.specs.Signature.{bound, no_env}
 use Rattle.expression_lang.proofs.Bound.{bound_stays}
-use Rattle.hoare_check.specs.Derive.{Names}
+use Rattle.triple_lang.specs.Deriv.{Names}
 use Rattle.hoare_check.proofs.Naming.{AsMany, bound_alike, names_alike, named_else}
 use Rattle.hoare_check.proofs.JoinedNames.{among_joined, first_alone, bound_joined, known_name}
 use Rattle.hoare_check.proofs.KnownPrograms.{KnownIn}

@@ -15,19 +15,10 @@ use Rattle.monad_lang.specs.Program.{FinalFn, FinalUnit, final_fn}
 use Rattle.monad_lang.specs.Run.{Answer, Failure, runs, function_runs, functions_below, program_runs}
 use Rattle.monad_lang.specs.Sorted.{signature_of}
 use Rattle.exactness.specs.SteadyUnits.{begins}
-use Rattle.exactness.specs.Triple.{Assertions, AreAssertions, AreLogicals, MeetsBefore, MeetsAfter, IsHeapFor}
+use Rattle.exactness.specs.Triple.{Assertions, AreLogicals, MeetsBefore, MeetsAfter, IsHeapFor}
 use Rattle.hoare_check.specs.DeriveTable.{triple_at}
 use Rattle.hoare_check.specs.Accepted.{HoldsAt, AllHoldAt}
-
--- a triple's function is there, and its assertions speak of what they may
-pub record IsTriple (u : FinalUnit) (t : Assertions) : Type 0 where
-  pub function : FinalFn
-  pub found : final_fn u.functions t.function ≡ Some function
-  pub assertions : AreAssertions u function t
-
-abbrev pub AreTriples : FinalUnit → List Assertions → Type 0
-AreTriples u [] = Unit {0}
-AreTriples u (t ∷ ts) = IsTriple u t × AreTriples u ts
+pub use Rattle.hoare_check.specs.Accepted.{IsTriple, AreTriples}
 
 pub triple_there : (u : FinalUnit) (n : ℕ) (ts : List Assertions) (t : Assertions) → triple_at n ts ≡ Some t → AreTriples u ts → IsTriple u t
 triple_there u n [] t h k = absurd cc

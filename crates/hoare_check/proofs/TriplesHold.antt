@@ -5,7 +5,8 @@ use Rattle.monad_lang.specs.Program.{FinalUnit}
 use Rattle.monad_lang.specs.Sorted.{IsWellFormed}
 use Rattle.exactness.specs.SteadyUnits.{IsUnitSteady}
 use Rattle.exactness.specs.Triple.{Assertions, HoldsOfProgram}
-use Rattle.hoare_check.specs.Accepted.{Triple, IsAccepted, AllAccepted, HoldsAt, AllHoldAt}
+use Rattle.triple_lang.specs.Triple.{Triple}
+use Rattle.hoare_check.specs.Accepted.{IsAccepted, AllAccepted, HoldsAt, AllHoldAt}
 use Rattle.hoare_check.specs.Holding.{AllHold}
 use Rattle.hoare_check.proofs.Triples.{AreTriples}
 use Rattle.hoare_check.proofs.FunctionHolds.{accepted_holds_at}

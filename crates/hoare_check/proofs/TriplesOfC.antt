@@ -22,7 +22,7 @@ use Rattle.c_meaning.specs.CRun.{plain}
 use Rattle.c_meaning.specs.Kinds.{variables}
 use Rattle.exactness.specs.Exact.{Begin, IsBegin, ExactFrom, IsExact, ArePrograms, AreProgramsOf, IsProgramOf, IsUndefined, c_ends, program_ends, seen}
 use Rattle.exactness.specs.Triple.{Assertions, AreLogicals, IsHeapFor, MeetsBefore, MeetsAfter, HoldsOfProgram, HoldsOfC}
-use Rattle.pipeline.proofs.Begins.{views_are_of_kinds}
+use Rattle.hoare_check.proofs.KindSorts.{views_are_of_kinds}
 use Rattle.hoare_check.proofs.Callee.{viewed_heap}
 
 -- the program of a C function, in its unit

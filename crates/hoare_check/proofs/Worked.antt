@@ -12,14 +12,15 @@ use Rattle.monad_lang.specs.Program as M
 use Rattle.monad_lang.specs.Program.{Mon, FinalFn, FinalUnit}
 use Rattle.rule_trees.specs.RuleTree.{Tree, node, no_trees, tree}
 use Rattle.exactness.specs.Triple.{Assertions}
-use Rattle.entailment.specs.Entail as E
-use Rattle.entailment.specs.Entail.{Weighed}
+use Rattle.triple_lang.specs.Entail as E
+use Rattle.triple_lang.specs.Entail.{Weighed}
 use Rattle.entailment.specs.Rewritten.{kept, made, inside, none, each}
 use Rattle.entailment.specs.Linear.{Place, Constant, Unknown, of_unknown, IsNarrow, AllNarrow, Inequality, coefficient, excess, times, plus, IsLinear}
-use Rattle.hoare_check.specs.Derive as R
-use Rattle.hoare_check.specs.Derive.{Rule, Names, derived}
+use Rattle.triple_lang.specs.Deriv as R
+use Rattle.triple_lang.specs.Deriv.{Rule, Names, derived}
 use Rattle.hoare_check.specs.DeriveTable.{scope}
-use Rattle.hoare_check.specs.Accepted.{Triple, IsAccepted, ground, names_before}
+use Rattle.triple_lang.specs.Triple.{Triple}
+use Rattle.hoare_check.specs.Accepted.{IsAccepted, ground, names_before}
 
 abbrev a : Exp
 a = Var (codes "a")

@@ -20,7 +20,7 @@ use Rattle.monad_lang.proofs.Given.{fits_parts}
 use Rattle.exactness.specs.Triple.{IsHeapFor}
 use Rattle.entailment.specs.Table.{IsAssertion}
 use Rattle.assertion_walks.specs.Written.{IsBeforeGlobal, IsBeforeWrite}
-use Rattle.hoare_check.specs.Derive.{Ground, Names}
+use Rattle.triple_lang.specs.Deriv.{Ground, Names}
 use Rattle.hoare_check.specs.DeriveTable.{scope, Asserts}
 use Rattle.hoare_check.specs.Accepted.{IsDerived}
 use Rattle.hoare_check.proofs.GlobalWritten.{before_global}

@@ -1,12 +1,12 @@
 -- Triples that are accepted, and what holds of a derived program at one bound.
-use Rattle.std.specs.Prelude.{◌≡◌, ℕ, ◌<◌, true, List, [], ◌∷◌, ◌++◌, map, Option, Some, None}
+use Rattle.std.specs.Prelude.{◌≡◌, ℕ, ◌<◌, Bool, true, List, [], ◌∷◌, ◌++◌, map, Option, Some, None}
 use Rattle.correspondence.specs.Outcome.{Done, Failed}
-use Rattle.c_values.specs.Name.{Name}
+use Rattle.c_values.specs.Name.{Name, are_distinct}
 use Rattle.c_values.specs.Value.{Value}
 use Rattle.c_values.specs.Choice.{Choice}
 use Rattle.expression_lang.specs.Expression.{Exp}
 use Rattle.expression_lang.specs.Evaluation.{Env, State, holds}
-use Rattle.expression_lang.specs.Sort.{sort_of_kind, is_lifted}
+use Rattle.expression_lang.specs.Sort.{Scalar, sort_of_kind, is_lifted}
 use Rattle.expression_lang.specs.Sorted.{names_with}
 use Rattle.expression_lang.specs.Signature.{bound, names_of, kinds_of}
 use Rattle.expression_lang.specs.States.{IsEnvironment, AreGlobals}
@@ -16,15 +16,14 @@ use Rattle.monad_lang.specs.Program.{Mon, FinalFn, FinalUnit, final_fn}
 use Rattle.monad_lang.specs.Run.{Answer, runs, functions_below, program_runs}
 use Rattle.monad_lang.specs.Reach.{AtEach}
 use Rattle.monad_lang.specs.Steady.{WriteCovered, CallInRange}
-use Rattle.rule_trees.specs.RuleTree.{Tree, Accepts}
+use Rattle.monad_lang.specs.Calls.{calls_only}
+use Rattle.monad_lang.specs.Sorted.{one_for_each, scalars_given}
+use Rattle.exactness.specs.SteadyUnits.{is_on_typed_heaps}
+use Rattle.rule_trees.specs.RuleTree.{Accepts}
 use Rattle.exactness.specs.Triple.{Assertions, AreAssertions, AreLogicals, MeetsBefore, MeetsAfter, IsHeapFor, logical_names, logical_sorts, result_names}
-use Rattle.hoare_check.specs.Derive.{Rule, Ground, Names, derived}
-use Rattle.hoare_check.specs.DeriveTable.{scope, table}
-
--- a triple with its derivation
-pub record Triple : Type 0 where
-  pub assertions : Assertions
-  pub derivation : Tree Rule
+use Rattle.triple_lang.specs.Triple.{Triple}
+use Rattle.triple_lang.specs.Deriv.{Ground, Names, derived}
+use Rattle.hoare_check.specs.DeriveTable.{setting, scope, table}
 
 abbrev pub ground : FinalUnit → List Triple → FinalFn → Ground
 ground u ts f = record { unit = u; lifted = is_lifted f.level; triples = map (λ t. t.assertions) ts }
@@ -85,3 +84,30 @@ pub record Meets (k : Ground) (p : Choice) (n : ℕ) (m : Mon) (xs : List Name) 
 abbrev pub IsDerived : Ground → Choice → ℕ → Names → List Fact → Mon → List Name → Exp → Type 0
 IsDerived k p n ns fs m xs q = (env : Env) (depth : Option ℕ) (s : State) → Begins k ns fs env s →
     AtEach k.unit.layout p (IsFine k.unit) m env depth (functions_below k.unit p n) s → Meets k p n m xs q env depth s
+
+-- One program
+
+-- what its derivations stand on: functions on typed heaps or on bytes, and triples
+abbrev pub ground_with : FinalUnit → Bool → List Triple → Ground
+ground_with u lifted ts = record { unit = u; lifted = lifted; triples = map (λ t. t.assertions) ts }
+
+-- a triple's function is there, and its assertions speak of what they may
+pub record IsTriple (u : FinalUnit) (t : Assertions) : Type 0 where
+  pub function : FinalFn
+  pub found : final_fn u.functions t.function ≡ Some function
+  pub assertions : AreAssertions u function t
+
+abbrev pub AreTriples : FinalUnit → List Assertions → Type 0
+AreTriples u [] = Unit {0}
+AreTriples u (t ∷ ts) = IsTriple u t × AreTriples u ts
+
+-- in a function on typed heaps the program calls functions on typed heaps alone
+abbrev pub CallsLifted : Ground → Mon → Type 0
+CallsLifted k m = k.lifted ≡ true → calls_only (λ x. is_on_typed_heaps (final_fn k.unit.functions x)) m ≡ true
+
+-- the program is well-sorted, and its values have distinct names
+pub record IsSortedFor (k : Ground) (ns : Names) (m : Mon) (xs : List Name) : Type 0 where
+  pub given : List Scalar
+  pub sorted : scalars_given (setting k ns) m ≡ Some given
+  pub one_each : one_for_each xs given ≡ true
+  pub distinct : are_distinct xs ≡ true

@@ -19,13 +19,13 @@ use Rattle.program_facts.specs.Lasting.{setting_in}
 use Rattle.rule_parts.specs.Starts.{start_exps}
 use Rattle.rule_trees.specs.RuleTree.{Row, asks, no_row, Table}
 use Rattle.exactness.specs.Triple.{Assertions, logical_names, logical_sorts, result_names}
-use Rattle.entailment.specs.Entail as E
+use Rattle.triple_lang.specs.Entail as E
 use Rattle.entailment.specs.Table as T
 use Rattle.entailment.specs.Table.{IsAssertion}
 use Rattle.assertion_walks.specs.Put.{put}
 use Rattle.assertion_walks.specs.Written.{IsBeforeGlobal, IsBeforeWrite}
-use Rattle.hoare_check.specs.Derive as R
-use Rattle.hoare_check.specs.Derive.{Rule, Ground, Names, Claim, entailed, derived}
+use Rattle.triple_lang.specs.Deriv as R
+use Rattle.triple_lang.specs.Deriv.{Rule, Ground, Names, Claim, entailed, derived}
 
 -- Scopes
 

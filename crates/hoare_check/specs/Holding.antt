@@ -5,7 +5,7 @@ use Rattle.expression_lang.specs.Sort.{Level}
 use Rattle.monad_lang.specs.Program.{FinalUnit}
 use Rattle.c_lang.specs.Typed.{TypedUnit}
 use Rattle.exactness.specs.Triple.{HoldsOfProgram, HoldsOfC}
-use Rattle.hoare_check.specs.Accepted.{Triple}
+use Rattle.triple_lang.specs.Triple.{Triple}
 
 abbrev pub AllHold : FinalUnit → List Triple → Type 0
 AllHold u [] = Unit {0}

@@ -1,4 +1,9 @@
-pub mod Derive
 pub mod DeriveTable
 pub mod Accepted
 pub mod Holding
+pub mod Verdict
+pub mod CodePosed
+pub mod CodeResults
+pub mod CodeCalled
+pub mod CodeScoping
+pub mod CodeNames

@@ -8,7 +8,8 @@ ghost use Rattle.monad_lang.specs.Sorted.{IsWellFormed};
 ghost use Rattle.c_lang.specs.Typed.{TypedUnit};
 ghost use Rattle.exactness.specs.Exact.{AreProgramsOf, IsExact};
 ghost use Rattle.exactness.specs.SteadyUnits.{IsUnitSteady};
-ghost use Rattle.hoare_check.specs.Accepted.{Triple, AllAccepted};
+ghost use Rattle.triple_lang.specs.Triple.{Triple};
+ghost use Rattle.hoare_check.specs.Accepted.{AllAccepted};
 ghost use Rattle.hoare_check.specs.Holding.{AllHold, AllHoldOfC};
 
 /// Triples that are all accepted, where a derivation may use each of them wherever a function is

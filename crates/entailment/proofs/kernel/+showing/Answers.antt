@@ -6,11 +6,11 @@ use Rattle.expression_lang.specs.Sort.{sort_of, is_truth}
 use Rattle.ac_expr.specs.Fact.{Whole, NotTrue}
 use Rattle.ac_expr.specs.CodeChain.{facts_of}
 use Rattle.rule_trees.specs.RuleTree.{Checked, tree, no_trees}
-use Rattle.entailment.specs.Entail as R
-use Rattle.entailment.specs.Entail.{shown}
+use Rattle.triple_lang.specs.Entail as R
+use Rattle.triple_lang.specs.Entail.{shown}
 use Rattle.entailment.specs.Table.{table}
 use Rattle.entailment.specs.CodeClaim.{claim_of, scope_at}
-use Rattle.entailment.specs.CodeEntail.{tree_of, over_both}
+use Rattle.triple_lang.specs.CodeEntail.{tree_of, over_both}
 use Rattle.entailment.proofs.Sorts.{assertion_sorted, sides_sorted, ends_sorted}
 use Rattle.entailment.proofs.Leaves.{same_alone, range_alone}
 use Rattle.entailment.proofs.Walked.{refused, leaf_checked, two_parts}

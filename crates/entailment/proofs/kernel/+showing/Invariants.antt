@@ -1,6 +1,6 @@
 -- Each part of a tree is less deep.
 use Rattle.std.proofs.Common.{◌+◌, ◌*◌, max}
-use Rattle.entailment.specs.declared.entail.Entail.{size-Entail}
+use Rattle.triple_lang.specs.declared.entail.Entail.{size-Entail}
 use Rattle.entailment.proofs.kernel.+showing.Given as goal
 
 abbrev pub decreases-checked : goal.decreases-checked

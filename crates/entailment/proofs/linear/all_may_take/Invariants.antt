@@ -3,7 +3,7 @@ use Rattle.std.proofs.Common.{◌↔◌, map, length}
 use Rattle.ac_expr.specs.CodeChain.{facts_of}
 use Rattle.entailment.specs.CodeSums.{AllMayTake}
 use Rattle.entailment.specs.CodeClaim.{scope_at}
-use Rattle.entailment.specs.CodeEntail.{weighed_of}
+use Rattle.triple_lang.specs.CodeEntail.{weighed_of}
 use Rattle.entailment.proofs.linear.all_may_take.Given as goal
 
 abbrev pub invariant-along : goal.invariant-along

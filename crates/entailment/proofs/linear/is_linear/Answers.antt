@@ -2,7 +2,7 @@
 use Rattle.std.proofs.Common.{map}
 use Rattle.ac_expr.specs.CodeChain.{facts_of}
 use Rattle.entailment.specs.CodeClaim.{claim_of, scope_at}
-use Rattle.entailment.specs.CodeEntail.{weighed_of}
+use Rattle.triple_lang.specs.CodeEntail.{weighed_of}
 use Rattle.entailment.proofs.LinearFound.{where_contradicts, where_not}
 use Rattle.entailment.proofs.linear.is_linear.Goals as goal
 

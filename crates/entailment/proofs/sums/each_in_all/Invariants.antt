@@ -2,7 +2,7 @@
 use Rattle.std.proofs.Common.{◌≡◌, map, length}
 use Rattle.entailment.specs.CodeSums.{each_in_all, cancels}
 use Rattle.entailment.specs.CodeClaim.{claim_of}
-use Rattle.entailment.specs.CodeEntail.{weighed_of}
+use Rattle.triple_lang.specs.CodeEntail.{weighed_of}
 use Rattle.entailment.proofs.sums.each_in_all.Given as goal
 
 abbrev pub invariant-along : goal.invariant-along

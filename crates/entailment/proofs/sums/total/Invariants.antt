@@ -2,7 +2,7 @@
 use Rattle.std.proofs.Common.{◌≡◌, map, length}
 use Rattle.entailment.specs.CodeSums.{added_all, total_found}
 use Rattle.entailment.specs.CodeClaim.{claim_of}
-use Rattle.entailment.specs.CodeEntail.{weighed_of}
+use Rattle.triple_lang.specs.CodeEntail.{weighed_of}
 use Rattle.entailment.specs.CodeInequality.{place_of}
 use Rattle.entailment.proofs.sums.total.Given as goal
 

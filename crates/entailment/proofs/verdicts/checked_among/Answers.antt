@@ -4,9 +4,9 @@ use Rattle.expression_lang.specs.CodeExpression.{exp_of}
 use Rattle.expression_lang.specs.Sort.{Scope, sort_of, is_truth}
 use Rattle.ac_expr.specs.CodeChain.{facts_of, scope_of_facts}
 use Rattle.rule_trees.specs.RuleTree.{Checked}
-use Rattle.entailment.specs.Entail.{shown}
+use Rattle.triple_lang.specs.Entail.{shown}
 use Rattle.entailment.specs.Table.{table}
-use Rattle.entailment.specs.CodeEntail.{tree_of}
+use Rattle.triple_lang.specs.CodeEntail.{tree_of}
 use Rattle.entailment.proofs.Scopes.{scope_is}
 use Rattle.entailment.proofs.verdicts.checked_among.Goals as goal
 
