@@ -1,0 +1,10 @@
+pub mod EntailRows
+pub mod Parted
+pub mod EntailLaws
+pub mod Shown
+pub mod DerivRows
+pub mod DerivLaws
+pub mod TripleLaws
+pub mod ReadBack
+pub mod TextRead
+pub mod PositionLaws

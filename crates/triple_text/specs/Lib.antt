@@ -1,0 +1,11 @@
+pub mod Words
+pub mod EntailText
+pub mod DerivText
+pub mod TripleText
+pub mod Parts
+pub mod EntailReading
+pub mod DerivReading
+pub mod TripleReading
+pub mod CodeEntailRows
+pub mod CodeDerivRows
+pub mod Answer
