@@ -6,7 +6,7 @@ use Rattle.ac_base.specs.Shelf.{AreWhole, IsLonger}
 use Rattle.ac_base.proofs.Faults.{Rose_within}
 use Rattle.answers.specs.declared.answer.Answer.{Answer}
 use Rattle.answers.specs.declared.status.Status.{Status}
-use Rattle.answers.specs.declared.status.Status.TheVariants.{Done, No, Words, Source, Text, ReadFault, WriteFault, Limit, Memory, NotYet}
+use Rattle.answers.specs.declared.status.Status.TheVariants.{Done, No, Words, Source, Text, ReadFault, WriteFault, Limit, Memory}
 use Rattle.ac_core.specs.Answer.{File, Reads, IsFileAnswer}
 
 -- an answer to a file, where what is answered to its text is also another answer to that
@@ -27,7 +27,6 @@ module _ (contents : Name → Option (List ℕ)) (before after : Name → ℕ) (
   answered_as Text lines h = read_as Text lines h
   answered_as WriteFault lines h = read_as WriteFault lines h
   answered_as Memory lines h = read_as Memory lines h
-  answered_as NotYet lines h = read_as NotYet lines h
 
 module _ (held held' : Name → Option (List ℕ)) (before mid after : Name → ℕ) (same : (n : Name) → held' n ≡ held n) (grew : (n : Name) → before n ≤ mid n) where
   reads : (file : File) (next : List ℕ → Type 0) → Reads held' mid after file next → Reads held before after file next
@@ -49,7 +48,6 @@ module _ (held held' : Name → Option (List ℕ)) (before mid after : Name → 
   from_first file next Text lines h = reads file (λ text. next text Text lines) h
   from_first file next WriteFault lines h = reads file (λ text. next text WriteFault lines) h
   from_first file next Memory lines h = reads file (λ text. next text Memory lines) h
-  from_first file next NotYet lines h = reads file (λ text. next text NotYet lines) h
 
   -- the second and the third
   from_second : (second third : File) (next : List ℕ → List ℕ → Status → List ℕ → Type 0) (status : Status) (lines : List ℕ) →
@@ -76,7 +74,6 @@ module _ (held held' : Name → Option (List ℕ)) (before mid after : Name → 
     of_first next Text lines h = was_read (λ t. next t Text lines) h
     of_first next WriteFault lines h = was_read (λ t. next t WriteFault lines) h
     of_first next Memory lines h = was_read (λ t. next t Memory lines) h
-    of_first next NotYet lines h = was_read (λ t. next t NotYet lines) h
 
     -- the answer to the files behind is one to all
     module _ (given : List ℕ) (same_text : given ≡ text) where

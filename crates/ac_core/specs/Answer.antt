@@ -3,6 +3,7 @@
 use Rattle.std.specs.Prelude.{◌≡◌, ℕ, ◌≤◌, ◌<◌, List, ◌++◌, length, Option, Some, None, codes, ◌⊎◌}
 use Rattle.c_values.specs.Name.{Name}
 use Rattle.c_values.specs.Types.{Target}
+use Rattle.c_lang.specs.Typed.{TypedUnit}
 use Rattle.ac_base.specs.Count.{Rose}
 use Rattle.ac_base.specs.Shelf.{AreWhole, IsLonger}
 use Rattle.ac_base.specs.Sink.{grown, TakesPart}
@@ -10,11 +11,12 @@ use Rattle.command_line.specs.Words.{Form, Command, Write, Check, Run, Prove, Sa
 use Rattle.text_answers.specs.TextAnswer.{IsTextAnswer}
 use Rattle.checking.specs.Checked.{IsChecked}
 use Rattle.running.specs.Ran.{IsRan}
+use Rattle.proving.specs.Proved.{IsProved}
 use Rattle.sample_text.specs.Sample.{sample_text}
 use Rattle.ac_core.specs.Written.{IsWritten}
 use Rattle.ac_core.specs.Trial.{IsTried}
 use Rattle.answers.specs.declared.status.Status.{Status}
-use Rattle.answers.specs.declared.status.Status.TheVariants.{Done, Words, ReadFault, WriteFault, Limit, Memory, NotYet}
+use Rattle.answers.specs.declared.status.Status.TheVariants.{Done, Words, ReadFault, WriteFault, Limit, Memory}
 
 -- bytes of C text that are read
 abbrev pub source_limit : ℕ
@@ -27,6 +29,10 @@ certificate_limit = 67108864
 -- bytes of a memory's text that are read: 1 MiB
 abbrev pub memory_limit : ℕ
 memory_limit = 1048576
+
+-- bytes of a text of triples that are read: 4 MiB
+abbrev pub triples_limit : ℕ
+triples_limit = 4194304
 
 -- the most functions of a sample
 abbrev pub count_limit : ℕ
@@ -44,16 +50,12 @@ IsTrialAnswer n target status lines =
     ((n ≤ count_limit) × IsTextAnswer target (IsTried target) (sample_text n) status lines)
     ⊎ ((count_limit < n) × (status ≡ Limit) × (lines ≡ codes "limit: count\n"))
 
--- what isn't built
-abbrev pub IsNotBuilt : Status → List ℕ → Type 0
-IsNotBuilt NotYet lines = lines ≡ codes "not yet\n"
-IsNotBuilt _ lines = ⊥
-
 -- no file is asked for
 abbrev pub AsksForNone : Option Command → Type 0
 AsksForNone (Some (Write form file options)) = ⊥
 AsksForNone (Some (Check file cert target)) = ⊥
 AsksForNone (Some (Run file cert memory target)) = ⊥
+AsksForNone (Some (Prove file cert triples target)) = ⊥
 AsksForNone _ = Unit {0}
 
 -- Files, read whole before anything is done with what they hold. Of each: its name, the most bytes that it may have and the limit's name.
@@ -70,6 +72,9 @@ certificate name = record { name = name; most = certificate_limit; limit = codes
 
 abbrev pub memory : Name → File
 memory name = record { name = name; most = memory_limit; limit = codes "memory" }
+
+abbrev pub triples : Name → File
+triples name = record { name = name; most = triples_limit; limit = codes "triples" }
 
 -- the file holds this text, and no more than it may
 pub record Holds (contents : Name → Option (List ℕ)) (file : File) (text : List ℕ) : Type 0 where
@@ -113,20 +118,26 @@ module _ (contents : Name → Option (List ℕ)) (before after : Name → ℕ) w
       IsFileAnswer (certificate cert) (λ of_certificate.
       IsTextAnswer target (IsChecked target of_certificate) text))
 
-  -- all three files are read, and then the text is looked at, the certificate and the memory last
-  abbrev pub IsRunAnswer : Name → Name → Name → Target → Status → List ℕ → Type 0
-  IsRunAnswer file cert mem target =
+  -- all three files are read, and then the text is looked at, the certificate and the third file last
+  abbrev pub IsThreeAnswer : Name → Name → File → Target → (List ℕ → List ℕ → TypedUnit → Status → List ℕ → Type 0) → Status → List ℕ → Type 0
+  IsThreeAnswer file cert third target answered =
       IsFileAnswer (source file) (λ text.
       IsFileAnswer (certificate cert) (λ of_certificate.
-      IsFileAnswer (memory mem) (λ of_memory.
-      IsTextAnswer target (IsRan target of_certificate of_memory) text)))
+      IsFileAnswer third (λ of_third.
+      IsTextAnswer target (answered of_certificate of_third) text)))
+
+  abbrev pub IsRunAnswer : Name → Name → Name → Target → Status → List ℕ → Type 0
+  IsRunAnswer file cert mem target = IsThreeAnswer file cert (memory mem) target (IsRan target)
+
+  abbrev pub IsProveAnswer : Name → Name → Name → Target → Status → List ℕ → Type 0
+  IsProveAnswer file cert third target = IsThreeAnswer file cert (triples third) target (IsProved target)
 
   abbrev pub IsCommandAnswer : Command → Status → List ℕ → Type 0
   IsCommandAnswer (Write form file options) status lines = IsWriteAnswer form file options status lines
   IsCommandAnswer (Check file cert target) status lines = IsCheckAnswer file cert target status lines
   IsCommandAnswer (Sample n) status lines = IsSampled n status lines
   IsCommandAnswer (Run file cert mem target) status lines = IsRunAnswer file cert mem target status lines
-  IsCommandAnswer (Prove file cert triples target) status lines = IsNotBuilt status lines
+  IsCommandAnswer (Prove file cert third target) status lines = IsProveAnswer file cert third target status lines
   IsCommandAnswer (Trial n target) status lines = IsTrialAnswer n target status lines
 
   -- the answer to what is asked for, or to words of no form

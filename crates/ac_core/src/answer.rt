@@ -7,12 +7,12 @@ ghost use Rattle.command_line.specs.Words.{command_of};
 ghost use Rattle.command_line.specs.CodeCommand.{command_in};
 ghost use Rattle.text_answers.specs.TextAnswer.{IsTextAnswer};
 ghost use Rattle.checking.specs.Checked.{IsChecked};
-ghost use Rattle.running.specs.Ran.{IsRan};
-ghost use Rattle.ac_core.specs.Answer.{certificate, memory, source, AsksForNone, IsAnswerTo, IsCheckAnswer, IsCommandAnswer, IsFileAnswer, IsRunAnswer, IsSampled, IsTrialAnswer};
+ghost use Rattle.ac_core.specs.Answer.{certificate, source, AsksForNone, IsAnswerTo, IsCheckAnswer, IsCommandAnswer, IsFileAnswer, IsThreeAnswer, IsSampled, IsTrialAnswer};
+ghost use Rattle.ac_core.specs.CodeTasks.{third_answer, third_file};
 ghost use Rattle.ac_core.specs.CodeTrouble.{IsTrouble};
 ghost use Rattle.answers.specs.declared.status.Status.{Status};
 
-use crate::tasks::{Asked, Checks, Runs, Tries, Writes};
+use crate::tasks::{Asked, Checks, Takes, Third, Tries, Writes};
 use ac_base::{Progress, ReadTrouble, Shelf, read_whole};
 use answers::{Answer, Status, line, push, read_fault};
 use c_values::Target;
@@ -26,9 +26,6 @@ const SOURCE_LIMIT: u64 = 262_144;
 
 /// Bytes of a certificate that are read.
 const CERTIFICATE_LIMIT: u64 = 67_108_864;
-
-/// Bytes of a memory's text that are read.
-const MEMORY_LIMIT: u64 = 1_048_576;
 
 /// The most functions of a sample.
 const COUNT_LIMIT: u8 = 200;
@@ -79,14 +76,21 @@ fn answer_by<H: Shelf, P: Progress>(
         Command::Sample(count) => sampled(alloc, count),
         Command::Trial(count, target) => trial(alloc, count, target, progress),
         Command::Run(file, certificate, memory, target) => {
-            let files = RunFiles {
+            let files = ThreeFiles {
                 file,
                 certificate,
-                memory,
+                third: Third::Memory(memory),
             };
-            run(alloc, files, target, shelf, progress)
+            of_three(alloc, files, target, shelf, progress)
         }
-        Command::Prove(_, _, _, _) => line(alloc, Status::NotYet, "not yet\n"),
+        Command::Prove(file, certificate, triples, target) => {
+            let files = ThreeFiles {
+                file,
+                certificate,
+                third: Third::Triples(triples),
+            };
+            of_three(alloc, files, target, shelf, progress)
+        }
     }
 }
 
@@ -160,96 +164,91 @@ fn with_certificate<H: Shelf, P: Progress>(
     }
 }
 
-// The files of a run.
+// The three files of a command.
 #[derive(Clone, Copy)]
-struct RunFiles<'a> {
+struct ThreeFiles<'a> {
     file: &'a str,
     certificate: &'a str,
-    memory: &'a str,
+    third: Third<'a>,
 }
 
-// The answer to a file of C text, a certificate and a memory, all of which are read before the text
-// is looked at.
-fn run<H: Shelf, P: Progress>(
+// The answer to a file of C text, a certificate and a third file, all of which are read before the
+// text is looked at.
+fn of_three<H: Shelf, P: Progress>(
     alloc: Global,
-    files: RunFiles<'_>,
+    files: ThreeFiles<'_>,
     target: Target,
     shelf: &mut H,
     progress: &P,
 ) -> Result<Answer, AllocError>
-    ensures answer { IfOk result (λ a. IsRunAnswer (H.contents shelf.old) (H.faults shelf.old)
-        (H.faults shelf.new) files.entry.file.now files.entry.certificate.now files.entry.memory.now
-        (types.target_of target) a.status a.lines.items) }
+    ensures answer { IfOk result (λ a. IsThreeAnswer (H.contents shelf.old) (H.faults shelf.old)
+        (H.faults shelf.new) files.entry.file.now files.entry.certificate.now
+        (third_file files.entry.third) (types.target_of target)
+        (third_answer files.entry.third (types.target_of target)) a.status a.lines.items) }
     ensures contents { (name : List ℕ) → H.contents shelf.new name ≡ H.contents shelf.old name }
     ensures counts { (name : List ℕ) → H.faults shelf.old name ≤ H.faults shelf.new name }
 {
     match read_whole(alloc, shelf, files.file, SOURCE_LIMIT) {
-        Ok(text) => run_certified(
-            alloc,
-            &text,
-            files.certificate,
-            files.memory,
-            target,
-            shelf,
-            progress,
-        ),
+        Ok(text) => of_text_and_two(alloc, &text, files, target, shelf, progress),
         Err(trouble) => unread(alloc, files.file, "source", trouble),
     }
 }
 
-// The answer to a C text and the files of a certificate and of a memory.
-fn run_certified<H: Shelf, P: Progress>(
+// The answer to a C text, and to the other two files.
+fn of_text_and_two<H: Shelf, P: Progress>(
     alloc: Global,
     text: &[u8],
-    file: &str,
-    start: &str,
+    files: ThreeFiles<'_>,
     target: Target,
     shelf: &mut H,
     progress: &P,
 ) -> Result<Answer, AllocError>
     ensures answer { IfOk result (λ a. IsFileAnswer (H.contents shelf.old) (H.faults shelf.old)
-        (H.faults shelf.new) (certificate file.now)
+        (H.faults shelf.new) (certificate files.entry.certificate.now)
         (λ held. IsFileAnswer (H.contents shelf.old) (H.faults shelf.old) (H.faults shelf.new)
-        (memory start.now)
-        (λ said. IsTextAnswer (types.target_of target) (IsRan (types.target_of target) held said)
-        text.now)) a.status a.lines.items) }
+        (third_file files.entry.third)
+        (λ said. IsTextAnswer (types.target_of target)
+        (third_answer files.entry.third (types.target_of target) held said) text.now))
+        a.status a.lines.items) }
     ensures contents { (name : List ℕ) → H.contents shelf.new name ≡ H.contents shelf.old name }
     ensures counts { (name : List ℕ) → H.faults shelf.old name ≤ H.faults shelf.new name }
 {
-    match read_whole(alloc, shelf, file, CERTIFICATE_LIMIT) {
-        Ok(certificate) => run_from(alloc, text, &certificate, start, target, shelf, progress),
-        Err(trouble) => unread(alloc, file, "certificate", trouble),
+    match read_whole(alloc, shelf, files.certificate, CERTIFICATE_LIMIT) {
+        Ok(held) => of_third(alloc, text, &held, files.third, target, shelf, progress),
+        Err(trouble) => unread(alloc, files.certificate, "certificate", trouble),
     }
 }
 
-// The answer to a C text, the text of a certificate and the file of a memory.
-fn run_from<H: Shelf, P: Progress>(
+// The answer to a C text, the text of a certificate and the third file.
+fn of_third<H: Shelf, P: Progress>(
     alloc: Global,
     text: &[u8],
     certificate: &[u8],
-    file: &str,
+    third: Third<'_>,
     target: Target,
     shelf: &mut H,
     progress: &P,
 ) -> Result<Answer, AllocError>
     ensures answer { IfOk result (λ a. IsFileAnswer (H.contents shelf.old) (H.faults shelf.old)
-        (H.faults shelf.new) (memory file.now)
+        (H.faults shelf.new) (third_file third.entry)
         (λ said. IsTextAnswer (types.target_of target)
-        (IsRan (types.target_of target) certificate.now said) text.now) a.status a.lines.items) }
+        (third_answer third.entry (types.target_of target) certificate.now said) text.now)
+        a.status a.lines.items) }
     ensures contents { (name : List ℕ) → H.contents shelf.new name ≡ H.contents shelf.old name }
     ensures counts { (name : List ℕ) → H.faults shelf.old name ≤ H.faults shelf.new name }
 {
-    match read_whole(alloc, shelf, file, MEMORY_LIMIT) {
-        Ok(memory) => {
-            let task = Runs {
+    match read_whole(alloc, shelf, third.file(), third.most()) {
+        Ok(said) => {
+            let task = Takes {
                 target,
                 certificate,
-                memory: &memory,
+                third,
+                said: &said,
                 progress,
             };
             answer_text(alloc, text, &task)
         }
-        Err(trouble) => unread(alloc, file, "memory", trouble),
+        Err(trouble) => unread(alloc, third.file(), third.limit(), trouble),
     }
 }
 

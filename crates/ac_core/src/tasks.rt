@@ -1,9 +1,10 @@
 //! What is to be done with a typed text. While it is done, it is told how far it is.
 
-ghost use Rattle.std.specs.Prelude.{map, string_bytes};
+ghost use Rattle.std.specs.Prelude.{◌≡◌, map, string_bytes};
 ghost use Rattle.c_values.specs.CodeTypes as types;
 ghost use Rattle.command_line.specs.Words.{target_of};
 ghost use Rattle.command_line.specs.CodeCommand.{form_in};
+ghost use Rattle.ac_core.specs.CodeTasks.{third_file};
 
 use crate::programs::write_unit;
 use crate::trial::tried;
@@ -13,6 +14,7 @@ use c_lang::tree::TypedUnit;
 use c_values::Target;
 use checking::checked;
 use command_line::{Writing, target_of};
+use proving::proved;
 use running::ran;
 use std::alloc::{AllocError, Global};
 use text_answers::Task;
@@ -72,36 +74,80 @@ impl<P: Progress> Task for Checks<'_, P> {
     }
 }
 
-/// A function of it is run from a memory, beside its program in a certificate.
+/// The third file of a command, by its name.
+#[derive(Clone, Copy)]
+pub(crate) enum Third<'a> {
+    /// A memory, from which a function is run.
+    Memory(&'a str),
+    /// Triples, which are to be proved.
+    Triples(&'a str),
+}
+
+impl<'a> Third<'a> {
+    /// The file's name.
+    pub(crate) fn file(self) -> &'a str
+        ensures { result.now ≡ (third_file self).name }
+    {
+        match self {
+            Third::Memory(file) | Third::Triples(file) => file,
+        }
+    }
+
+    /// The most bytes of it that are read.
+    pub(crate) fn most(self) -> u64
+        ensures { result ≡ (third_file self).most }
+    {
+        match self {
+            Third::Memory(_) => 1_048_576,
+            Third::Triples(_) => 4_194_304,
+        }
+    }
+
+    /// The name of this limit.
+    pub(crate) fn limit(self) -> &'static str
+        ensures { result.now ≡ (third_file self).limit }
+    {
+        match self {
+            Third::Memory(_) => "memory",
+            Third::Triples(_) => "triples",
+        }
+    }
+}
+
+/// A third file is looked at behind a certificate for it.
 #[derive(Drop)]
-pub(crate) struct Runs<'a, P> {
+pub(crate) struct Takes<'a, P> {
     pub(crate) target: Target,
     pub(crate) certificate: &'a [u8],
-    pub(crate) memory: &'a [u8],
+    pub(crate) third: Third<'a>,
+    pub(crate) said: &'a [u8],
     pub(crate) progress: &'a P,
 }
 
-impl<P: Progress> Task for Runs<'_, P> {
-    ghost use Rattle.running.specs.Ran.{IsRan};
+impl<P: Progress> Task for Takes<'_, P> {
+    ghost use Rattle.ac_core.specs.CodeTasks.{third_answer};
 
     ghost target_for = { λ task. types.target_of task.target };
 
-    ghost answers = { λ task. IsRan (types.target_of task.target) task.certificate.now
-        task.memory.now };
+    ghost answers = { λ task. third_answer task.third (types.target_of task.target)
+        task.certificate.now task.said.now };
 
     fn target(&self) -> Target {
         self.target
     }
 
     fn answer(&self, alloc: Global, unit: TypedUnit) -> Result<Answer, AllocError> {
-        ran(
-            alloc,
-            &unit,
-            self.target,
-            self.certificate,
-            self.memory,
-            self.progress,
-        )
+        let Takes {
+            target,
+            certificate,
+            third,
+            said,
+            progress,
+        } = self;
+        match third {
+            Third::Memory(_) => ran(alloc, &unit, *target, *certificate, *said, *progress),
+            Third::Triples(_) => proved(alloc, &unit, *target, *certificate, *said, *progress),
+        }
     }
 }
 

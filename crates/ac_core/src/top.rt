@@ -4,15 +4,18 @@ ghost use Rattle.std.specs.Prelude.{◌≡◌, ◌≤◌, ◌⊎◌, ℕ, [], Li
 ghost use Rattle.c_values.specs.Types.{Target};
 ghost use Rattle.ac_base.specs.Count.{Rose};
 ghost use Rattle.c_lang.specs.Typed.{TypedUnit};
-ghost use Rattle.command_line.specs.Words.{Form, Write, Check, Run, command_of, target_of, first_unknown};
+ghost use Rattle.command_line.specs.Words.{Form, Write, Check, Run, Prove, command_of, target_of, first_unknown};
 ghost use Rattle.text_answers.specs.TextAnswer.{IsTextOf};
 ghost use Rattle.certificate_text.specs.CertificateText as texts;
-ghost use Rattle.checking.specs.Checked.{IsAcceptedText};
+ghost use Rattle.checking.specs.Checked.{IsAcceptedText, programs};
 ghost use Rattle.ac_core.specs.Written.{IsWithin, is_function};
 ghost use Rattle.c_memory.specs.TagFault.{first_fault};
 ghost use Rattle.memory_text.specs.MemoryText as memories;
 ghost use Rattle.memory_text.specs.Answer.{IsMemoryText};
-ghost use Rattle.ac_core.specs.Answer.{EndsWith, Holds, AsksForNone, source, certificate, memory};
+ghost use Rattle.triple_lang.specs.Triple.{Triple};
+ghost use Rattle.triple_text.specs.Answer.{AreTriplesText};
+ghost use Rattle.hoare_check.specs.Accepted.{AllAccepted};
+ghost use Rattle.ac_core.specs.Answer.{EndsWith, Holds, AsksForNone, source, certificate, memory, triples};
 ghost use Rattle.answers.specs.declared.status.Status.{Status};
 
 use crate::answer::answer_to;
@@ -23,9 +26,9 @@ use std::alloc::Global;
 /// Does what the words ask for: reads the files that they name from the shelf, and writes the
 /// answer, or the line of a fault, to the sink, which is told how far the work is.
 ///
-/// So far `show`, `print`, `translate`, `check`, `run`, `sample` and `trial` are built. Programs that are
-/// written are tidy, and have names, types and numbers of the text alone, so that what is written is
-/// the text of no others.
+/// Programs that are written are tidy, and have names, types and numbers of the text alone, so that
+/// what is written is the text of no others. Triples that are told to be proved hold of the programs
+/// and of the C.
 pub fn autocorres<H: Shelf, K: Sink>(
     alloc: Global,
     words: &[String],
@@ -76,6 +79,22 @@ pub fn autocorres<H: Shelf, K: Sink>(
         ¬ Rose (H.faults shelf.old file) (H.faults shelf.new file) →
         ¬ Rose (H.faults shelf.old held) (H.faults shelf.new held) →
         ¬ Rose (H.faults shelf.old mem) (H.faults shelf.new mem) →
+        ¬ Rose (K.faults sink.old) (K.faults sink.new) →
+        (result ≡ Status.Done) ⊎ (result ≡ Status.Memory) }
+
+    // Triples of an accepted certificate's programs are told to be proved, likewise, where each
+    // derivation is accepted.
+    ensures proved { (file held third text read said : List ℕ) (target : Target)
+        (unit : TypedUnit) (c : texts.Certificate) (ts : List Triple) →
+        command_of (map string_bytes words.now) ≡ Some (Prove file held third target) →
+        Holds (H.contents shelf.old) (source file) text →
+        Holds (H.contents shelf.old) (certificate held) read →
+        Holds (H.contents shelf.old) (triples third) said →
+        IsTextOf target text unit → IsAcceptedText target read unit c →
+        AreTriplesText said ts → AllAccepted (programs unit c.functions) ts ts →
+        ¬ Rose (H.faults shelf.old file) (H.faults shelf.new file) →
+        ¬ Rose (H.faults shelf.old held) (H.faults shelf.new held) →
+        ¬ Rose (H.faults shelf.old third) (H.faults shelf.new third) →
         ¬ Rose (K.faults sink.old) (K.faults sink.new) →
         (result ≡ Status.Done) ⊎ (result ≡ Status.Memory) }
 

@@ -1,7 +1,7 @@
 -- The exit status of each answer.
 use Rattle.std.specs.Prelude.{ℕ}
 use Rattle.answers.specs.declared.status.Status.{Status}
-use Rattle.answers.specs.declared.status.Status.TheVariants.{Done, No, Words, Source, Text, ReadFault, WriteFault, Limit, Memory, NotYet}
+use Rattle.answers.specs.declared.status.Status.TheVariants.{Done, No, Words, Source, Text, ReadFault, WriteFault, Limit, Memory}
 
 abbrev pub code_of : Status → ℕ
 code_of Done = 0
@@ -13,4 +13,3 @@ code_of ReadFault = 5
 code_of WriteFault = 6
 code_of Limit = 7
 code_of Memory = 8
-code_of NotYet = 9

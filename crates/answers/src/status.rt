@@ -24,8 +24,6 @@ pub enum Status {
     Limit,
     /// There was no memory.
     Memory,
-    /// The words or the text ask for what isn't built.
-    NotYet,
 }
 
 impl Status {

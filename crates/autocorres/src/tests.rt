@@ -9,6 +9,7 @@ mod forms;
 mod generated;
 mod guards;
 mod progress;
+mod proves;
 mod refused_nodes;
 mod refused_texts;
 mod remarks_said;

@@ -18,21 +18,21 @@ use Rattle.certificate_text.specs.Answer.{IsCertificateText, IsFaultOf}
 use Rattle.certificate_text.proofs.CertificateLaws.{certificate_reads}
 use Rattle.certificate_text.proofs.Located.{one_certificate}
 use Rattle.answers.specs.declared.status.Status.{Status}
-use Rattle.answers.specs.declared.status.Status.TheVariants.{Done, No, Words, Source, Text, ReadFault, WriteFault, Limit, Memory, NotYet}
-use Rattle.checking.specs.Checked.{level_in, apart, target_for, IsSaid, OfCertificate, IsVerdict, IsChecked, IsAcceptedText}
+use Rattle.answers.specs.declared.status.Status.TheVariants.{Done, No, Words, Source, Text, ReadFault, WriteFault, Limit, Memory}
+use Rattle.checking.specs.Checked.{level_in, apart, target_for, OfCertificate, IsVerdict, IsChecked, IsAcceptedText}
 
-no_fault : (text : List ℕ) (c : Certificate) (fault : TextFault) (lines : List ℕ) → IsCertificateText text c → IsFaultOf text fault → IsSaid fault lines → ⊥
-no_fault text c F.NotText lines h k said = k.1.0.no_file (certificate_tree c, h.0.atoms, h.0.spelled)
-no_fault text c F.Deep lines h k said =
+no_fault : (text : List ℕ) (c : Certificate) (fault : TextFault) → IsCertificateText text c → IsFaultOf text fault → (fault ≡ F.Memory → ⊥) → ⊥
+no_fault text c F.NotText h k other = k.1.0.no_file (certificate_tree c, h.0.atoms, h.0.spelled)
+no_fault text c F.Deep h k other =
     let shallow = subst (λ t. nesting (take (k.0 + 1) t) ≤ deepest) (sym h.0.spelled) (file_is_shallow (certificate_tree c) h.0.atoms h.0.depth (k.0 + 1)) in
     let deep = k.1.deep in
     omega (arith, shallow, deep)
-no_fault text c (F.Shape n) lines h k said =
+no_fault text c (F.Shape n) h k other =
     let e : k.0 ≡ certificate_tree c = one_file k.0 (certificate_tree c) k.1.atoms h.0.atoms (sym k.1.spelled ∙ h.0.spelled) in
     let read = ap (certificate_at 0) e ∙ certificate_reads c h.1 0 in
     let bad = k.2 in
     absurd cc
-no_fault text c F.Memory lines h k said = said
+no_fault text c F.Memory h k other = other refl
 
 module _ (target : Target) (text : List ℕ) (unit : TypedUnit) (c : Certificate) (is : IsAcceptedText target text unit c) where
   this : (d : Certificate) → IsCertificateText text d → d ≡ c
@@ -53,7 +53,7 @@ module _ (target : Target) (text : List ℕ) (unit : TypedUnit) (c : Certificate
       of_verdict status lines (subst (λ (d : Certificate). IsVerdict unit d.functions status lines) (this h.certificate h.is_text) h.verdict)
 
   pub accepted_is_done : (status : Status) (lines : List ℕ) → IsChecked target text unit status lines → status ≡ Done
-  accepted_is_done Text lines (inl h) = absurd (no_fault text c h.fault lines is.is_text h.cause h.said)
+  accepted_is_done Text lines (inl h) = absurd (no_fault text c h.fault is.is_text h.cause h.not_memory)
   accepted_is_done Text lines (inr h) =
       absurd (h.other (ap (λ (d : Certificate). target_for d.version) (this h.certificate h.is_text) ∙ is.for_target))
   accepted_is_done Done lines h = of_certificate Done lines h
@@ -64,4 +64,3 @@ module _ (target : Target) (text : List ℕ) (unit : TypedUnit) (c : Certificate
   accepted_is_done WriteFault lines h = of_certificate WriteFault lines h
   accepted_is_done Limit lines h = of_certificate Limit lines h
   accepted_is_done Memory lines h = of_certificate Memory lines h
-  accepted_is_done NotYet lines h = of_certificate NotYet lines h

@@ -5,17 +5,20 @@ use Rattle.c_values.specs.Name.{Name}
 use Rattle.c_values.specs.Types.{Target}
 use Rattle.expression_lang.specs.Sort.{Level}
 use Rattle.expression_text.specs.declared.fault.TextFault.{TextFault}
+use Rattle.expression_text.specs.declared.fault.TextFault.TheVariants as F
 use Rattle.c_lang.specs.Typed.{TypedUnit}
 use Rattle.c_lang.specs.WellTyped.{IsWellTyped}
 use Rattle.c_levels.specs.CodeModes.{AreLevels}
 use Rattle.certificate_text.specs.CertificateText.{Certificate}
 use Rattle.certificate_text.specs.Answer.{IsCertificateText, IsFaultOf}
+use Rattle.pipeline.proofs.AcceptedExact.{accepted_is_exact}
+use Rattle.acceptance.specs.Certificate.{Steps}
 use Rattle.answers.specs.declared.answer.Answer.{Answer}
 use Rattle.answers.specs.declared.status.Status.{Status}
 use Rattle.answers.specs.declared.status.Status.TheVariants.{Done, No, Text}
 use Rattle.checking.specs.declared.verdicts.Accepted.{Accepted}
-use Rattle.checking.specs.Checked.{level_in, target_for, IsSaid, IsChecked}
-use Rattle.checking.specs.CodeJudged.{IsTurnedAway, IsJudged, IsJudgedAs}
+use Rattle.checking.specs.Checked.{level_in, target_for, fault_line, IsChecked, OfAccepted}
+use Rattle.checking.specs.CodeJudged.{IsAcceptedAs, IsTurnedAway, IsJudged, IsJudgedAs}
 use Rattle.checking.specs.Lines.{accepted_lines}
 use Rattle.checking.proofs.Decided.{accepts}
 
@@ -26,10 +29,10 @@ module _ (target : Target) (unit : TypedUnit) (text : List ℕ) where
   turned_away No lines h = h
   turned_away _ _ h = absurd h
 
-  pub no_certificate : (fault : TextFault) (status : Status) (lines : List ℕ) → IsFaultOf text fault → (status ≡ Text) × IsSaid fault lines →
+  pub no_certificate : (fault : TextFault) (status : Status) (lines : List ℕ) → IsFaultOf text fault → (status ≡ Text) × (lines ≡ fault_line (codes "certificate") fault) × (fault ≡ F.Memory → ⊥) →
       IsTurnedAway target text unit status lines
   no_certificate fault status lines cause h =
-      subst (λ s. IsTurnedAway target text unit s lines) (sym h.0) (inl (record { fault = fault; cause = cause; said = h.1 }))
+      subst (λ s. IsTurnedAway target text unit s lines) (sym h.0) (inl (record { fault = fault; cause = cause; not_memory = h.2; written = h.1 }))
 
   module _ (c : Certificate) (is_text : IsCertificateText text c) where
     pub for_another : (status : Status) (lines : List ℕ) → target_for c.version ≢ target →
@@ -43,6 +46,16 @@ module _ (target : Target) (unit : TypedUnit) (text : List ℕ) where
     for_target same (Err answer) h =
         subst (λ s. IsTurnedAway target text unit s answer.lines.items) (sym h.0)
         (record { certificate = c; is_text = is_text; for_target = same; verdict = h.1 })
+
+  -- what comes where it is accepted
+  pub of_accepted : IsWellTyped unit → (c : Certificate) → target_for c.version ≡ target → (a : Accepted) → IsAcceptedAs text unit c a →
+      (next : List Steps → Type 0) → next c.functions → OfAccepted target unit text next
+  of_accepted typed c for_target a is next h = record {
+    certificate = c;
+    accepted = record { is_text = is.is_text; for_target = for_target; listed = is.listed; accepted = is.accepted };
+    exact = accepted_is_exact unit typed (level_in c.functions) c.functions is.accepted;
+    answer = h;
+  }
 
   -- what is answered where it is accepted
   pub told_accepted : (a : Accepted) (status : Status) (lines : List ℕ) → IsWellTyped unit → IsJudged target text unit (Ok a) → status ≡ Done →

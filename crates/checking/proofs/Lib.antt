@@ -1,7 +1,7 @@
 pub mod AcceptedText
 mod Along
 pub mod Answered
-mod Certified
+pub mod Certified
 mod Dropped
 pub mod Indexed
 pub mod Decided

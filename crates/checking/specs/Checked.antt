@@ -7,6 +7,7 @@ use Rattle.c_values.specs.Types.{Target, Ilp32}
 use Rattle.expression_lang.specs.Sort.{Level, Bytes}
 use Rattle.c_lang.specs.Typed.{TypedUnit, TypedFn}
 use Rattle.generation.specs.Generate.{generated}
+use Rattle.monad_lang.specs.Program.{FinalUnit}
 use Rattle.monad_lang.specs.Sorted.{IsWellFormed}
 use Rattle.exactness.specs.Exact.{AreProgramsOf, IsExact}
 use Rattle.acceptance.specs.Certificate.{Steps}
@@ -47,6 +48,10 @@ module _ (unit : TypedUnit) (cs : List Steps) where
   abbrev pub levels : Name → Level
   levels = level_in cs
 
+  -- the last programs of the certificate
+  abbrev pub programs : FinalUnit
+  programs = last_unit (generated unit levels) cs
+
   abbrev pub apart : Option (ℕ × Name)
   apart = listed_apart 0 (function_names unit.functions) (names_in cs)
 
@@ -55,11 +60,11 @@ module _ (unit : TypedUnit) (cs : List Steps) where
   pub record Accepts (lines : List ℕ) : Type 0 where
     pub listed : apart ≡ None
     pub accepted : IsAccepted (generated unit levels) cs
-    pub of_unit : AreProgramsOf unit levels (last_unit (generated unit levels) cs)
-    pub exact : IsExact unit levels (last_unit (generated unit levels) cs)
-    pub well_formed : IsWellFormed (last_unit (generated unit levels) cs)
-    pub formed : AreOfTheirForms (last_unit (generated unit levels) cs).functions
-    pub steady : IsUnitSteady (last_unit (generated unit levels) cs)
+    pub of_unit : AreProgramsOf unit levels programs
+    pub exact : IsExact unit levels programs
+    pub well_formed : IsWellFormed programs
+    pub formed : AreOfTheirForms programs.functions
+    pub steady : IsUnitSteady programs
     pub written : lines ≡ accepted_lines levels unit.functions
 
   -- its functions aren't the text's: this is the first that differs
@@ -89,18 +94,22 @@ abbrev pub target_for : Version → Target
 target_for One = Ilp32
 target_for (Two t) = t
 
--- what is said of a text that isn't a certificate's
-abbrev pub IsSaid : TextFault → List ℕ → Type 0
-IsSaid F.NotText lines = lines ≡ codes "text: certificate not text\n"
-IsSaid F.Deep lines = lines ≡ codes "text: certificate deep\n"
-IsSaid (F.Shape n) lines = lines ≡ codes "text: certificate shape at " ++ (decimal n ++ codes "\n")
-IsSaid F.Memory lines = ⊥
+-- what is said of a text that isn't of its kind
+abbrev pub fault_line : List ℕ → TextFault → List ℕ
+fault_line kind F.NotText = codes "text: " ++ (kind ++ codes " not text\n")
+fault_line kind F.Deep = codes "text: " ++ (kind ++ codes " deep\n")
+fault_line kind (F.Shape n) = codes "text: " ++ (kind ++ (codes " shape at " ++ (decimal n ++ codes "\n")))
+fault_line kind F.Memory = []
 
--- the text isn't a certificate's: this is its first fault
-pub record IsNoCertificate (text lines : List ℕ) : Type 0 where
+-- a text isn't of its kind: this is its first fault
+pub record IsNoText (kind : List ℕ) (Faults : TextFault → Type 0) (lines : List ℕ) : Type 0 where
   pub fault : TextFault
-  pub cause : IsFaultOf text fault
-  pub said : IsSaid fault lines
+  pub cause : Faults fault
+  pub not_memory : fault ≡ F.Memory → ⊥
+  pub written : lines ≡ fault_line kind fault
+
+abbrev pub IsNoCertificate : List ℕ → List ℕ → Type 0
+IsNoCertificate text lines = IsNoText (codes "certificate") (IsFaultOf text) lines
 
 -- it is that of a certificate for another target
 pub record IsForAnother (target : Target) (text lines : List ℕ) : Type 0 where
@@ -127,3 +136,10 @@ pub record IsAcceptedText (target : Target) (text : List ℕ) (unit : TypedUnit)
   pub for_target : target_for c.version ≡ target
   pub listed : apart unit c.functions ≡ None
   pub accepted : IsAccepted (generated unit (level_in c.functions)) c.functions
+
+-- The certificate is accepted, so that its last programs are exact, and this comes next.
+pub record OfAccepted (target : Target) (unit : TypedUnit) (text : List ℕ) (next : List Steps → Type 0) : Type 0 where
+  pub certificate : Certificate
+  pub accepted : IsAcceptedText target text unit certificate
+  pub exact : IsExact unit (level_in certificate.functions) (programs unit certificate.functions)
+  pub answer : next certificate.functions

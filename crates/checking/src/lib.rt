@@ -4,6 +4,7 @@
 #![tactic(auto)]
 
 mod certificates;
+mod faults;
 mod last_programs;
 mod levels;
 mod lines;
@@ -15,6 +16,7 @@ mod trials;
 mod verdicts;
 
 pub use certificates::{check_certificate, final_unit};
+pub use faults::no_text;
 pub use levels::{ListFault, index_levels, levels_of};
 pub use parts::refused_part;
 pub use refused::{Phase, Refused};

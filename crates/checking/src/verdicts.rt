@@ -13,21 +13,20 @@ ghost use Rattle.answers.specs.declared.status.Status.{Status};
 ghost use Rattle.checking.specs.Lines.{refusal_line};
 ghost use Rattle.checking.specs.Refused.{refused_text};
 ghost use Rattle.checking.specs.CodeRefused.{phase_of};
-ghost use Rattle.checking.specs.Checked.{IsChecked, IsSaid, apart, function_names, target_for};
+ghost use Rattle.checking.specs.Checked.{IsChecked, apart, function_names, target_for};
 ghost use Rattle.checking.specs.CodeJudged.{IsJudged, IsJudgedAs};
 
+use crate::faults::no_text;
 use crate::lines::{accepted, name_at, phase_word, refusal};
 use crate::names::apart;
 use crate::refused::Refused;
 use crate::trials::try_listed;
 use ac_base::Progress;
-use answers::{Answer, Status, line, push};
+use answers::{Answer, Status, line};
 use c_lang::tree::TypedUnit;
 use c_levels::Modes;
 use c_values::Target;
 use certificate_text::{CertIndex, Version, scan};
-use expression_text::TextFault;
-use itoa::Buffer;
 use simpl_lang::SimplUnit;
 use std::alloc::{AllocError, Global};
 
@@ -81,34 +80,8 @@ pub fn judged<P: Progress>(
     }
     match scan(alloc, text) {
         Ok(index) => of_index(alloc, unit, target, text, index, progress),
-        Err(fault) => Ok(Err(no_certificate(alloc, fault)?)),
+        Err(fault) => Ok(Err(no_text(alloc, "certificate", fault)?)),
     }
-}
-
-// The answer to a text that isn't a certificate's.
-fn no_certificate(alloc: Global, fault: TextFault) -> Result<Answer, AllocError>
-    ensures { IfOk result (λ a. (a.status ≡ Status.Text) × IsSaid fault a.lines.items) }
-{
-    match fault {
-        TextFault::NotText => line(alloc, Status::Text, "text: certificate not text\n"),
-        TextFault::Deep => line(alloc, Status::Text, "text: certificate deep\n"),
-        TextFault::Shape(at) => bad_node(alloc, at),
-        TextFault::Memory => Err(AllocError),
-    }
-}
-
-// The first node of a tree that isn't a certificate's.
-fn bad_node(alloc: Global, at: u32) -> Result<Answer, AllocError>
-    ensures { IfOk result
-        (λ a. (a.status ≡ Status.Text) × IsSaid (TextFault.Shape at) a.lines.items) }
-{
-    let mut lines = Vec::from_slice(alloc, b"text: certificate shape at ")?;
-    push(&mut lines, Buffer::new().format(at))?;
-    push(&mut lines, "\n")?;
-    Ok(Answer {
-        status: Status::Text,
-        lines,
-    })
 }
 
 // What the text of a certificate comes to, by its index.

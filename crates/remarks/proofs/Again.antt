@@ -6,7 +6,7 @@ use Rattle.c_lang.specs.Typed.{TypedUnit}
 use Rattle.ac_base.specs.Shelf.{AreWhole, IsLonger}
 use Rattle.ac_base.proofs.Faults.{Rose_within}
 use Rattle.answers.specs.declared.status.Status.{Status}
-use Rattle.answers.specs.declared.status.Status.TheVariants.{Done, No, Words, Source, Text, ReadFault, WriteFault, Limit, Memory, NotYet}
+use Rattle.answers.specs.declared.status.Status.TheVariants.{Done, No, Words, Source, Text, ReadFault, WriteFault, Limit, Memory}
 use Rattle.text_answers.specs.TextAnswer.{IsTextAnswer}
 use Rattle.text_answers.proofs.OneAnswer.{one_answer}
 use Rattle.remarks.specs.Remark.{Again, IsSeen}
@@ -40,4 +40,3 @@ module _ (target : Target) (text certificate : List ℕ) where
   seen WriteFault lines h = none_told WriteFault lines (λ unit k. absurd k) h
   seen Limit lines h = none_told Limit lines (λ unit k. absurd k) h
   seen Memory lines h = none_told Memory lines (λ unit k. absurd k) h
-  seen NotYet lines h = none_told NotYet lines (λ unit k. absurd k) h

@@ -4,7 +4,7 @@ use Rattle.std.specs.Prelude.{Option, Some, None, Result, Ok, Err, IfOk}
 use Rattle.c_values.specs.Name.{Name}
 use Rattle.c_values.specs.Types.{Target}
 use Rattle.ac_base.specs.Shelf.{AreWhole, IsLonger}
-use Rattle.command_line.specs.Words.{Command, Write, Check, Run, target_of}
+use Rattle.command_line.specs.Words.{Command, Write, Check, Run, Prove, target_of}
 use Rattle.answers.specs.declared.status.Status.{Status}
 use Rattle.answers.specs.declared.status.Status.TheVariants.{Source}
 use Rattle.remarks.specs.Remark.{source_limit, Refuses, OfText, c_file, OfFile, IsRemark, IsRefused}
@@ -40,6 +40,7 @@ module _ (contents : Name → Option (List ℕ)) (before after : Name → ℕ) (
   placed (Write form f options) bytes e h = of_some _ bytes (f, target_of options) e h
   placed (Check f cert t) bytes e h = of_some _ bytes (f, t) e h
   placed (Run f cert memory t) bytes e h = of_some _ bytes (f, t) e h
+  placed (Prove f cert triples t) bytes e h = of_some _ bytes (f, t) e h
   placed _ bytes e h = absurd cc
 
 same_command : (x y : Command) → Some x ≡ Some y → x ≡ y

@@ -5,11 +5,11 @@ use Rattle.c_values.specs.Name.{Name}
 use Rattle.c_values.specs.Types.{Target}
 use Rattle.ac_base.specs.Count.{Rose}
 use Rattle.ac_base.specs.Shelf.{AreWhole, IsLonger}
-use Rattle.command_line.specs.Words.{Command, Write, Check, Run, Sample, Trial, target_of}
+use Rattle.command_line.specs.Words.{Command, Write, Check, Run, Prove, Sample, Trial, target_of}
 use Rattle.text_places.specs.Place.{line_at, column_at}
 use Rattle.text_places.specs.Shown.{marked_line}
 use Rattle.answers.specs.declared.status.Status.{Status}
-use Rattle.answers.specs.declared.status.Status.TheVariants.{Done, No, Words, Source, Text, ReadFault, WriteFault, Limit, Memory, NotYet}
+use Rattle.answers.specs.declared.status.Status.TheVariants.{Done, No, Words, Source, Text, ReadFault, WriteFault, Limit, Memory}
 use Rattle.c_lang.specs.Typed.{TypedUnit}
 use Rattle.text_answers.specs.TextAnswer.{IsTextOf}
 use Rattle.checking.specs.RefusedPart.{IsShown}
@@ -55,6 +55,9 @@ long_certificate = codes "the file has more than 67108864 bytes"
 abbrev pub long_run : List ℕ
 long_run = codes "a memory has at most 1048576 bytes and 100000 turns, and a certificate 67108864 bytes"
 
+abbrev pub long_triples : List ℕ
+long_triples = codes "a text of triples has at most 4194304 bytes, and a certificate 67108864 bytes"
+
 abbrev pub unread : List ℕ
 unread = codes "the file can't be read"
 
@@ -73,6 +76,12 @@ no_certificate = codes "this isn't what translate writes, or it is for another t
 abbrev pub no_start : List ℕ
 no_start = codes "this isn't what translate writes for the target, or no memory that a function of the C file can run from"
 
+abbrev pub no_triples : List ℕ
+no_triples = codes "this isn't what translate writes for the target, or no text of triples with their derivations"
+
+abbrev pub not_proved : List ℕ
+not_proved = codes "this isn't accepted: the answer names the function, then the step of the certificate or the triple, and the node"
+
 abbrev pub long_sample : List ℕ
 long_sample = codes "a sample has at most 200 functions\n"
 
@@ -81,9 +90,6 @@ not_written = codes "the answer couldn't be written whole\n"
 
 abbrev pub no_memory : List ℕ
 no_memory = codes "there isn't enough memory\n"
-
-abbrev pub not_built : List ℕ
-not_built = codes "this command isn't built yet\n"
 
 -- what is said where no file is looked at
 
@@ -95,12 +101,14 @@ abbrev pub of_unread : Option Command → List ℕ
 of_unread (Some (Write form file options)) = about file unread
 of_unread (Some (Check file cert target)) = about (file ++ (codes " or " ++ cert)) unread
 of_unread (Some (Run file cert mem target)) = about (file ++ (codes ", " ++ (cert ++ (codes " or " ++ mem)))) unread
+of_unread (Some (Prove file cert triples target)) = about (file ++ (codes ", " ++ (cert ++ (codes " or " ++ triples)))) unread
 of_unread _ = []
 
 -- of a file whose text isn't of its form
 abbrev pub of_text : Option Command → List ℕ
 of_text (Some (Check file cert target)) = about cert no_certificate
 of_text (Some (Run file cert mem target)) = about (cert ++ (codes " or " ++ mem)) no_start
+of_text (Some (Prove file cert triples target)) = about (cert ++ (codes " or " ++ triples)) no_triples
 of_text _ = []
 
 abbrev pub plain : Option Command → Status → List ℕ
@@ -113,7 +121,6 @@ plain command ReadFault = of_unread command
 plain command WriteFault = not_written
 plain command Limit = []
 plain command Memory = no_memory
-plain command NotYet = not_built ++ usage
 
 -- A C text is looked at again: it is refused, and this is said of its first fault, the one that standard output tells; or it is typed.
 pub record Refuses (target : Target) (file : Name) (text bytes : List ℕ) : Type 0 where
@@ -149,6 +156,7 @@ abbrev pub c_file : Command → Option (Name × Target)
 c_file (Write form file options) = Some (file, target_of options)
 c_file (Check file cert target) = Some (file, target)
 c_file (Run file cert mem target) = Some (file, target)
+c_file (Prove file cert triples target) = Some (file, target)
 c_file _ = None
 
 module _ (contents : Name → Option (List ℕ)) (before after : Name → ℕ) where
@@ -184,6 +192,7 @@ module _ (contents : Name → Option (List ℕ)) (before after : Name → ℕ) w
   abbrev pub OfNo : Command → List ℕ → Type 0
   OfNo (Check file cert target) bytes = OfFiles target file cert bytes
   OfNo (Run file cert mem target) bytes = OfFiles target file cert bytes
+  OfNo (Prove file cert triples target) bytes = bytes ≡ about (cert ++ (codes " or " ++ triples)) not_proved
   OfNo _ bytes = bytes ≡ []
 
   -- the C text was refused
@@ -191,16 +200,17 @@ module _ (contents : Name → Option (List ℕ)) (before after : Name → ℕ) w
   OfSource (Write form file options) bytes = OfFile (target_of options) file (about file changed) bytes
   OfSource (Check file cert target) bytes = OfFile target file (about file changed) bytes
   OfSource (Run file cert mem target) bytes = OfFile target file (about file changed) bytes
+  OfSource (Prove file cert triples target) bytes = OfFile target file (about file changed) bytes
   OfSource _ bytes = bytes ≡ []
 
-  -- a limit was passed: by the C text, or, where that is typed, by what is generated for it, by the certificate or by the memory
+  -- a limit was passed: by the C text, or, where that is typed, by what is generated for it, by the certificate, by the memory or by the triples
   abbrev pub OfLimit : Command → List ℕ → Type 0
   OfLimit (Write form file options) bytes = OfFile (target_of options) file (about file long_function) bytes
   OfLimit (Check file cert target) bytes = OfFile target file (about cert long_certificate) bytes
   OfLimit (Run file cert mem target) bytes = OfFile target file (about mem long_run) bytes
+  OfLimit (Prove file cert triples target) bytes = OfFile target file (about triples long_triples) bytes
   OfLimit (Sample n) bytes = bytes ≡ long_sample
   OfLimit (Trial n target) bytes = bytes ≡ long_sample
-  OfLimit _ bytes = bytes ≡ []
 
   -- what is said of a command, or of words of no form, that ended with this status
   abbrev pub IsRemark : Option Command → Status → List ℕ → Type 0

@@ -27,6 +27,15 @@ const LONG_CERTIFICATE: &str = "the file has more than 67108864 bytes";
 const LONG_RUN: &str =
     "a memory has at most 1048576 bytes and 100000 turns, and a certificate 67108864 bytes";
 
+const LONG_TRIPLES: &str =
+    "a text of triples has at most 4194304 bytes, and a certificate 67108864 bytes";
+
+const NO_TRIPLES: &str =
+    "this isn't what translate writes for the target, or no text of triples with their derivations";
+
+const NOT_PROVED: &str =
+    "this isn't accepted: the answer names the function, then the step of the certificate or the triple, and the node";
+
 const UNREAD: &str = "the file can't be read";
 
 const UNKNOWN_FUNCTION: &str =
@@ -123,6 +132,13 @@ fn of_source<H: Shelf>(
             };
             of_file(alloc, target, file, otherwise, shelf)
         }
+        Command::Prove(file, _, _, target) => {
+            let otherwise = Otherwise {
+                file,
+                sentence: CHANGED,
+            };
+            of_file(alloc, target, file, otherwise, shelf)
+        }
         _ => Ok(Vec::new(alloc)),
     }
 }
@@ -160,10 +176,16 @@ fn of_limit<H: Shelf>(
             };
             of_file(alloc, target, file, otherwise, shelf)
         }
+        Command::Prove(file, _, triples, target) => {
+            let otherwise = Otherwise {
+                file: triples,
+                sentence: LONG_TRIPLES,
+            };
+            of_file(alloc, target, file, otherwise, shelf)
+        }
         Command::Sample(_) | Command::Trial(_, _) => {
             text(alloc, "a sample has at most 200 functions\n")
         }
-        _ => Ok(Vec::new(alloc)),
     }
 }
 
@@ -182,6 +204,9 @@ fn of_no<H: Shelf>(
         Command::Check(file, certificate, target) | Command::Run(file, certificate, _, target) => {
             of_files(alloc, target, file, certificate, shelf)
         }
+        Command::Prove(_, certificate, triples, _) => {
+            either(alloc, certificate, triples, NOT_PROVED)
+        }
         _ => Ok(Vec::new(alloc)),
     }
 }
@@ -198,7 +223,6 @@ fn plain(alloc: Global, command: Option<Command<'_>>, status: Status) -> Result<
         Status::ReadFault => of_unread(alloc, command),
         Status::WriteFault => text(alloc, "the answer couldn't be written whole\n"),
         Status::Memory => text(alloc, "there isn't enough memory\n"),
-        Status::NotYet => not_built(alloc),
     }
 }
 
@@ -211,6 +235,9 @@ fn no_text(alloc: Global, command: Option<Command<'_>>) -> Result<Vec<u8>, Alloc
         Some(Command::Check(_, certificate, _)) => about(alloc, certificate, NO_CERTIFICATE),
         Some(Command::Run(_, certificate, memory, _)) => {
             either(alloc, certificate, memory, NO_START)
+        }
+        Some(Command::Prove(_, certificate, triples, _)) => {
+            either(alloc, certificate, triples, NO_TRIPLES)
         }
         _ => Ok(Vec::new(alloc)),
     }
@@ -237,6 +264,9 @@ fn of_unread(alloc: Global, command: Option<Command<'_>>) -> Result<Vec<u8>, All
         Some(Command::Check(file, certificate, _)) => { either(alloc, file, certificate, UNREAD) }
         Some(Command::Run(file, certificate, memory, _)) => {
             any_of_three(alloc, file, certificate, memory)
+        }
+        Some(Command::Prove(file, certificate, triples, _)) => {
+            any_of_three(alloc, file, certificate, triples)
         }
         _ => Ok(Vec::new(alloc)),
     }
@@ -265,14 +295,6 @@ fn any_of_three(alloc: Global, file: &str, second: &str, third: &str) -> Result<
     push(&mut lines, " or ")?;
     push(&mut lines, third)?;
     push_sentence(&mut lines, UNREAD)?;
-    Ok(lines)
-}
-
-fn not_built(alloc: Global) -> Result<Vec<u8>, AllocError>
-    ensures { IfOk result (λ v. v.items ≡ specs.not_built ++ usage) }
-{
-    let mut lines = text(alloc, "this command isn't built yet\n")?;
-    push(&mut lines, usage())?;
     Ok(lines)
 }
 

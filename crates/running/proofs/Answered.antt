@@ -7,7 +7,6 @@ use Rattle.c_memory.specs.declared.faults.HeapFault.TheVariants as H
 use Rattle.c_lang.specs.Typed.{TypedUnit}
 use Rattle.c_lang.specs.WellTyped.{IsWellTyped}
 use Rattle.acceptance.specs.Certificate.{Steps}
-use Rattle.pipeline.proofs.AcceptedExact.{accepted_is_exact}
 use Rattle.certificate_text.specs.CertificateText.{Certificate}
 use Rattle.expression_text.specs.declared.fault.TextFault.TheVariants as F
 use Rattle.memory_text.specs.MemoryText.{Memory, most_turns}
@@ -15,10 +14,11 @@ use Rattle.memory_text.specs.Answer.{IsMemoryText}
 use Rattle.memory_text.specs.declared.fault.MemoryFault.TheVariants as M
 use Rattle.answers.specs.declared.status.Status.{Status}
 use Rattle.answers.specs.declared.status.Status.TheVariants.{Done, No, Text, Limit}
-use Rattle.checking.specs.Checked.{target_for, level_in}
+use Rattle.checking.specs.Checked.{target_for}
 use Rattle.checking.specs.CodeJudged.{IsAcceptedAs, IsTurnedAway}
 use Rattle.checking.specs.declared.verdicts.Accepted.{Accepted}
-use Rattle.running.specs.Ran.{OfAccepted, OfMemory, IsNoMemory, IsBadlyTagged, HasTooManyTurns, IsRan, heap_text}
+use Rattle.checking.proofs.Certified.{of_accepted}
+use Rattle.running.specs.Ran.{OfMemory, IsNoMemory, IsBadlyTagged, HasTooManyTurns, IsRan, heap_text}
 use Rattle.running.specs.CodeRuns.{IsRunFrom, IsRunOf}
 
 module _ (target : Target) (text memory : List ℕ) (unit : TypedUnit) where
@@ -28,18 +28,10 @@ module _ (target : Target) (text memory : List ℕ) (unit : TypedUnit) where
   turned_away _ _ h = absurd h
 
   module _ (typed : IsWellTyped unit) (c : Certificate) (for_target : target_for c.version ≡ target) (a : Accepted) (is : IsAcceptedAs text unit c a) where
-    of_accepted : (next : List Steps → Type 0) → next c.functions → OfAccepted target unit text next
-    of_accepted next h = record {
-      certificate = c;
-      accepted = record { is_text = is.is_text; for_target = for_target; listed = is.listed; accepted = is.accepted };
-      exact = accepted_is_exact unit typed (level_in c.functions) c.functions is.accepted;
-      answer = h;
-    }
-
     pub after_certificate : (status : Status) (lines : List ℕ) → IsRunOf unit c.functions memory status lines → IsRan target text memory unit status lines
-    after_certificate Done lines h = of_accepted (OfMemory unit memory lines) h
-    after_certificate Limit lines h = of_accepted (λ cs. HasTooManyTurns unit memory lines) h
-    after_certificate Text lines h = inr (of_accepted (λ cs. IsNoMemory unit memory lines ⊎ IsBadlyTagged unit memory lines) h)
+    after_certificate Done lines h = of_accepted target unit text typed c for_target a is (OfMemory unit memory lines) h
+    after_certificate Limit lines h = of_accepted target unit text typed c for_target a is (λ cs. HasTooManyTurns unit memory lines) h
+    after_certificate Text lines h = inr (of_accepted target unit text typed c for_target a is (λ cs. IsNoMemory unit memory lines ⊎ IsBadlyTagged unit memory lines) h)
     after_certificate _ _ h = absurd h
 
 module _ (unit : TypedUnit) (cs : List Steps) (text : List ℕ) where

@@ -9,12 +9,12 @@ use Rattle.pipeline.proofs.AcceptedExact.{accepted_is_exact}
 use Rattle.certificate_text.specs.CertificateText.{Certificate}
 use Rattle.run_start.specs.Start.{bytes_in, globals_in, arguments_in, nested_calls}
 use Rattle.run_lines.specs.RunLines.{Verdict, verdict, verdict_text, line_end, c_lines, program_lines}
-use Rattle.checking.specs.Checked.{level_in}
+use Rattle.checking.specs.Checked.{level_in, programs}
 use Rattle.checking.specs.CodeJudged.{IsAcceptedAs}
 use Rattle.checking.specs.declared.verdicts.Accepted.{Accepted}
 use Rattle.running.specs.declared.start.Start as S
 use Rattle.running.specs.declared.start.Came as C
-use Rattle.running.specs.Runs.{Runs, programs, told}
+use Rattle.running.specs.Runs.{Runs, told}
 use Rattle.running.specs.CodeRuns.{unit_at, function_at, memory_at, IsStart, CSide, ProgramSide, c_came, program_came, verdict_for}
 use Rattle.running.proofs.Starts.{found, is_begin}
 use Rattle.running.proofs.Agree as both

@@ -36,10 +36,9 @@ use Rattle.c_meaning.specs.Kinds.{variables}
 use Rattle.exactness.specs.Exact.{IsProgramOf, ArePrograms}
 use Rattle.acceptance.specs.Certificate.{Steps}
 use Rattle.run_lines.specs.CodeEnds.{given}
-use Rattle.checking.specs.Checked.{level_in}
+use Rattle.checking.specs.Checked.{level_in, programs}
 use Rattle.checking.specs.Programs.{AreExactPrograms}
 use Rattle.running.specs.declared.start.Start as S
-use Rattle.running.specs.Runs.{programs}
 use Rattle.running.specs.CodeRuns.{unit_at, function_at, memory_at, begin_at, IsStart, HasProgramEnd, HasOutcome, program_ends_at}
 use Rattle.running.proofs.Globals.{same_globals, of_types_there}
 use Rattle.running.proofs.Starts.{behind_map, views_sorted}

@@ -36,10 +36,10 @@ use Rattle.run_start.specs.Start.{begin_of, bytes_in}
 use Rattle.run_lines.specs.CodeEnds.{given}
 use Rattle.run_lines.specs.RunLines.{Verdict, Agree, Fail, Open, c_lines, program_lines}
 use Rattle.run_lines.specs.declared.ends.ProgramStop as P
-use Rattle.checking.specs.Checked.{level_in}
+use Rattle.checking.specs.Checked.{level_in, programs}
 use Rattle.running.specs.declared.start.Start as S
 use Rattle.running.specs.declared.start.Came as C
-use Rattle.running.specs.Runs.{Runs, programs, told, wide_ends}
+use Rattle.running.specs.Runs.{Runs, told, wide_ends}
 use Rattle.running.specs.Ran.{OfMemory, IsNoMemory, IsBadlyTagged, HasTooManyTurns, heap_text}
 
 abbrev pub unit_at : S.Start → TypedUnit

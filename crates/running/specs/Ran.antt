@@ -7,39 +7,18 @@ use Rattle.c_lang.specs.Typed.{TypedUnit}
 use Rattle.c_memory.specs.TagFault.{first_fault}
 use Rattle.c_memory.specs.declared.faults.HeapFault.{HeapFault}
 use Rattle.c_memory.specs.declared.faults.HeapFault.TheVariants as H
-use Rattle.exactness.specs.Exact.{IsExact}
 use Rattle.acceptance.specs.Certificate.{Steps}
-use Rattle.expression_text.specs.declared.fault.TextFault.{TextFault}
-use Rattle.expression_text.specs.declared.fault.TextFault.TheVariants as F
-use Rattle.certificate_text.specs.CertificateText.{Certificate}
 use Rattle.memory_text.specs.MemoryText.{Memory, most_turns}
 use Rattle.memory_text.specs.Answer.{IsMemoryText, IsFaultOf}
 use Rattle.memory_text.specs.declared.fault.MemoryFault.TheVariants as M
 use Rattle.answers.specs.declared.status.Status.{Status}
 use Rattle.answers.specs.declared.status.Status.TheVariants.{Done, No, Text, Limit}
-use Rattle.checking.specs.Checked.{IsAcceptedText, IsNoCertificate, IsForAnother, OfCertificate, level_in}
-use Rattle.running.specs.Runs.{Runs, programs}
+use Rattle.checking.specs.Checked.{IsNoText, IsNoCertificate, IsForAnother, OfCertificate, OfAccepted}
+use Rattle.running.specs.Runs.{Runs}
 
--- The certificate is accepted, so that its last programs are exact, and this comes next.
-pub record OfAccepted (target : Target) (unit : TypedUnit) (text : List ℕ) (next : List Steps → Type 0) : Type 0 where
-  pub certificate : Certificate
-  pub accepted : IsAcceptedText target text unit certificate
-  pub exact : IsExact unit (level_in certificate.functions) (programs unit certificate.functions)
-  pub answer : next certificate.functions
-
--- what is said of a text that isn't a memory's
-abbrev pub fault_text : TextFault → List ℕ
-fault_text F.NotText = codes "text: memory not text\n"
-fault_text F.Deep = codes "text: memory deep\n"
-fault_text (F.Shape n) = codes "text: memory shape at " ++ (decimal n ++ codes "\n")
-fault_text F.Memory = []
-
--- the text isn't a memory's: this is its first fault
-pub record IsNoMemory (unit : TypedUnit) (text lines : List ℕ) : Type 0 where
-  pub fault : TextFault
-  pub cause : IsFaultOf unit text (M.Text fault)
-  pub not_memory : fault ≡ F.Memory → ⊥
-  pub written : lines ≡ fault_text fault
+-- the text isn't a memory's
+abbrev pub IsNoMemory : TypedUnit → List ℕ → List ℕ → Type 0
+IsNoMemory unit text lines = IsNoText (codes "memory") (λ fault. IsFaultOf unit text (M.Text fault)) lines
 
 -- what is wrong with the tag of a number
 abbrev pub tag_text : ℕ → List ℕ → List ℕ

@@ -15,14 +15,12 @@ use Rattle.program_runs.specs.WideRun.{Trouble, Fails, IsWide, wide_program_runs
 use Rattle.c_lang.specs.Typed.{TypedUnit, TypedFn, typed_fn}
 use Rattle.c_meaning.specs.CRun.{plain}
 use Rattle.c_meaning.specs.Kinds.{variables}
-use Rattle.generation.specs.Generate.{generated}
 use Rattle.exactness.specs.Exact.{Begin, IsBegin, ReturnsAs, IsUndefined, c_ends, heap_for}
 use Rattle.acceptance.specs.Certificate.{Steps}
-use Rattle.pipeline.specs.Units.{last_unit}
 use Rattle.memory_text.specs.MemoryText.{Memory}
 use Rattle.run_start.specs.Start.{begin_of}
 use Rattle.run_lines.specs.RunLines.{run_lines}
-use Rattle.checking.specs.Checked.{level_in}
+use Rattle.checking.specs.Checked.{level_in, programs}
 
 -- what the program of a function ends with where numbers have 128 bits, from a heap
 abbrev pub wide_ends : TypedUnit → Level → FinalUnit → TypedFn → Begin → Heap → Ends Answer Trouble
@@ -40,10 +38,6 @@ told (Failed t) = Failed (operation_in t)
 told (Stopped w) = Stopped w
 
 module _ (unit : TypedUnit) (cs : List Steps) where
-  -- the last programs of the certificate
-  abbrev pub programs : FinalUnit
-  programs = last_unit (generated unit (level_in cs)) cs
-
   -- What is written of a run: where it begins, how the C ends, of which no more is watched than what every level watches, and how the program ends, on the heap of its level.
   pub record Runs (m : Memory) (lines : List ℕ) : Type 0 where
     pub function : TypedFn
@@ -52,7 +46,7 @@ module _ (unit : TypedUnit) (cs : List Steps) where
     pub c : Outcome Returned GuardKind
     pub c_is : c_ends unit plain function (begin_of unit function m) c
     pub program : Outcome Answer Trouble
-    pub program_is : wide_ends unit (level_in cs function.name) programs function (begin_of unit function m)
+    pub program_is : wide_ends unit (level_in cs function.name) (programs unit cs) function (begin_of unit function m)
         (heap_for unit.layout (is_lifted (level_in cs function.name)) (begin_of unit function m).memory) program
     pub written : lines ≡ run_lines unit function m c (told program)
     -- where the program gives a value, so does the C, and the program's is the view of it, with the same memory and globals

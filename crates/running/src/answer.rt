@@ -11,14 +11,14 @@ ghost use Rattle.checking.specs.CodeJudged.{IsAcceptedAs};
 ghost use Rattle.running.specs.Ran.{IsRan};
 ghost use Rattle.running.specs.CodeRuns.{IsRunFrom, IsRunOf};
 
-use crate::faults::{badly_tagged, no_memory};
+use crate::faults::badly_tagged;
 use crate::sides::run_lines;
 use crate::start::Start;
 use ac_base::Progress;
 use answers::{Answer, Status, line};
 use c_lang::tree::TypedUnit;
 use c_values::Target;
-use checking::{Accepted, judged};
+use checking::{Accepted, judged, no_text};
 use memory_text::{MemoryFault, MemoryText, read_memory};
 use run_start::{heap_of, position_of};
 use std::alloc::{AllocError, Global};
@@ -64,7 +64,7 @@ fn with_memory(
 {
     match read_memory(alloc, memory, unit) {
         Ok(memory) => from_memory(alloc, unit, certificate, accepted, &memory),
-        Err(MemoryFault::Text(fault)) => no_memory(alloc, fault),
+        Err(MemoryFault::Text(fault)) => no_text(alloc, "memory", fault),
         Err(MemoryFault::Turns) => line(alloc, Status::Limit, "limit: turns\n"),
     }
 }

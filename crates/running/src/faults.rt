@@ -1,41 +1,13 @@
-//! The lines that refuse the text of a memory.
+//! The lines that refuse a memory.
 
 ghost use Rattle.std.specs.Prelude.{◌≡◌, IfOk};
 ghost use Rattle.answers.specs.declared.status.Status.{Status};
-ghost use Rattle.running.specs.Ran.{fault_text, heap_text, tag_text};
+ghost use Rattle.running.specs.Ran.{heap_text, tag_text};
 
-use answers::{Answer, Status, line, push};
+use answers::{Answer, Status, push};
 use c_memory::HeapFault;
-use expression_text::TextFault;
 use itoa::Buffer;
 use std::alloc::{AllocError, Global};
-
-/// The answer to a text that isn't a memory's.
-pub(crate) fn no_memory(alloc: Global, fault: TextFault) -> Result<Answer, AllocError>
-    ensures { IfOk result (λ a. (a.status ≡ Status.Text) × (a.lines.items ≡ fault_text fault)
-        × (fault ≡ TextFault.Memory → ⊥)) }
-{
-    match fault {
-        TextFault::NotText => line(alloc, Status::Text, "text: memory not text\n"),
-        TextFault::Deep => line(alloc, Status::Text, "text: memory deep\n"),
-        TextFault::Shape(at) => bad_node(alloc, at),
-        TextFault::Memory => Err(AllocError),
-    }
-}
-
-// The first node of a tree that isn't a memory's.
-fn bad_node(alloc: Global, at: u32) -> Result<Answer, AllocError>
-    ensures { IfOk result (λ a. (a.status ≡ Status.Text)
-        × (a.lines.items ≡ fault_text (TextFault.Shape at))) }
-{
-    let mut lines = Vec::from_slice(alloc, b"text: memory shape at ")?;
-    push(&mut lines, Buffer::new().format(at))?;
-    push(&mut lines, "\n")?;
-    Ok(Answer {
-        status: Status::Text,
-        lines,
-    })
-}
 
 /// The answer to a memory whose tags can't lie there.
 pub(crate) fn badly_tagged(alloc: Global, fault: HeapFault) -> Result<Answer, AllocError>

@@ -12,7 +12,7 @@ use Rattle.typing_rules.specs.Checked.{Checked, Good, Bad}
 use Rattle.typing_rules.specs.Unit.{checked, IsTyped}
 use Rattle.typing_rules.specs.declared.fault.TypeKind.{TypeKind}
 use Rattle.answers.specs.declared.status.Status.{Status}
-use Rattle.answers.specs.declared.status.Status.TheVariants.{Done, No, Words, Source, Text, ReadFault, WriteFault, Limit, Memory, NotYet}
+use Rattle.answers.specs.declared.status.Status.TheVariants.{Done, No, Words, Source, Text, ReadFault, WriteFault, Limit, Memory}
 use Rattle.text_answers.specs.TextAnswer.{IsTree, IsTextOf, OfUnit, IsPast, IsUntyped, IsTokensAnswer, OfTokens, IsTextAnswer}
 
 module _ (t : Target) (of_unit : TypedUnit → Status → List ℕ → Type 0) (text : List ℕ) (unit : TypedUnit) (is : IsTextOf t text unit) where
@@ -70,7 +70,6 @@ module _ (t : Target) (of_unit : TypedUnit → Status → List ℕ → Type 0) (
   of_tokens ReadFault lines h = of_tree ReadFault lines h.tree h.is_tree h.answer
   of_tokens WriteFault lines h = of_tree WriteFault lines h.tree h.is_tree h.answer
   of_tokens Memory lines h = of_tree Memory lines h.tree h.is_tree h.answer
-  of_tokens NotYet lines h = of_tree NotYet lines h.tree h.is_tree h.answer
 
   these : (status : Status) (lines : List ℕ) → OfTokens t of_unit text status lines → of_unit unit status lines
   these status lines h =
@@ -88,4 +87,3 @@ module _ (t : Target) (of_unit : TypedUnit → Status → List ℕ → Type 0) (
   one_answer WriteFault lines h = these WriteFault lines h
   one_answer Limit lines h = these Limit lines h
   one_answer Memory lines h = these Memory lines h
-  one_answer NotYet lines h = these NotYet lines h

@@ -11,7 +11,7 @@ use Rattle.c_lang.specs.Typed.{TypedUnit}
 use Rattle.answers.specs.Refusal.{IsParseRefusal}
 use Rattle.text_answers.specs.TextAnswer.{IsTree, IsTreeAnswer, IsTokensAnswer}
 use Rattle.answers.specs.declared.status.Status.{Status}
-use Rattle.answers.specs.declared.status.Status.TheVariants.{Done, No, Words, Source, Text, ReadFault, WriteFault, Limit, Memory, NotYet}
+use Rattle.answers.specs.declared.status.Status.TheVariants.{Done, No, Words, Source, Text, ReadFault, WriteFault, Limit, Memory}
 
 module _ (t : Target) (of_unit : TypedUnit → Status → List ℕ → Type 0) where
   pub tree_answer : (ts : List Lexeme) (tree : List External) (status : Status) (lines : List ℕ) → IsTree ts tree → IsTreeAnswer t of_unit tree status lines → IsTokensAnswer t of_unit ts status lines
@@ -24,7 +24,6 @@ module _ (t : Target) (of_unit : TypedUnit → Status → List ℕ → Type 0) w
   tree_answer ts tree ReadFault lines h a = record { tree = tree; is_tree = h; answer = a }
   tree_answer ts tree WriteFault lines h a = record { tree = tree; is_tree = h; answer = a }
   tree_answer ts tree Memory lines h a = record { tree = tree; is_tree = h; answer = a }
-  tree_answer ts tree NotYet lines h a = record { tree = tree; is_tree = h; answer = a }
 
   -- what the parser refuses
   pub refused_answer : (ts : List Lexeme) (fault : ParseFault) (status : Status) (lines : List ℕ) → IsFaultOf ts fault → IsParseRefusal fault status lines → IsTokensAnswer t of_unit ts status lines

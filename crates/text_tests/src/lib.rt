@@ -24,4 +24,6 @@ mod spans;
 mod terms;
 #[cfg(test)]
 mod trees;
+#[cfg(test)]
+mod triples;
 pub mod worked;

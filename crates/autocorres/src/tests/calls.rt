@@ -21,18 +21,20 @@ pub(crate) const SOUND: Outside = Outside {
     step: u64::MAX,
 };
 
-/// What `a.c`, `c.cert` and `m.mem` hold, where they are there.
+/// What `a.c`, `c.cert`, `m.mem` and `t.tr` hold, where they are there.
 #[derive(Clone, Copy)]
 pub(crate) struct Files<'a> {
     text: Option<&'a [u8]>,
     certificate: Option<&'a [u8]>,
     memory: Option<&'a [u8]>,
+    triples: Option<&'a [u8]>,
 }
 
 pub(crate) const NO_FILES: Files = Files {
     text: None,
     certificate: None,
     memory: None,
+    triples: None,
 };
 
 impl<'a> Files<'a> {
@@ -56,6 +58,14 @@ impl<'a> Files<'a> {
     pub(crate) fn and(self, memory: &'a [u8]) -> Files<'a> {
         Files {
             memory: Some(memory),
+            ..self
+        }
+    }
+
+    /// The same with triples.
+    pub(crate) fn proving(self, triples: &'a [u8]) -> Files<'a> {
+        Files {
+            triples: Some(triples),
             ..self
         }
     }
@@ -116,6 +126,7 @@ fn shelf(alloc: Global, files: &Files, outside: &Outside) -> Result<MemoryShelf,
     put(&mut all, "a.c", files.text)?;
     put(&mut all, "c.cert", files.certificate)?;
     put(&mut all, "m.mem", files.memory)?;
+    put(&mut all, "t.tr", files.triples)?;
     Ok(MemoryShelf::narrow(all, failing, outside.step.max(1)))
 }
 

@@ -145,6 +145,7 @@ print f.c words=f => read fault: f.c
 translate f.c => read fault: f.c
 check f.c c.cert => read fault: f.c
 run f.c c.cert f.mem => read fault: f.c
+prove f.c c.cert f.tr => read fault: f.c
 sample 0 => struct node { unsigned v; struct node *next; };
 sample 201 => limit: count
 show f.c g.c => words: no command of this form

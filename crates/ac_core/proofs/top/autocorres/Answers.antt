@@ -2,7 +2,7 @@ use Rattle.std.proofs.Common.{map, ap, ◌∙◌}
 use Rattle.std.specs.Prelude.{string_bytes}
 use Rattle.ac_base.specs.Sink.{grown}
 use Rattle.ac_core.specs.Answer.{EndsWith}
-use Rattle.ac_core.proofs.Complete.{written, shown, accepted, ran}
+use Rattle.ac_core.proofs.Complete.{written, shown, accepted, ran, proved}
 use Rattle.ac_core.proofs.top.autocorres.Goals as goal
 
 pub returns-in-Ok-write_whole-clause-ends : goal.returns-in-Ok-write_whole-clause-ends
@@ -30,3 +30,10 @@ returns-in-Ok-write_whole-clause-ran g c = λ file held mem text read said targe
     (g.K.Sink.taken c.args.sink.now) (g.K.Sink.taken c.write_whole.new.sink) (g.K.Sink.faults c.args.sink.now) (g.K.Sink.faults c.write_whole.new.sink) c.in-Ok.answer.status =
     returns-in-Ok-write_whole-clause-ends g c in
     ran _ _ _ _ _ _ _ _ file held mem text read said target unit certificate m asks holds holds' holds'' is is' is'' within tagged readable readable' readable'' sound c.in-Ok.answer.status ends
+
+pub returns-in-Ok-write_whole-clause-proved : goal.returns-in-Ok-write_whole-clause-proved
+returns-in-Ok-write_whole-clause-proved g c = λ file held third text read said target unit certificate ts asks holds holds' holds'' is is' is'' accepted readable readable' readable'' sound.
+    let ends : EndsWith (map string_bytes c.args.words.now) (g.H.Shelf.contents c.args.shelf.now) (g.H.Shelf.faults c.args.shelf.now) (g.H.Shelf.faults c.answer_to-answer.new.shelf)
+    (g.K.Sink.taken c.args.sink.now) (g.K.Sink.taken c.write_whole.new.sink) (g.K.Sink.faults c.args.sink.now) (g.K.Sink.faults c.write_whole.new.sink) c.in-Ok.answer.status =
+    returns-in-Ok-write_whole-clause-ends g c in
+    proved _ _ _ _ _ _ _ _ file held third text read said target unit certificate ts asks holds holds' holds'' is is' is'' accepted readable readable' readable'' sound c.in-Ok.answer.status ends

@@ -24,3 +24,9 @@ returns-in-Run-clause-said g c =
     subst (λ command. IfOk c.of_file-in-Run.result (λ v. OfLimit (g.H.Shelf.contents c.args.shelf.now) (g.H.Shelf.faults c.args.shelf.now) (g.H.Shelf.faults c.of_file-in-Run.new.shelf) (command_in command) v.items))
     (sym c.in-Run.is)
     c.of_file-in-Run.ensures.said
+
+pub returns-in-Prove-clause-said : goal.returns-in-Prove-clause-said
+returns-in-Prove-clause-said g c =
+    subst (λ command. IfOk c.of_file-in-Prove.result (λ v. OfLimit (g.H.Shelf.contents c.args.shelf.now) (g.H.Shelf.faults c.args.shelf.now) (g.H.Shelf.faults c.of_file-in-Prove.new.shelf) (command_in command) v.items))
+    (sym c.in-Prove.is)
+    c.of_file-in-Prove.ensures.said
